@@ -332,7 +332,7 @@ NATIVE = {
     'min': ('min', 2), 'max': ('max', 2), 'not': ('N.not_', 1), 'beq': ('N.beq', 2), 'map': ('N.map_', 2), 'length': ('len', 1),
     'get_or': ('N.get_or', 3), 'drop': ('N.drop', 2), 'replicate': ('N.replicate', 2), 'eqb': ('N.eqb', 2), 'ltb': ('N.ltb', 2), 'leb': ('N.leb', 2),
     'lt_z': ('N.ltb', 2), 'le_z': ('N.leb', 2), 'non_neg': ('N.non_neg', 1), 'shr_z': ('N.shr_z', 2), 'compare': ('N.compare', 2),
-    'set': ('N.set_', 3), 'get_elem?': ('N.get', 2), 'bit_and': ('N.bit_and', 2), 'bit_or': ('N.bit_or', 2),
+    'set': ('N.set_', 3), 'slice_get': ('N.get', 2), 'bit_and': ('N.bit_and', 2), 'bit_or': ('N.bit_or', 2),
     'suc': ('N.suc', 1), 'pos': ('N.pos', 1), 'negsuc': ('N.negsuc', 1), 'Some': ('N.some', 1), 'neg_ℤ': ('N.neg', 1), 'code': ('ord', 1),
 }
 CONST = {'true': 'True', 'false': 'False', 'zero': '0', '[]': '()', '[]ᴸ': '()', 'None': 'None', 'tt': '()',

@@ -3,3 +3,4 @@ pub mod Steps
 pub mod Checking
 pub mod Putting
 pub mod Reporting
+pub mod Chains

@@ -4,6 +4,7 @@ ghost use Rattle.catalogue.specs.Accession.{accession_count};
 ghost use Rattle.catalogue.specs.AccessionLaws.Last.{last_below};
 ghost use Rattle.catalogue.specs.AccessionLaws.Chain.{previous};
 ghost use Rattle.catalogue.specs.AccessionLaws.MapLine.{is_of_map};
+ghost use Rattle.accession.specs.Contract.{one_more};
 ghost use Rattle.accession.specs.Held.{Holds, Took};
 
 use crate::fields::map_of;
@@ -15,35 +16,47 @@ fn slot_of(number: u64, slots: usize) -> usize
     (number % slots as u64) as usize
 }
 
-// One more than the position of the map's last record among those held, or 0.
-fn last_held(records: &[u64], number: u64, held: usize, last: &[u32], links: &[u32]) -> usize
+// The position of the map's last record among those held.
+fn last_held(
+    records: &[u64],
+    number: u64,
+    held: usize,
+    last: &[u32],
+    links: &[u32],
+) -> Option<usize>
     requires { Holds records.now (length last.now) held last.now links.now }
-    ensures { result ≡ last_below held (is_of_map records.now number) }
+    ensures { one_more result ≡ last_below held (is_of_map records.now number) }
 {
-    let slot = slot_of(number, last.len());
-    let mut k = last[slot] as usize;
-    while 0 < k {
-        if map_of(records, k - 1) == number {
-            return k;
+    // Kept: the walk follows links, which no range gives. Slots and links have one more than a position: a fresh table is all 0, and an Option of a number takes
+    // twice the room.
+    let mut next = last[slot_of(number, last.len())] as usize;
+    while 0 < next {
+        let k = next - 1;
+        if map_of(records, k) == number {
+            return Some(k);
         }
-        k = links[k - 1] as usize;
+        next = links[k] as usize;
     }
-    0
+    None
 }
 
-// One more than the position of the last record of record i's map before it, or 0.
-pub fn last_of_map(records: &[u64], i: usize, held: usize, last: &[u32], links: &[u32]) -> usize
+// The position of the last record of record i's map before it.
+pub fn last_of_map(
+    records: &[u64],
+    i: usize,
+    held: usize,
+    last: &[u32],
+    links: &[u32],
+) -> Option<usize>
     requires places { (i < accession_count records.now) × (held ≤ i) }
     requires table { Holds records.now (length last.now) held last.now links.now }
-    ensures { result ≡ previous records.now i }
+    ensures { one_more result ≡ previous records.now i }
 {
     let number = map_of(records, i);
-    let mut k = i;
-    while held < k {
-        if map_of(records, k - 1) == number {
-            return k;
+    for k in (held..i).rev() {
+        if map_of(records, k) == number {
+            return Some(k);
         }
-        k -= 1;
     }
     last_held(records, number, held, last, links)
 }

@@ -11,26 +11,29 @@ ghost use Rattle.std.specs.Prelude.{◌≡◌, length};
 ghost use Rattle.catalogue.specs.Line.{line_verdict, line_at_exit};
 ghost use Rattle.accession.specs.Contract.{answer_in};
 
-use fields::NUMBERS_PER_ACCESSION;
-use line::{LineAnswer, report_kept};
-use rules::{Broken, first_broken};
+use line::report_line;
 
-// "Report the whole line of an own number": 3 for a last entry unfinished, 17 at the first record that breaks a rule, 10 where the line does not fit.
+/// What an exported call returns: number 0 and the count of records in the line, or a refusal's number and place.
+#[repr(C)]
+#[derive(Clone, Copy)]
+pub struct LineAnswer {
+    pub number: u64,
+    pub value: u64,
+}
+
+/// "Report the whole line of an own number": every record of its map, newest first.
 pub fn accession_report_line(records: &[u64], own: u64, output: &mut [u64]) -> LineAnswer
     ensures answer { answer_in result ≡ line_verdict records.now own (length output.old) }
     ensures left { output.new ≡ line_at_exit result.number records.now own output.old }
 {
-    if records.len() % NUMBERS_PER_ACCESSION != 0 {
-        return LineAnswer {
-            number: 3,
-            value: 0,
-        };
-    }
-    match first_broken(records) {
-        Broken::Nothing => report_kept(records, own, output),
-        Broken::At(i) => LineAnswer {
-            number: 17,
-            value: i as u64,
+    match report_line(records, own, output) {
+        Ok(count) => LineAnswer {
+            number: 0,
+            value: count as u64,
+        },
+        Err(refusal) => LineAnswer {
+            number: refusal.cause.number(),
+            value: refusal.place as u64,
         },
     }
 }

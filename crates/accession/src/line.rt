@@ -8,48 +8,25 @@ ghost use Rattle.catalogue.specs.Accession.{numbers_per_accession, flat_accessio
 ghost use Rattle.catalogue.specs.Line.{flat_line, line_verdict, line_at_exit};
 ghost use Rattle.catalogue.specs.AccessionLaws.Newest.{one};
 ghost use Rattle.catalogue.specs.AccessionLaws.MapLine.{is_of_map, map_line};
-ghost use Rattle.accession.specs.Contract.{answer_in, Finds, room_verdict, room_exit};
+ghost use Rattle.accession.specs.Contract.{answer_of, Finds, room_verdict, room_exit};
 
 use crate::fields::{NUMBERS_PER_ACCESSION, day_of, map_of, own_of, record_count, superseded_of};
+use crate::rules::first_broken;
+use refusals::{Cause, Refusal};
 
-// Number 0 and the count of records in the line, or a refusal's number and place.
-#[repr(C)]
-#[derive(Clone, Copy)]
-pub struct LineAnswer {
-    pub number: u64,
-    pub value: u64,
-}
-
-// The position of the record with an own number.
-#[derive(Clone, Copy)]
-pub enum Found {
-    Nowhere,
-    At(usize),
-}
-
-fn find_own(records: &[u64], own: u64) -> Found
+// The position of a record with an own number.
+fn find_own(records: &[u64], own: u64) -> Option<usize>
     ensures { Finds records.now own result }
 {
-    let count = record_count(records);
-    for i in 0..count {
-        if own_of(records, i) == own {
-            return Found::At(i);
-        }
-    }
-    Found::Nowhere
+    (0..record_count(records)).find(|&i| own_of(records, i) == own)
 }
 
 fn count_of_map(records: &[u64], number: u64) -> usize
     ensures { result ≡ count_below (accession_count records.now) (is_of_map records.now number) }
 {
-    let count = record_count(records);
-    let mut found = 0;
-    for i in 0..count {
-        if map_of(records, i) == number {
-            found += 1;
-        }
-    }
-    found
+    (0..record_count(records))
+        .filter(|&i| map_of(records, i) == number)
+        .count()
 }
 
 fn put_record(records: &[u64], i: usize, output: &mut [u64], k: usize)
@@ -80,44 +57,57 @@ fn put_line(records: &[u64], number: u64, output: &mut [u64])
     requires { numbers_per_accession * count_below (accession_count records.now) (is_of_map records.now number) ≤ length output.old }
     ensures { output.new ≡ overwrite (flat_line (map_line records.now number)) output.old }
 {
-    let mut i = record_count(records);
     let mut k = 0;
-    while 0 < i {
-        i -= 1;
+    for i in (0..record_count(records)).rev() {
         k = put_of_map(records, number, i, output, k);
     }
 }
 
-// Every record of the map: 10, or the line.
-fn report_map(records: &[u64], number: u64, output: &mut [u64]) -> LineAnswer
-    ensures answer { answer_in result ≡ room_verdict (map_line records.now number) (length output.old) }
-    ensures left { output.new ≡ room_exit result.number (map_line records.now number) output.old }
+// Every record of the map, or 10 where the output has no room for them. Gives how many there are.
+fn report_map(records: &[u64], number: u64, output: &mut [u64]) -> Result<usize, Refusal>
+    ensures answer { answer_of result ≡ room_verdict (map_line records.now number) (length output.old) }
+    ensures left { output.new ≡ room_exit (answer_of result).number (map_line records.now number) output.old }
 {
     let count = count_of_map(records, number);
     if output.len() / NUMBERS_PER_ACCESSION < count {
-        return LineAnswer {
-            number: 10,
-            value: 0,
-        };
+        return Err(Refusal {
+            cause: Cause::Room,
+            place: 0,
+        });
     }
     put_line(records, number, output);
-    LineAnswer {
-        number: 0,
-        value: count as u64,
-    }
+    Ok(count)
 }
 
 // For records that keep the rules.
-pub fn report_kept(records: &[u64], own: u64, output: &mut [u64]) -> LineAnswer
+fn report_kept(records: &[u64], own: u64, output: &mut [u64]) -> Result<usize, Refusal>
     requires { (is_finished records.now ≡ true) × (accessions_fault records.now ≡ None) }
-    ensures answer { answer_in result ≡ line_verdict records.now own (length output.old) }
-    ensures left { output.new ≡ line_at_exit result.number records.now own output.old }
+    ensures answer { answer_of result ≡ line_verdict records.now own (length output.old) }
+    ensures left { output.new ≡ line_at_exit (answer_of result).number records.now own output.old }
 {
     match find_own(records, own) {
-        Found::Nowhere => LineAnswer {
-            number: 0,
-            value: 0,
-        },
-        Found::At(i) => report_map(records, map_of(records, i), output),
+        None => Ok(0),
+        Some(i) => report_map(records, map_of(records, i), output),
+    }
+}
+
+// The whole line of an own number: 3 for a last entry unfinished, 17 at the first record that breaks a rule, 10 where the line does not fit. Gives how many
+// records it has.
+pub fn report_line(records: &[u64], own: u64, output: &mut [u64]) -> Result<usize, Refusal>
+    ensures answer { answer_of result ≡ line_verdict records.now own (length output.old) }
+    ensures left { output.new ≡ line_at_exit (answer_of result).number records.now own output.old }
+{
+    if records.len() % NUMBERS_PER_ACCESSION != 0 {
+        return Err(Refusal {
+            cause: Cause::Entries,
+            place: 0,
+        });
+    }
+    match first_broken(records) {
+        None => report_kept(records, own, output),
+        Some(place) => Err(Refusal {
+            cause: Cause::Accession,
+            place,
+        }),
     }
 }

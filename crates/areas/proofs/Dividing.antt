@@ -2,7 +2,7 @@
 use Prim.Native.Nat.{ℕ, ◌*◌, ◌<◌}
 use native.Mathlib.Omega.{arith}
 use mathlib.Core.Path.{◌≡◌, sym, ap, ap₂, ◌∙◌, subst}
-use Rattle.std.specs.Prelude.{None}
+use Rattle.std.specs.Prelude.{Option, None, Some, Ok, Err}
 use mathlib.Core.List.{List, [], ◌++◌}
 use lib.ListN.{length, get_or, drop, replicate, get_or-append}
 use lib.Seq.{drop-length}
@@ -14,10 +14,8 @@ use Rattle.definitions.specs.Verdict.{map_in, pair_rows_of}
 use Rattle.laws.specs.RegionLaws.Regions.{labels_length}
 use Rattle.row_runs.specs.Contract.{Labelled as CellsLabelled}
 use Rattle.cut_steps.specs.Marking.{SpansShown}
-use Rattle.assessments.specs.declared.Assessed.{Assessed}
-use Rattle.assessments.specs.declared.Assessed.TheVariants.{Rows, TooMany}
 use Rattle.assessments.specs.Contract.{AssessAsked, Answers, SpansAssessed}
-use Rattle.areas.specs.declared.Partitioned.TheVariants.{Regions, Refused}
+use Rattle.refusals.specs.declared.Cause.TheVariants.{Pairs}
 use Rattle.areas.specs.Contract.{given, early_refusal, Ran}
 use Rattle.areas.specs.Fit.{Fit}
 use Rattle.areas.specs.Labelled.{LabelledAs}
@@ -53,15 +51,15 @@ module _ (w h : ℕ) (cells spans l m q t p : List ℕ) {l' m₁ q₁ m' q' : Li
         queue = eq ∙ zeroed-again (h * w) q q₁ found.beyond;
       }
 
-  module _ {t' p₁ : List ℕ} {a : Assessed} (S : SpansAssessed w h cells spans l' t p t' p₁ a) where
-    pub divided_whole : {n : ℕ} → a ≡ Rows n → None ≡ early_refusal w h cells spans (length l) (length m) (length q) (length t) → Ran (given w h cells spans l m q t p) (Regions r) l' m' q' t' p₁
+  module _ {t' p₁ : List ℕ} {a : Option ℕ} (S : SpansAssessed w h cells spans l' t p t' p₁ a) where
+    pub divided_whole : {n : ℕ} → a ≡ Some n → None ≡ early_refusal w h cells spans (length l) (length m) (length q) (length t) → Ran (given w h cells spans l m q t p) (Ok r) l' m' q' t' p₁
     unfolding map_in map_of
     divided_whole e none-early =
         let assessed = S M (spans-alone w h cells spans) (labels-shown M l found.labels) in
         let rows = subst (λ x. Answers x (pair_rows_of (context_of M)) p p₁) e assessed.answer in
         ran_complete w h cells spans l m q t p none-early begun assessed.counts r found.count rows.0 rows.2
 
-    pub divided_short : {p' : List ℕ} → a ≡ TooMany → p' ≡ zeroed (length p₁) p₁ → None ≡ early_refusal w h cells spans (length l) (length m) (length q) (length t) → Ran (given w h cells spans l m q t p) (Refused 12 0) l' m' q' t' p'
+    pub divided_short : {p' : List ℕ} → a ≡ None → p' ≡ zeroed (length p₁) p₁ → None ≡ early_refusal w h cells spans (length l) (length m) (length q) (length t) → Ran (given w h cells spans l m q t p) (Err (record { cause = Pairs; place = 0 })) l' m' q' t' p'
     unfolding map_in map_of
     divided_short e cleared none-early =
         let assessed = S M (spans-alone w h cells spans) (labels-shown M l found.labels) in

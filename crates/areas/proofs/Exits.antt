@@ -3,7 +3,7 @@
 use Prim.Native.Nat.{ℕ, ◌*◌, ◌/◌, ◌≤◌, ◌<◌}
 use mathlib.Core.Path.{◌≡◌, sym, ap, ◌∙◌}
 use mathlib.Core.Bool.{not}
-use Rattle.std.specs.Prelude.{Option, None, Some}
+use Rattle.std.specs.Prelude.{Option, None, Some, Ok, Err}
 use mathlib.Core.List.{List, [], ◌∷◌}
 use lib.ListN.{length}
 use borrow.Author.Tests.{le-leb, lt-leb}
@@ -16,7 +16,9 @@ use Rattle.definitions.specs.Context.{context_of}
 use Rattle.definitions.specs.Refusals.{Refusal, unless, sides_fault, cells_fault, is_whole, spans_refusal}
 use Rattle.definitions.specs.Verdict.{Lent, map_in, refusal, first_refusal, partition_has_room, pair_rows_of, pairs_fault, partition_verdict}
 use Rattle.definitions.specs.AtExit.{stage_of, untouched, tallies_of, exit_with, partition_exit}
-use Rattle.areas.specs.declared.Partitioned.TheVariants.{Regions, Refused}
+use Rattle.refusals.specs.declared.Refusal as code
+use Rattle.refusals.specs.declared.Cause.TheVariants.{Pairs}
+use Rattle.refusals.specs.Refusals.{refusal_of}
 use Rattle.areas.specs.Contract.{given, early_refusal, Ran}
 use Rattle.areas.proofs.FirstRefusal.{first_joined}
 use Rattle.areas.proofs.Early.{early-untouched}
@@ -47,10 +49,10 @@ module _ (w h : ℕ) (cells spans l m q t p : List ℕ) where
       (refusal 12 (pairs_fault L M) ∷ [])
       (region_count M)
 
-  pub ran-refused : (number place : ℕ) → Some (record { number = number; place = place }) ≡ early → Ran L (Refused number place) l m q t p
+  pub ran-refused : (r : code.Refusal) → Some (refusal_of r) ≡ early → Ran L (Err r) l m q t p
   unfolding partition_exit exit_with
-  ran-refused number place e =
-      let u : stage_of number ≡ untouched = early-untouched w h cells spans (length l) (length m) (length q) (length t) _ (sym e) in
+  ran-refused r e =
+      let u : stage_of (refusal_of r).number ≡ untouched = early-untouched w h cells spans (length l) (length m) (length q) (length t) _ (sym e) in
       record {
         answer = sym (verdict-early ∙ ap (λ o. first_refusal (o ∷ refusal 12 (pairs_fault L M) ∷ []) (region_count M)) (sym e));
         labels = sym (ap (λ s. (exit_with L s [] []).labels) u);
@@ -70,7 +72,7 @@ module _ (w h : ℕ) (cells spans l m q t p : List ℕ) where
   verdict-late e = verdict-early ∙ ap (λ o. first_refusal (o ∷ refusal 12 (pairs_fault L M) ∷ []) (region_count M)) (sym e)
 
   module _ (e : None ≡ early) {l' m' q' t' p' : List ℕ} (B : Labelled l' m' q') (tallied : t' ≡ overwrite (tallies_of (context_of M)) t) where
-    pub ran_complete : (regions : ℕ) → regions ≡ region_count M → length rows ≤ length p / numbers_per_pair * numbers_per_pair → p' ≡ overwrite rows p → Ran L (Regions regions) l' m' q' t' p'
+    pub ran_complete : (regions : ℕ) → regions ≡ region_count M → length rows ≤ length p / numbers_per_pair * numbers_per_pair → p' ≡ overwrite rows p → Ran L (Ok regions) l' m' q' t' p'
     unfolding partition_exit exit_with stage_of pairs_fault cell_count map_in map_of
     ran_complete regions c room filled =
         record {
@@ -82,7 +84,7 @@ module _ (w h : ℕ) (cells spans l m q t p : List ℕ) where
           pairs = filled;
         }
 
-    pub ran-pairs : length p / numbers_per_pair * numbers_per_pair < length rows → p' ≡ zeroed (length p) p → Ran L (Refused 12 0) l' m' q' t' p'
+    pub ran-pairs : length p / numbers_per_pair * numbers_per_pair < length rows → p' ≡ zeroed (length p) p → Ran L (Err (record { cause = Pairs; place = 0 })) l' m' q' t' p'
     unfolding partition_exit exit_with stage_of pairs_fault cell_count map_in map_of
     ran-pairs more cleared =
         record {

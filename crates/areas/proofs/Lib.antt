@@ -1,5 +1,4 @@
-mod Clearing
-pub mod Chain
+pub mod Clearing
 pub mod Leaving
 pub mod Early
 pub mod FirstRefusal

@@ -1,11 +1,11 @@
 -- The contract of the partition: the answer and every lent list at exit, for every input, by `partition_verdict` and `partition_exit`. Assumes nothing.
 use Rattle.std.specs.Prelude.{ℕ, ◌*◌, ◌/◌, ◌≡◌, List, [], length}
-use Rattle.std.specs.Prelude.{Option}
+use Rattle.std.specs.Prelude.{Option, Result}
 use Rattle.definitions.specs.Limits.{numbers_per_span}
 use Rattle.definitions.specs.Refusals.{Refusal, or_else, unless, sides_fault, cells_fault, is_whole, spans_refusal, partition_room}
 use Rattle.definitions.specs.Verdict.{Lent, refusal, partition_verdict}
 use Rattle.definitions.specs.AtExit.{partition_exit}
-use Rattle.areas.specs.declared.Partitioned.{Partitioned}
+use Rattle.refusals.specs.declared.Refusal as code
 use Rattle.areas.specs.Answers.{answer_of}
 
 -- what is lent to the partition alone
@@ -39,7 +39,7 @@ early_refusal w h cells spans labels masks queue tallies =
     (or_else (spans_refusal w h spans) (refusal 10 (unless (partition_room (w * h) (length spans / numbers_per_span) labels masks queue tallies))))))
 
 -- what was lent, the answer, and at exit labels l, masks m, queue q, tallies t and pairs p
-pub record Ran (L : Lent) (r : Partitioned) (l m q t p : List ℕ) : Type 0 where
+pub record Ran (L : Lent) (r : Result ℕ code.Refusal) (l m q t p : List ℕ) : Type 0 where
   pub answer : answer_of r ≡ partition_verdict L
   pub labels : l ≡ (partition_exit L (answer_of r).number).labels
   pub masks : m ≡ (partition_exit L (answer_of r).number).masks

@@ -3,7 +3,6 @@ ghost use Rattle.std.specs.Prelude.{◌*◌, ◌≤◌, length};
 ghost use Rattle.cut_steps.specs.Contract.{Checked};
 ghost use Rattle.areas.specs.Labelled.{LabelledAs};
 
-use crate::clear::clear_masks;
 use cut_steps::mark_spans;
 use row_runs::label_cells;
 
@@ -23,7 +22,7 @@ pub fn label_regions(
         labels.new masks.new queue.new result }
 {
     let needed = height * width;
-    clear_masks(masks, needed);
+    masks[..needed].fill(0);
     mark_spans(width, height, cells, spans, masks);
     label_cells(width, height, cells, masks, labels, queue)
 }

@@ -3,7 +3,6 @@
 #![tactic(auto)]
 
 pub mod checked;
-pub mod clear;
 pub mod labels;
 
 ghost use Rattle.std.specs.Prelude.{length};
@@ -11,17 +10,10 @@ ghost use Rattle.areas.specs.Contract.{given, Ran};
 ghost use Rattle.areas.specs.Divided.{Divided};
 ghost use Rattle.areas.specs.Fit.{Fit};
 
-use assessments::{Assessed, assess_spans};
-use checked::{Check, checks_before};
-use clear::{clear_masks, clear_numbers};
+use assessments::assess_spans;
+use checked::checks_before;
 use labels::label_regions;
-
-// The count of regions, or a refusal with its number and place; `answer_of` of specs/Answers.antt gives what it says.
-#[derive(Clone, Copy)]
-pub enum Partitioned {
-    Regions(usize),
-    Refused(u64, usize),
-}
+use refusals::{Cause, Refusal};
 
 // The partition of lists that no check before it refuses. Where there are more pairs than rows, the answer is refusal 12.
 fn divide(
@@ -34,7 +26,7 @@ fn divide(
     queue: &mut [u32],
     tallies: &mut [u32],
     pairs: &mut [u32],
-) -> Partitioned
+) -> Result<usize, Refusal>
     requires { Fit width height cells.now spans.now (length labels.old) (length masks.old) (length queue.old) (length tallies.old) }
     ensures { Divided width height cells.now spans.now labels.old masks.old queue.old
         tallies.old pairs.old result labels.new masks.new queue.new tallies.new
@@ -42,15 +34,17 @@ fn divide(
 {
     let needed = height * width;
     let regions = label_regions(width, height, cells, spans, labels, masks, queue);
-    clear_numbers(queue, needed);
-    let assessed = assess_spans(width, height, cells, &*masks, spans, labels, tallies, pairs);
-    clear_masks(masks, needed);
-    match assessed {
-        Assessed::Rows(_) => Partitioned::Regions(regions),
-        Assessed::TooMany => {
-            let room = pairs.len();
-            clear_numbers(pairs, room);
-            Partitioned::Refused(12, 0)
+    queue[..needed].fill(0);
+    let rows = assess_spans(width, height, cells, &*masks, spans, labels, tallies, pairs);
+    masks[..needed].fill(0);
+    match rows {
+        Some(_) => Ok(regions),
+        None => {
+            pairs.fill(0);
+            Err(Refusal {
+                cause: Cause::Pairs,
+                place: 0,
+            })
         }
     }
 }
@@ -66,12 +60,12 @@ pub fn partition(
     queue: &mut [u32],
     tallies: &mut [u32],
     pairs: &mut [u32],
-) -> Partitioned
+) -> Result<usize, Refusal>
     ensures { Ran (given width height cells.now spans.now labels.old masks.old queue.old
         tallies.old pairs.old) result labels.new masks.new queue.new tallies.new
         pairs.new }
 {
-    let check = checks_before(
+    checks_before(
         width,
         height,
         cells,
@@ -80,19 +74,16 @@ pub fn partition(
         masks.len(),
         queue.len(),
         tallies.len(),
-    );
-    match check {
-        Check::Refused(number, place) => Partitioned::Refused(number, place),
-        Check::Fit => divide(
-            width as usize,
-            height as usize,
-            cells,
-            spans,
-            labels,
-            masks,
-            queue,
-            tallies,
-            pairs,
-        ),
-    }
+    )?;
+    divide(
+        width as usize,
+        height as usize,
+        cells,
+        spans,
+        labels,
+        masks,
+        queue,
+        tallies,
+        pairs,
+    )
 }

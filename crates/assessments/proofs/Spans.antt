@@ -21,8 +21,7 @@ use Rattle.assessments.specs.Held.{room_of, Held}
 use Rattle.assessments.specs.Assess.{nothing, max_edges, Counting, Gathered, Assesses, Lent}
 use Rattle.assessments.specs.Contract.{AssessAsked, Answers, SpansAssessed}
 use Rattle.assessments.specs.declared.BoundaryAssessment.{BoundaryAssessment}
-use Rattle.assessments.specs.declared.Assessed.{Assessed}
-use Rattle.assessments.specs.declared.Assessed.TheVariants.{Rows, TooMany}
+use Rattle.std.specs.Prelude.{Option, None, Some}
 use Rattle.laws.specs.ListLaws.Overwritten.{overwrite_more}
 use Rattle.assessments.proofs.Holding.{held_fits, held-over}
 use Rattle.assessments.proofs.Joining.{rows_same, tallies_same}
@@ -101,16 +100,16 @@ module _ {w h : ℕ} {cells spans labels tallies₀ pairs₀ : List ℕ} where
   -- ---- after the last span
 
   module _ {n : ℕ} {tallies pairs : List ℕ} {end : ℕ} (B : Before w h cells spans labels tallies₀ pairs₀ n tallies pairs end) where
-    there : end ≤ room_of pairs → Answers (Rows end) (rows_below w h cells spans labels n) pairs₀ pairs
+    there : end ≤ room_of pairs → Answers (Some end) (rows_below w h cells spans labels n) pairs₀ pairs
     there l =
         let f = B.held.fits (held_fits B.held l) in
         (omega (arith, f.0, B.held.long), f.0, f.1)
 
-    over : room_of pairs < end → Answers TooMany (rows_below w h cells spans labels n) pairs₀ pairs
+    over : room_of pairs < end → Answers None (rows_below w h cells spans labels n) pairs₀ pairs
     over l = (omega (arith, held-over B.held l), B.held.long)
 
     module _ (last : n ≡ length spans / numbers_per_span) where
-      of_map : {r : Assessed} → Answers r (rows_below w h cells spans labels n) pairs₀ pairs → SpansAssessed w h cells spans labels tallies₀ pairs₀ tallies pairs r
+      of_map : {r : Option ℕ} → Answers r (rows_below w h cells spans labels n) pairs₀ pairs → SpansAssessed w h cells spans labels tallies₀ pairs₀ tallies pairs r
       unfolding rows_below tallies_below
       of_map {r} a M S L =
           record {
@@ -118,8 +117,8 @@ module _ {w h : ℕ} {cells spans labels tallies₀ pairs₀ : List ℕ} where
             answer = subst (λ l. Answers r l pairs₀ pairs) (ap (rows_below w h cells spans labels) last ∙ sym (rows_same S labels L)) a;
           }
 
-      pub all_there : end ≤ room_of pairs → SpansAssessed w h cells spans labels tallies₀ pairs₀ tallies pairs (Rows end)
+      pub all_there : end ≤ room_of pairs → SpansAssessed w h cells spans labels tallies₀ pairs₀ tallies pairs (Some end)
       all_there l = of_map (there l)
 
-      pub all-over : room_of pairs < end → SpansAssessed w h cells spans labels tallies₀ pairs₀ tallies pairs TooMany
+      pub all-over : room_of pairs < end → SpansAssessed w h cells spans labels tallies₀ pairs₀ tallies pairs None
       all-over l = of_map (over l)

@@ -30,13 +30,6 @@ use span_geometry::strips::Strip;
 
 pub const TALLIES_PER_SPAN: usize = 2;
 
-// How many rows of pairs there are, or that they are more than the list has room for.
-#[derive(Clone, Copy)]
-pub enum Assessed {
-    Rows(usize),
-    TooMany,
-}
-
 // What is found of a span so far: the counts of its removed and separated edges, the end of its rows in the list of pairs, and the row of the last pair, a
 // hint that is never relied on.
 #[derive(Clone, Copy)]
@@ -428,7 +421,8 @@ fn assess_span(
     a
 }
 
-// Assesses every span by the labels of the partition and the masks of cut steps: two tallies a span, and the rows of pairs as far as there is room.
+// Assesses every span by the labels of the partition and the masks of cut steps: two tallies a span, and the rows of pairs as far as there is room. Gives how many rows
+// there are, or none where they are more than the list has room for.
 pub fn assess_spans(
     width: usize,
     height: usize,
@@ -438,7 +432,7 @@ pub fn assess_spans(
     labels: &[u32],
     tallies: &mut [u32],
     pairs: &mut [u32],
-) -> Assessed
+) -> Option<usize>
     requires checked { Checked width height cells.now spans.now }
     requires asked { AssessAsked width height cells.now masks.now spans.now labels.now tallies.old }
     ensures { SpansAssessed width height cells.now spans.now labels.now tallies.old
@@ -455,8 +449,8 @@ pub fn assess_spans(
         end = a.end;
     }
     if end <= pairs.len() / NUMBERS_PER_PAIR {
-        Assessed::Rows(end)
+        Some(end)
     } else {
-        Assessed::TooMany
+        None
     }
 }

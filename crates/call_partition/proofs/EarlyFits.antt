@@ -13,7 +13,7 @@ use Rattle.laws.specs.ListLaws.NoFault.{no_fault_lem, or_else_none}
 use Rattle.laws.specs.TableLaws.AcceptedCalls.{refusal_none}
 use Rattle.areas.specs.Contract as partition
 use Rattle.areas.specs.Fit.{Fit}
-use Rattle.areas.proofs.Chain.{next}
+use Rattle.refusals.proofs.Steps.{next}
 use Rattle.areas.proofs.Early.{early-fit}
 use Rattle.call_partition.specs.Early.{sizes_refusal, entries_refusal, early_refusal}
 

@@ -2,7 +2,7 @@
 use Prim.Native.Nat.{ℕ, ◌*◌, ◌/◌, ◌≤◌, ◌<◌}
 use native.Mathlib.Omega.{arith}
 use mathlib.Core.Path.{◌≡◌, refl, sym, ap, ◌∙◌, subst}
-use Rattle.std.specs.Prelude.{None, Some}
+use Rattle.std.specs.Prelude.{Option, None, Some}
 use mathlib.Core.List.{List}
 use lib.ListN.{length}
 use Rattle.definitions.specs.Limits.{numbers_per_span, tallies_per_span}
@@ -15,8 +15,6 @@ use Rattle.definitions.specs.Verdict.{pair_rows_of}
 use Rattle.row_runs.specs.Contract.{Labelled as LabelledCells}
 use Rattle.cut_steps.specs.Contract.{SpanMap}
 use Rattle.cut_steps.proofs.CutLaws.{span_count_lem}
-use Rattle.assessments.specs.declared.Assessed.{Assessed}
-use Rattle.assessments.specs.declared.Assessed.TheVariants.{Rows, TooMany}
 use Rattle.assessments.specs.Contract.{Answers, AssessedAs, SpansAssessed}
 use Rattle.areas.specs.Labelled.{LabelledAs}
 use Rattle.areas.proofs.Labelling.{zeroed-again}
@@ -64,7 +62,7 @@ module _ (pass w h : ℕ) (cells spans boundaries anchors : List ℕ) where
       refused-records more em eq et s o long wide =
           ran-records pass w h cells spans boundaries anchors l m q t p s o (early o wide) (begun em eq s o) (omega (arith, labelled.count, long, more)) (et ∙ ap (λ n. zeroed (tallies_per_span * n) t) (sym (span_count_lem span-map)))
 
-      module _ (few : r ≤ room) {t' p₁ : List ℕ} {a : Assessed} (S : SpansAssessed w h cells spans l' t p t' p₁ a) where
+      module _ (few : r ≤ room) {t' p₁ : List ℕ} {a : Option ℕ} (S : SpansAssessed w h cells spans l' t p t' p₁ a) where
         assessed : AssessedAs M t p t' p₁ a
         unfolding map_of
         assessed = S M span-map (labels-shown M l labelled.labels)
@@ -73,13 +71,13 @@ module _ (pass w h : ℕ) (cells spans boundaries anchors : List ℕ) where
         enough = omega (arith, labelled.count, few)
 
         -- more pairs than rows
-        pub refused-pairs : {m' q' p' : List ℕ} → a ≡ TooMany → m' ≡ zeroed (h * w) m₁ → q' ≡ zeroed (h * w) q₁ → p' ≡ zeroed (length p₁) p₁
+        pub refused-pairs : {m' q' p' : List ℕ} → a ≡ None → m' ≡ zeroed (h * w) m₁ → q' ≡ zeroed (h * w) q₁ → p' ≡ zeroed (length p₁) p₁
             → (s : List Region) (o : List ℕ) → length s ≡ room → length o ≡ output → Ran (given pass w h cells spans boundaries anchors l m q t p s o) (record { number = 12; value = 0 }) l' m' q' t' p' s o
         refused-pairs x em eq ep s o long wide =
             let rows = subst (λ y. Answers y (pair_rows_of (context_of M)) p p₁) x assessed.answer in
             ran-pairs pass w h cells spans boundaries anchors l m q t p s o (early o wide) (begun em eq s o) (omega (arith, enough, long)) assessed.counts rows.0 (ep ∙ cleared-whole p p₁ rows.1)
 
-        pub all-ready : {n : ℕ} → a ≡ Rows n → ReadyAs pass w h cells spans boundaries anchors room output l m q t p r n l' m₁ q₁ t' p₁
+        pub all-ready : {n : ℕ} → a ≡ Some n → ReadyAs pass w h cells spans boundaries anchors room output l m q t p r n l' m₁ q₁ t' p₁
         unfolding map_of cell_count
         all-ready x =
             let rows = subst (λ y. Answers y (pair_rows_of (context_of M)) p p₁) x assessed.answer in

@@ -1,7 +1,7 @@
 -- What the first part of the call leaves, before its records are filled: the whole contract where it refuses, and otherwise what the rest of the call goes on from.
 -- Definitions only; assumes nothing.
 use Rattle.std.specs.Prelude.{ℕ, ◌*◌, ◌/◌, ◌≤◌, ◌≡◌, List, length, drop}
-use Rattle.std.specs.Prelude.{None}
+use Rattle.std.specs.Prelude.{None, Result, Ok, Err}
 use Rattle.definitions.specs.Limits.{numbers_per_pair}
 use Rattle.definitions.specs.Grid.{map_of}
 use Rattle.definitions.specs.Lists.{overwrite}
@@ -11,8 +11,9 @@ use Rattle.definitions.specs.Context.{context_of}
 use Rattle.definitions.specs.Verdict.{pair_rows_of}
 use Rattle.definitions.specs.AtExit.{tallies_of}
 use Rattle.row_runs.specs.Contract.{Chain}
-use Rattle.call_partition.specs.declared.Prepared.{Prepared}
-use Rattle.call_partition.specs.declared.Prepared.TheVariants.{Refused, Ready}
+use Rattle.refusals.specs.declared.Refusal.{Refusal}
+use Rattle.refusals.specs.Refusals.{number_of}
+use Rattle.call_partition.specs.declared.Ready.{Ready}
 use Rattle.call_partition.specs.Early.{early_refusal}
 use Rattle.call_partition.specs.Contract.{given, Ran}
 
@@ -32,17 +33,12 @@ pub record ReadyAs (pass w h : ℕ) (cells spans boundaries anchors : List ℕ) 
   pub paired : p' ≡ overwrite (pair_rows_of (context_of (map_of w h cells spans boundaries anchors))) p
 
 -- A refusal is the call's, for whatever records and output of these lengths.
-abbrev pub PreparedAs : (pass w h : ℕ) (cells spans boundaries anchors : List ℕ) (room output : ℕ) (l m q t p : List ℕ) → Prepared → (l' m' q' t' p' : List ℕ) → Type 0
-PreparedAs pass w h cells spans boundaries anchors room output l m q t p (Refused number place) l' m' q' t' p' = (s : List Region) (o : List ℕ) → length s ≡ room → length o ≡ output → Ran (given pass w h cells spans boundaries anchors l m q t p s o) (record { number = number; value = place }) l' m' q' t' p' s o
-PreparedAs pass w h cells spans boundaries anchors room output l m q t p (Ready regions rows) l' m' q' t' p' = ReadyAs pass w h cells spans boundaries anchors room output l m q t p regions rows l' m' q' t' p'
+abbrev pub PreparedAs : (pass w h : ℕ) (cells spans boundaries anchors : List ℕ) (room output : ℕ) (l m q t p : List ℕ) → Result Ready Refusal → (l' m' q' t' p' : List ℕ) → Type 0
+PreparedAs pass w h cells spans boundaries anchors room output l m q t p (Err r) l' m' q' t' p' = (s : List Region) (o : List ℕ) → length s ≡ room → length o ≡ output → Ran (given pass w h cells spans boundaries anchors l m q t p s o) (record { number = number_of r.cause; value = r.place }) l' m' q' t' p' s o
+PreparedAs pass w h cells spans boundaries anchors room output l m q t p (Ok ready) l' m' q' t' p' = ReadyAs pass w h cells spans boundaries anchors room output l m q t p ready.regions ready.rows l' m' q' t' p'
 
 -- the same of lists that no check before 11 refuses, of whatever pass, boundaries, anchors and output
-abbrev pub DividedAs : (w h : ℕ) (cells spans : List ℕ) (room : ℕ) (l m q t p : List ℕ) → Prepared → (l' m' q' t' p' : List ℕ) → Type 0
+abbrev pub DividedAs : (w h : ℕ) (cells spans : List ℕ) (room : ℕ) (l m q t p : List ℕ) → Result Ready Refusal → (l' m' q' t' p' : List ℕ) → Type 0
 DividedAs w h cells spans room l m q t p r l' m' q' t' p' =
     (pass : ℕ) (boundaries anchors : List ℕ) (output : ℕ) → None ≡ early_refusal pass w h cells spans boundaries anchors (length l) (length m) (length q) (length t) output
     → PreparedAs pass w h cells spans boundaries anchors room output l m q t p r l' m' q' t' p'
-
--- a refusal has a number
-abbrev pub RefusedLate : Prepared → Type 0
-RefusedLate (Refused number place) = 1 ≤ number
-RefusedLate (Ready regions rows) = Unit {0}

@@ -3,11 +3,9 @@ ghost use Rattle.std.specs.Prelude.{◌≡◌, ◌&&◌, ◌≤◌};
 ghost use Rattle.definitions.specs.Limits.{max_side, numbers_per_span, numbers_per_boundary, numbers_per_anchor};
 ghost use Rattle.definitions.specs.Refusals.{unless, partition_room, output_room};
 ghost use Rattle.definitions.specs.Verdict.{refusal};
-ghost use Rattle.areas.specs.Answers.{refusal_of};
+ghost use Rattle.refusals.specs.Refusals.{refusal_in};
 ghost use Rattle.call_partition.specs.Early.{is_whole_of, sizes_refusal, entries_refusal, early_refusal};
 
-use areas::checked::Check;
-use checks::Fault;
 use checks::anchors::anchors_fault;
 use checks::boundaries::boundaries_fault;
 use checks::cells::elevations_fault;
@@ -15,7 +13,8 @@ use checks::limits::{NUMBERS_PER_ANCHOR, NUMBERS_PER_BOUNDARY, NUMBERS_PER_SPAN}
 use checks::sizes::{
     cells_fit, is_whole, output_has_room, partition_has_room, pass_fits, sides_fit,
 };
-use checks::spans::{SpanFault, spans_fault};
+use checks::spans::spans_fault;
+use refusals::{Cause, Refusal, ensure, no_fault};
 
 // Check 3, of all three lists.
 fn all_whole(spans: usize, boundaries: usize, anchors: usize) -> bool
@@ -35,22 +34,14 @@ pub fn check_sizes(
     spans: &[u64],
     boundaries: &[u64],
     anchors: &[u64],
-) -> Check
-    ensures { refusal_of result ≡ sizes_refusal pass width height cells.now spans.now boundaries.now anchors.now }
+) -> Result<(), Refusal>
+    ensures { refusal_in result ≡ sizes_refusal pass width height cells.now spans.now boundaries.now anchors.now }
 {
-    if !sides_fit(width, height) {
-        return Check::Refused(1, 0);
-    }
-    if !cells_fit(width, height, cells) {
-        return Check::Refused(2, 0);
-    }
-    if !all_whole(spans.len(), boundaries.len(), anchors.len()) {
-        return Check::Refused(3, 0);
-    }
-    if !pass_fits(pass) {
-        return Check::Refused(4, 0);
-    }
-    Check::Fit
+    ensure(sides_fit(width, height), Cause::Sides)?;
+    ensure(cells_fit(width, height, cells), Cause::Cells)?;
+    let whole = all_whole(spans.len(), boundaries.len(), anchors.len());
+    ensure(whole, Cause::Entries)?;
+    ensure(pass_fits(pass), Cause::Pass)
 }
 
 // Checks 5 to 9.
@@ -61,29 +52,14 @@ pub fn check_entries(
     spans: &[u64],
     boundaries: &[u64],
     anchors: &[u64],
-) -> Check
+) -> Result<(), Refusal>
     requires { (width ≤ max_side) × (height ≤ max_side) }
-    ensures { refusal_of result ≡ entries_refusal width height cells.now spans.now boundaries.now anchors.now }
+    ensures { refusal_in result ≡ entries_refusal width height cells.now spans.now boundaries.now anchors.now }
 {
-    match spans_fault(width, height, spans) {
-        SpanFault::Outside(span) => {
-            return Check::Refused(5, span);
-        }
-        SpanFault::Equal(span) => {
-            return Check::Refused(6, span);
-        }
-        SpanFault::Nowhere => {}
-    }
-    if let Fault::At(boundary) = boundaries_fault(width, height, boundaries) {
-        return Check::Refused(7, boundary);
-    }
-    if let Fault::At(anchor) = anchors_fault(width, height, anchors) {
-        return Check::Refused(8, anchor);
-    }
-    if let Fault::At(cell) = elevations_fault(cells) {
-        return Check::Refused(9, cell);
-    }
-    Check::Fit
+    spans_fault(width, height, spans)?;
+    no_fault(boundaries_fault(width, height, boundaries), Cause::Boundary)?;
+    no_fault(anchors_fault(width, height, anchors), Cause::AnchorOutside)?;
+    no_fault(elevations_fault(cells), Cause::Elevation)
 }
 
 // Check 10, of lists of these lengths.
@@ -96,15 +72,11 @@ pub fn check_room(
     queue: usize,
     tallies: usize,
     output: usize,
-) -> Check
-    ensures { refusal_of result ≡ refusal 10 (unless (partition_room cells spans labels masks queue tallies && output_room boundaries output)) }
+) -> Result<(), Refusal>
+    ensures { refusal_in result ≡ refusal 10 (unless (partition_room cells spans labels masks queue tallies && output_room boundaries output)) }
 {
-    if partition_has_room(cells, spans, labels, masks, queue, tallies)
-        & output_has_room(boundaries, output)
-    {
-        return Check::Fit;
-    }
-    Check::Refused(10, 0)
+    let partition = partition_has_room(cells, spans, labels, masks, queue, tallies);
+    ensure(partition & output_has_room(boundaries, output), Cause::Room)
 }
 
 // All of them. Of the lists that are filled, only the lengths matter.
@@ -121,20 +93,12 @@ pub fn checks_before(
     queue: usize,
     tallies: usize,
     output: usize,
-) -> Check
-    ensures { refusal_of result ≡ early_refusal pass width height cells.now spans.now boundaries.now
+) -> Result<(), Refusal>
+    ensures { refusal_in result ≡ early_refusal pass width height cells.now spans.now boundaries.now
         anchors.now labels masks queue tallies output }
 {
-    if let Check::Refused(number, place) = check_sizes(
-        pass, width, height, cells, spans, boundaries, anchors,
-    ) {
-        return Check::Refused(number, place);
-    }
-    if let Check::Refused(number, place) = check_entries(
-        width, height, cells, spans, boundaries, anchors,
-    ) {
-        return Check::Refused(number, place);
-    }
+    check_sizes(pass, width, height, cells, spans, boundaries, anchors)?;
+    check_entries(width, height, cells, spans, boundaries, anchors)?;
     check_room(
         cells.len(),
         spans.len() / NUMBERS_PER_SPAN,

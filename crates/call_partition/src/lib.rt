@@ -8,21 +8,20 @@ pub mod scratch;
 
 ghost use Rattle.std.specs.Prelude.{length};
 ghost use Rattle.areas.specs.Fit.{Fit};
-ghost use Rattle.call_partition.specs.Prepared.{PreparedAs, DividedAs, RefusedLate};
+ghost use Rattle.call_partition.specs.Prepared.{PreparedAs, DividedAs};
 
-use areas::checked::Check;
-use areas::clear::clear_numbers;
 use areas::labels::label_regions;
-use assessments::{Assessed, TALLIES_PER_SPAN, assess_spans};
+use assessments::{TALLIES_PER_SPAN, assess_spans};
 use checked::checks_before;
 use checks::limits::NUMBERS_PER_SPAN;
+use refusals::{Cause, Refusal};
 use scratch::clear_scratch;
 
-// A refusal with its number and place, or how many regions and rows of pairs there are.
+// How many regions and rows of pairs there are.
 #[derive(Clone, Copy)]
-pub enum Prepared {
-    Refused(u64, usize),
-    Ready(usize, usize),
+pub struct Ready {
+    pub regions: usize,
+    pub rows: usize,
 }
 
 // Labels, tallies and pairs of lists that no check before 11 refuses. Where there are more regions than records, the answer is refusal 11; where there are more pairs
@@ -38,27 +37,32 @@ pub fn divide(
     queue: &mut [u32],
     tallies: &mut [u32],
     pairs: &mut [u32],
-) -> Prepared
+) -> Result<Ready, Refusal>
     requires { Fit width height cells.now spans.now (length labels.old) (length masks.old) (length queue.old) (length tallies.old) }
-    ensures divided { DividedAs width height cells.now spans.now room labels.old masks.old
+    ensures { DividedAs width height cells.now spans.now room labels.old masks.old
         queue.old tallies.old pairs.old result
         labels.new masks.new queue.new tallies.new pairs.new }
-    ensures late { RefusedLate result }
 {
     let needed = height * width;
     let regions = label_regions(width, height, cells, spans, labels, masks, queue);
     if room < regions {
         clear_scratch(masks, queue, needed);
-        clear_numbers(tallies, TALLIES_PER_SPAN * (spans.len() / NUMBERS_PER_SPAN));
-        return Prepared::Refused(11, 0);
+        let filled = TALLIES_PER_SPAN * (spans.len() / NUMBERS_PER_SPAN);
+        tallies[..filled].fill(0);
+        return Err(Refusal {
+            cause: Cause::Regions,
+            place: 0,
+        });
     }
     match assess_spans(width, height, cells, &*masks, spans, labels, tallies, pairs) {
-        Assessed::Rows(rows) => Prepared::Ready(regions, rows),
-        Assessed::TooMany => {
+        Some(rows) => Ok(Ready { regions, rows }),
+        None => {
             clear_scratch(masks, queue, needed);
-            let lent = pairs.len();
-            clear_numbers(pairs, lent);
-            Prepared::Refused(12, 0)
+            pairs.fill(0);
+            Err(Refusal {
+                cause: Cause::Pairs,
+                place: 0,
+            })
         }
     }
 }
@@ -79,12 +83,12 @@ pub fn prepare(
     queue: &mut [u32],
     tallies: &mut [u32],
     pairs: &mut [u32],
-) -> Prepared
+) -> Result<Ready, Refusal>
     ensures { PreparedAs pass width height cells.now spans.now boundaries.now anchors.now room
         output labels.old masks.old queue.old tallies.old pairs.old result
         labels.new masks.new queue.new tallies.new pairs.new }
 {
-    let check = checks_before(
+    checks_before(
         pass,
         width,
         height,
@@ -97,20 +101,17 @@ pub fn prepare(
         queue.len(),
         tallies.len(),
         output,
-    );
-    match check {
-        Check::Refused(number, place) => Prepared::Refused(number, place),
-        Check::Fit => divide(
-            width as usize,
-            height as usize,
-            cells,
-            spans,
-            room,
-            labels,
-            masks,
-            queue,
-            tallies,
-            pairs,
-        ),
-    }
+    )?;
+    divide(
+        width as usize,
+        height as usize,
+        cells,
+        spans,
+        room,
+        labels,
+        masks,
+        queue,
+        tallies,
+        pairs,
+    )
 }

@@ -2,12 +2,10 @@
 ghost use Rattle.std.specs.Prelude.{◌≡◌, ◌≤◌, length};
 ghost use Rattle.definitions.specs.Lists.{zeroed};
 
-use areas::clear::{clear_masks, clear_numbers};
-
 pub fn clear_scratch(masks: &mut [u16], queue: &mut [u32], needed: usize)
     requires { (needed ≤ length masks.old) × (needed ≤ length queue.old) }
     ensures { (masks.new ≡ zeroed needed masks.old) × (queue.new ≡ zeroed needed queue.old) }
 {
-    clear_masks(masks, needed);
-    clear_numbers(queue, needed);
+    masks[..needed].fill(0);
+    queue[..needed].fill(0);
 }

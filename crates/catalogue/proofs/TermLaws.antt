@@ -1,8 +1,7 @@
 -- "each once": where the terms keep the rules, a map has at most one term with a given day. Assumes nothing.
-use Rattle.std.specs.Prelude.{ℕ, ◌<◌, ◌≡◌, refl, Bool, true, false, ◌&&◌, ◌||◌, List, eqb, ltb, leb}
+use Rattle.std.specs.Prelude.{ℕ, ◌<◌, ◌≡◌, refl, Bool, true, false, ◌&&◌, ◌||◌, List, eqb, ltb, leb, Option, None, Some}
 use Rattle.std.proofs.Common.{arith, sym, ap, ◌∙◌, leb-true, ltb-true, lt-ltb, eq-eqb}
 use Rattle.std.proofs.lemmas.Bool.{false≢true}
-use Rattle.std.specs.Prelude.{Option, None, Some}
 use Rattle.definitions.specs.Scan.{only_if}
 use Rattle.laws.specs.ListLaws.Tests.{both, neither}
 use Rattle.laws.specs.ListLaws.ScanSteps.{any-fails_at}

@@ -1,7 +1,6 @@
 -- Accession records in one list: which of them break a rule, and which is a map's current record. Quotations are of document 02, request 7.
 -- Assumes nothing; entries of the list are 64-bit numbers, of any size.
-use Rattle.std.specs.Prelude.{ℕ, zero, suc, ◌+◌, ◌*◌, ◌/◌, ◌%◌, Bool, not, ◌&&◌, cond, List, [], ◌∷◌, length, get_or, eqb, ltb}
-use Rattle.std.specs.Prelude.{Option}
+use Rattle.std.specs.Prelude.{ℕ, zero, suc, ◌+◌, ◌*◌, ◌/◌, ◌%◌, Bool, not, ◌&&◌, cond, List, [], ◌∷◌, length, get_or, eqb, ltb, Option}
 use Rattle.definitions.specs.Scan.{any_below_lem}
 use Rattle.definitions.specs.Refusals.{first_below_lem, first_faulty}
 

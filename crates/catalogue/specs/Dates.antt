@@ -1,6 +1,6 @@
 -- The Gregorian dates of pool terms and their numbers. Quotations are of document 02, request 8. Assumes nothing.
-use Rattle.std.specs.Prelude.{ℕ, zero, suc, ◌+◌, ◌-◌, ◌%◌, Bool, not, ◌&&◌, ◌||◌, cond, List, [], ◌∷◌, get_or, eqb, leb}
-use Rattle.std.specs.Prelude.{Option, None, Some}
+use Rattle.std.specs.Prelude.{ℕ, zero, suc, ◌+◌, ◌-◌, ◌%◌, Bool, not, ◌&&◌, ◌||◌, cond, List, [], ◌∷◌, get_or, eqb, leb, Option, None, Some}
+
 -- "year, month and day"; month 1 is January
 pub record Date : Type 0 where
   pub year : ℕ

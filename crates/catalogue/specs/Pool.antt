@@ -1,7 +1,6 @@
 -- The maps of a day, each with the accession record that stood in the catalogue then. Quotations are of document 02, request 8.
 -- Assumes nothing; entries of the lists are 64-bit numbers, of any size.
-use Rattle.std.specs.Prelude.{ℕ, zero, suc, ◌/◌, ◌&&◌, cond, List, [], ◌∷◌, length, eqb, ltb, leb}
-use Rattle.std.specs.Prelude.{Option, None, Some}
+use Rattle.std.specs.Prelude.{ℕ, zero, suc, ◌/◌, ◌&&◌, cond, List, [], ◌∷◌, length, eqb, ltb, leb, Option, None, Some}
 use Rattle.definitions.specs.Lists.{overwrite}
 use Rattle.definitions.specs.Scan.{only_if, collect, concat_map}
 use Rattle.definitions.specs.Sort.{sort}

@@ -1,6 +1,5 @@
 -- Computed examples of pool terms: days and their numbers, each refusal with its place, the order of the checks, the record that is shown. Assumes nothing.
-use Rattle.std.specs.Prelude.{ℕ, ◌≡◌, refl, List, [], ◌∷◌, ◌++◌, map}
-use Rattle.std.specs.Prelude.{Option, None, Some}
+use Rattle.std.specs.Prelude.{ℕ, ◌≡◌, refl, List, [], ◌∷◌, ◌++◌, map, Option, None, Some}
 use Rattle.definitions.specs.SheetExamples.{Example, ◌gives◌}
 use Rattle.definitions.specs.Verdict.{Answer}
 use Rattle.catalogue.specs.Dates.{Date, day_of, end_of}

@@ -1,7 +1,6 @@
 -- Terms of maps in the tournament pool: their days, and the checks 18 and 19. Quotations are of document 02, request 8.
 -- Assumes nothing; entries of the list are 64-bit numbers, of any size.
-use Rattle.std.specs.Prelude.{ℕ, ◌+◌, ◌*◌, ◌/◌, ◌%◌, Bool, false, ◌&&◌, ◌||◌, List, length, get_or, eqb, ltb, leb}
-use Rattle.std.specs.Prelude.{Option, None, Some}
+use Rattle.std.specs.Prelude.{ℕ, ◌+◌, ◌*◌, ◌/◌, ◌%◌, Bool, false, ◌&&◌, ◌||◌, List, length, get_or, eqb, ltb, leb, Option, None, Some}
 use Rattle.definitions.specs.Scan.{any_below_lem, only_if}
 use Rattle.definitions.specs.Refusals.{Refusal, first_below_lem}
 use Rattle.catalogue.specs.Dates.{Date, day_of, end_of}

@@ -1,18 +1,12 @@
--- What the answers of the checks say, by cases: the first faulty place, and of spans the refusal with its number. Assumes nothing.
-use Rattle.std.specs.Prelude.{ℕ}
-use Rattle.std.specs.Prelude.{Option, None, Some}
-use Rattle.definitions.specs.Refusals.{Refusal}
-use Rattle.checks.specs.declared.Fault.{Fault}
-use Rattle.checks.specs.declared.Fault.TheVariants.{Nowhere, At}
-use Rattle.checks.specs.declared.spans.SpanFault.{SpanFault}
-use Rattle.checks.specs.declared.spans.SpanFault.TheVariants as span
+-- What the check of spans says of one span. Assumes nothing.
+use Rattle.std.specs.Prelude.{ℕ, ◌*◌, not, List, Option}
+use Rattle.definitions.specs.Limits.{numbers_per_span}
+use Rattle.definitions.specs.Scan.{only_if}
+use Rattle.definitions.specs.Grid.{segment_at}
+use Rattle.definitions.specs.Refusals.{Refusal, or_else, both_on_map, endpoints_differ}
 
-abbrev pub place_of : Fault → Option ℕ
-place_of Nowhere = None
-place_of (At i) = Some i
-
--- 5: "span endpoint above 8 × width or 8 × height"; 6: "span endpoints equal"
-abbrev pub refusal_of : SpanFault → Option Refusal
-refusal_of span.Nowhere = None
-refusal_of (span.Outside i) = Some (record { number = 5; place = i })
-refusal_of (span.Equal i) = Some (record { number = 6; place = i })
+-- 5: "span endpoint above 8 × width or 8 × height"; 6: "span endpoints equal". "Numbers 5 and 6 are tested span by span, 5 first."
+abbrev pub span_refusal : ℕ → ℕ → List ℕ → ℕ → Option Refusal
+span_refusal w h spans i =
+    let s = segment_at spans (numbers_per_span * i) in
+    or_else (only_if (not (both_on_map w h s)) (record { number = 5; place = i })) (only_if (not (endpoints_differ s)) (record { number = 6; place = i }))

@@ -1,9 +1,7 @@
 // The check of anchors: number 8.
 ghost use Rattle.std.specs.Prelude.{◌≡◌, ◌&&◌, ◌+◌, ◌<◌, ltb, length, get_or};
 ghost use Rattle.definitions.specs.Refusals.{anchors_fault};
-ghost use Rattle.checks.specs.Contract.{place_of};
 
-use crate::Fault;
 use crate::limits::NUMBERS_PER_ANCHOR;
 
 // "anchor outside the grid", of the two numbers from k on.
@@ -14,14 +12,9 @@ fn anchor_fits(width: u64, height: u64, anchors: &[u64], k: usize) -> bool
     (anchors[k] < width) & (anchors[k + 1] < height)
 }
 
-pub fn anchors_fault(width: u64, height: u64, anchors: &[u64]) -> Fault
-    ensures { place_of result ≡ anchors_fault width height anchors.now }
+pub fn anchors_fault(width: u64, height: u64, anchors: &[u64]) -> Option<usize>
+    ensures { result ≡ anchors_fault width height anchors.now }
 {
     let count = anchors.len() / NUMBERS_PER_ANCHOR;
-    for i in 0..count {
-        if !anchor_fits(width, height, anchors, NUMBERS_PER_ANCHOR * i) {
-            return Fault::At(i);
-        }
-    }
-    Fault::Nowhere
+    (0..count).find(|&i| !anchor_fits(width, height, anchors, NUMBERS_PER_ANCHOR * i))
 }

@@ -3,9 +3,7 @@ ghost use Rattle.std.specs.Prelude.{◌≡◌, ◌+◌, ◌≤◌, ◌<◌, leng
 ghost use Rattle.definitions.specs.Limits.{max_side};
 ghost use Rattle.definitions.specs.Grid.{boundary_at};
 ghost use Rattle.definitions.specs.Refusals.{width_fits, ramp_fits, boundary_fits, boundaries_fault};
-ghost use Rattle.checks.specs.Contract.{place_of};
 
-use crate::Fault;
 use crate::limits::{MAX_WIDTH_BITS, NUMBERS_PER_BOUNDARY};
 use crate::spans::both_on_map;
 
@@ -41,15 +39,10 @@ pub fn boundary_fits(width: u64, height: u64, boundaries: &[u64], k: usize) -> b
         & ramp_fits(boundaries, k)
 }
 
-pub fn boundaries_fault(width: u64, height: u64, boundaries: &[u64]) -> Fault
+pub fn boundaries_fault(width: u64, height: u64, boundaries: &[u64]) -> Option<usize>
     requires { (width ≤ max_side) × (height ≤ max_side) }
-    ensures { place_of result ≡ boundaries_fault width height boundaries.now }
+    ensures { result ≡ boundaries_fault width height boundaries.now }
 {
     let count = boundaries.len() / NUMBERS_PER_BOUNDARY;
-    for i in 0..count {
-        if !boundary_fits(width, height, boundaries, NUMBERS_PER_BOUNDARY * i) {
-            return Fault::At(i);
-        }
-    }
-    Fault::Nowhere
+    (0..count).find(|&i| !boundary_fits(width, height, boundaries, NUMBERS_PER_BOUNDARY * i))
 }

@@ -2,9 +2,6 @@
 ghost use Rattle.std.specs.Prelude.{◌≡◌, ◌&&◌, not, leb};
 ghost use Rattle.definitions.specs.Grid.{is_walkable, elevation};
 ghost use Rattle.definitions.specs.Refusals.{elevations_fault};
-ghost use Rattle.checks.specs.Contract.{place_of};
-
-use crate::Fault;
 
 // "walkable cell of elevation 4 or more"
 pub fn elevation_fits(cell: u8) -> bool
@@ -13,13 +10,8 @@ pub fn elevation_fits(cell: u8) -> bool
     !((cell % 2 == 1) & (4 <= cell / 4))
 }
 
-pub fn elevations_fault(cells: &[u8]) -> Fault
-    ensures { place_of result ≡ elevations_fault cells.now }
+pub fn elevations_fault(cells: &[u8]) -> Option<usize>
+    ensures { result ≡ elevations_fault cells.now }
 {
-    for i in 0..cells.len() {
-        if !elevation_fits(cells[i]) {
-            return Fault::At(i);
-        }
-    }
-    Fault::Nowhere
+    (0..cells.len()).find(|&i| !elevation_fits(cells[i]))
 }

@@ -9,10 +9,3 @@ pub mod cells;
 pub mod limits;
 pub mod sizes;
 pub mod spans;
-
-// The first faulty place of a list; `place_of` of specs/Answers.antt gives what it says.
-#[derive(Clone, Copy)]
-pub enum Fault {
-    Nowhere,
-    At(usize),
-}

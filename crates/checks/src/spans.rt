@@ -1,19 +1,13 @@
 // The checks of spans: numbers 5 and 6.
-ghost use Rattle.std.specs.Prelude.{◌≡◌, ◌+◌, ◌≤◌, ◌<◌, length};
-ghost use Rattle.definitions.specs.Limits.{max_side};
+ghost use Rattle.std.specs.Prelude.{◌≡◌, ◌+◌, ◌*◌, ◌≤◌, ◌<◌, length};
+ghost use Rattle.definitions.specs.Limits.{max_side, numbers_per_span};
 ghost use Rattle.definitions.specs.Grid.{segment_at};
 ghost use Rattle.definitions.specs.Refusals.{both_on_map, endpoints_differ, spans_refusal};
-ghost use Rattle.checks.specs.Contract.{refusal_of};
+ghost use Rattle.refusals.specs.Refusals.{refusal_in};
+ghost use Rattle.checks.specs.Contract.{span_refusal};
 
 use crate::limits::{NUMBERS_PER_SPAN, PIXELS_PER_WALK_CELL};
-
-// The first faulty span; `refusal_of` of specs/Answers.antt gives its number.
-#[derive(Clone, Copy)]
-pub enum SpanFault {
-    Nowhere,
-    Outside(usize),
-    Equal(usize),
-}
+use refusals::{Cause, Refusal};
 
 // 5: "span endpoint above 8 × width or 8 × height", of the four numbers from k on, a span's or a boundary's.
 pub fn both_on_map(width: u64, height: u64, list: &[u64], k: usize) -> bool
@@ -34,22 +28,33 @@ fn endpoints_differ(spans: &[u64], k: usize) -> bool
     !((spans[k] == spans[k + 2]) & (spans[k + 1] == spans[k + 3]))
 }
 
-// "Numbers 5 and 6 are tested span by span, 5 first."
-pub fn spans_fault(width: u64, height: u64, spans: &[u64]) -> SpanFault
-    requires { (width ≤ max_side) × (height ≤ max_side) }
-    ensures { refusal_of result ≡ spans_refusal width height spans.now }
+// Both, of span i: "Numbers 5 and 6 are tested span by span, 5 first."
+fn check_span(width: u64, height: u64, spans: &[u64], i: usize) -> Result<(), Refusal>
+    requires { (width ≤ max_side) × (height ≤ max_side) × (numbers_per_span * i + 3 < length spans.now) }
+    ensures { refusal_in result ≡ span_refusal width height spans.now i }
 {
-    let count = spans.len() / NUMBERS_PER_SPAN;
-    for i in 0..count {
-        let k = NUMBERS_PER_SPAN * i;
-        let on = both_on_map(width, height, spans, k);
-        let differ = endpoints_differ(spans, k);
-        if !on {
-            return SpanFault::Outside(i);
-        }
-        if !differ {
-            return SpanFault::Equal(i);
-        }
+    let k = NUMBERS_PER_SPAN * i;
+    if !both_on_map(width, height, spans, k) {
+        return Err(Refusal {
+            cause: Cause::SpanOutside,
+            place: i,
+        });
     }
-    SpanFault::Nowhere
+    if !endpoints_differ(spans, k) {
+        return Err(Refusal {
+            cause: Cause::SpanOfNoLength,
+            place: i,
+        });
+    }
+    Ok(())
+}
+
+pub fn spans_fault(width: u64, height: u64, spans: &[u64]) -> Result<(), Refusal>
+    requires { (width ≤ max_side) × (height ≤ max_side) }
+    ensures { refusal_in result ≡ spans_refusal width height spans.now }
+{
+    for i in 0..spans.len() / NUMBERS_PER_SPAN {
+        check_span(width, height, spans, i)?;
+    }
+    Ok(())
 }

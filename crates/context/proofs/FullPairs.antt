@@ -4,7 +4,8 @@ use native.Mathlib.Omega.{arith}
 use mathlib.Core.Path.{◌≡◌, refl, sym, ap, ap₂, ◌∙◌, subst}
 use mathlib.Core.Bool.{Bool, true, false, not, ◌&&◌}
 use mathlib.Core.Logic.{⊎_elim}
-use Rattle.std.specs.Prelude.{None, Some}
+use Rattle.std.specs.Prelude.{Option, None, Some}
+use Rattle.std.specs.Option.{unwrap_or}
 use mathlib.Core.List.{List, [], ◌∷◌, map}
 use lib.ListN.{length, get_or, set, length-map}
 use lib.Seq.{get_or-set_same, get_or-set_other}
@@ -16,10 +17,9 @@ use Rattle.definitions.specs.Grid.{Pair}
 use Rattle.definitions.specs.Context.{Context, only_pair, full_cut, full_pair}
 use Rattle.laws.specs.ListLaws.Lists.{All, more, length_run}
 use Rattle.laws.specs.NumberLaws.Comparisons.{last_or}
-use Rattle.context.specs.declared.pairs.FullPair.{FullPair}
-use Rattle.context.specs.declared.pairs.FullPair.TheVariants as full
+use Rattle.context.specs.declared.pairs.Pair as declared
 use Rattle.context.specs.Shown.{pair_at, pairs_between, ShownTallies, ShownPairs, optional_pair}
-use Rattle.context.specs.Rows.{full_pair_of, smaller_of, larger_of}
+use Rattle.context.specs.Rows.{pair_form, full_pair_of}
 
 -- ---- one boundary
 
@@ -72,12 +72,14 @@ module _ (C : Context) {rows starts : List ℕ} {i : ℕ} (P : ShownPairs C rows
       go true (q ∷ r ∷ l) a e = let z : ◌≡◌ {A = ℕ} 0 1 = cc in omega arith
       go false l a e = let z : ◌≡◌ {A = ℕ} 0 1 = cc in omega arith
 
-  pub pair-stored : (r : FullPair) → full_pair_of r ≡ full_pair C i → full_pair C i ≡ optional_pair (smaller_of r) (larger_of r)
-  pair-stored full.None e = sym e
-  pair-stored (full.Pair lo hi) e = sym e ∙ stored lo (pair_named_lem (record { lo = lo; hi = hi }) e)
+  -- no pair is stored as zeros
+  pub pair-stored : (r : Option declared.Pair) → full_pair_of r ≡ full_pair C i
+      → full_pair C i ≡ optional_pair (unwrap_or r (record { lo = 0; hi = 0 })).lo (unwrap_or r (record { lo = 0; hi = 0 })).hi
+  pair-stored None e = sym e
+  pair-stored (Some p) e = sym e ∙ stored p.lo (pair_named_lem (pair_form p) e)
     where
-      stored : (n : ℕ) → 1 ≤ n → Some (record { lo = n; hi = hi }) ≡ optional_pair n hi
-      stored n h = ap (λ b. only_if (not b) (record { lo = n; hi = hi })) (sym (ne_eqb n 0 (λ e. omega (arith, e))))
+      stored : (n : ℕ) → 1 ≤ n → Some (record { lo = n; hi = p.hi }) ≡ optional_pair n p.hi
+      stored n h = ap (λ b. only_if (not b) (record { lo = n; hi = p.hi })) (sym (ne_eqb n 0 (λ e. omega (arith, e))))
 
 -- ---- all boundaries below i
 

@@ -13,3 +13,4 @@ pub mod AnchorLaws
 pub mod RunCounting
 pub mod RunLaws
 pub mod ShownLaws
+pub mod RowChains

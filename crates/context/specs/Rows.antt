@@ -7,8 +7,7 @@ use Rattle.definitions.specs.Lists.{overwrite}
 use Rattle.definitions.specs.Context.{Context}
 use Rattle.definitions.specs.Verdict.{pair_rows_of}
 use Rattle.laws.specs.ListLaws.Lists.{All}
-use Rattle.context.specs.declared.pairs.FullPair.{FullPair}
-use Rattle.context.specs.declared.pairs.FullPair.TheVariants as full
+use Rattle.context.specs.declared.pairs.Pair as declared
 
 -- the list begins with the rows of C's pairs, which name two different regions, the smaller first, from 1 on
 pub record PairRows (C : Context) (pairs : List ℕ) (rows count : ℕ) : Type 0 where
@@ -45,17 +44,11 @@ pub record NamedRows (pairs starts : List ℕ) (count n : ℕ) : Type 0 where
   pub stretch : (i : ℕ) → i < count → Stretch pairs starts i
   pub named : (i : ℕ) → i < count → (k : ℕ) → get_or starts i 0 ≤ k → k < get_or starts (i + 1) 0 → NamedRow pairs n k
 
--- ---- a full pair
+-- ---- pairs by value
 
-abbrev pub full_pair_of : FullPair → Option Pair
-full_pair_of full.None = None
-full_pair_of (full.Pair lo hi) = Some (record { lo = lo; hi = hi })
+abbrev pub pair_form : declared.Pair → Pair
+pair_form p = record { lo = p.lo; hi = p.hi }
 
--- 0 where there is none
-abbrev pub smaller_of : FullPair → ℕ
-smaller_of full.None = 0
-smaller_of (full.Pair lo hi) = lo
-
-abbrev pub larger_of : FullPair → ℕ
-larger_of full.None = 0
-larger_of (full.Pair lo hi) = hi
+abbrev pub full_pair_of : Option declared.Pair → Option Pair
+full_pair_of None = None
+full_pair_of (Some p) = Some (pair_form p)

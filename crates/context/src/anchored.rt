@@ -3,8 +3,6 @@ ghost use Rattle.std.specs.Prelude.{◌≡◌, ◌+◌, ◌*◌, ◌/◌, ◌≤
 ghost use Rattle.definitions.specs.Limits.{max_side, numbers_per_anchor};
 ghost use Rattle.context.specs.Anchors.{anchor_cell, anchor_cells, mark_label, mark_cells, AnchorsFit};
 
-use plain_numbers::{index_of, wide};
-
 const NUMBERS_PER_ANCHOR: usize = 2;
 
 // The number of anchor i's cell.
@@ -13,8 +11,8 @@ fn anchor_cell(width: usize, anchors: &[u64], i: usize) -> usize
     requires places { (get_or anchors.now (numbers_per_anchor * i) 0 < max_side) × (get_or anchors.now (numbers_per_anchor * i + 1) 0 < max_side) }
     ensures { result ≡ anchor_cell width anchors.now i }
 {
-    let x = index_of(anchors[NUMBERS_PER_ANCHOR * i]);
-    let y = index_of(anchors[NUMBERS_PER_ANCHOR * i + 1]);
+    let x = anchors[NUMBERS_PER_ANCHOR * i] as usize;
+    let y = anchors[NUMBERS_PER_ANCHOR * i + 1] as usize;
     y * width + x
 }
 
@@ -36,6 +34,6 @@ pub fn mark_anchored(width: usize, labels: &[u32], anchors: &[u64], marks: &mut 
     let count = anchors.len() / NUMBERS_PER_ANCHOR;
     for i in 0..count {
         let cell = anchor_cell(width, anchors, i);
-        mark_label(&mut *marks, wide(labels[cell]));
+        mark_label(&mut *marks, labels[cell] as usize);
     }
 }

@@ -4,38 +4,22 @@
 // the last span that counted: so one list serves, and each row is looked at once.
 ghost use Rattle.std.specs.Prelude.{◌≡◌, map, ℕ, ◌+◌, ◌*◌, ◌/◌, ◌≤◌, ◌<◌, length, get_or};
 ghost use Rattle.definitions.specs.Limits.{max_entries, numbers_per_pair};
-ghost use Rattle.definitions.specs.Grid.{contains};
 ghost use Rattle.definitions.specs.Context.{Context, is_incident};
 ghost use Rattle.context.specs.Shown.{pair_at, pairs_between, ShownPairs, ShownIncidents};
 ghost use Rattle.laws.specs.ListLaws.Beyond.{Beyond};
 ghost use Rattle.context.specs.Rows.{Stretch, NamedRow, NamedRows};
 ghost use Rattle.context.specs.Packed.{pack_unit, counted_entry, count_region, count_pair, count_pairs, span_pairs, count_spans, unpacked, Packed};
 
-use crate::pairs::NUMBERS_PER_PAIR;
-use plain_numbers::wide;
+use crate::pairs::row_at;
 
 const PACK_UNIT: u32 = 512;
 
-// Whether row k names region r.
-fn names_region(pairs: &[u32], k: usize, r: u32) -> bool
-    requires { numbers_per_pair * k + 2 < length pairs.now }
-    ensures { result ≡ contains r (pair_at pairs.now k) }
-{
-    (pairs[NUMBERS_PER_PAIR * k + 1] == r) | (pairs[NUMBERS_PER_PAIR * k + 2] == r)
-}
-
+// Whether a row of span i names region r.
 pub fn is_incident(pairs: &[u32], starts: &[usize; 257], i: usize, r: u32) -> bool
     requires { Stretch pairs.now starts.now i }
     ensures { (C : Context) → ShownPairs C pairs.now starts.now → i < C.count → result ≡ is_incident C i r }
 {
-    let first = starts[i];
-    let end = starts[i + 1];
-    for k in first..end {
-        if names_region(pairs, k, r) {
-            return true;
-        }
-    }
-    false
+    (starts[i]..starts[i + 1]).any(|k| row_at(pairs, k).contains(r))
 }
 
 // A region's entry once `span` names it.
@@ -55,7 +39,7 @@ fn count_region(counts: &mut [u32], r: u32, span: u32)
     requires places { (span < max_entries) × Packed span counts.old }
     ensures { counts.new ≡ count_region span counts.old r }
 {
-    let k = wide(r) - 1;
+    let k = r as usize - 1;
     counts[k] = counted(counts[k], span);
 }
 
@@ -64,8 +48,9 @@ fn count_pair(pairs: &[u32], k: usize, span: u32, counts: &mut [u32])
     requires places { (span < max_entries) × Packed span counts.old }
     ensures { counts.new ≡ count_pair span counts.old (pair_at pairs.now k) }
 {
-    count_region(&mut *counts, pairs[NUMBERS_PER_PAIR * k + 1], span);
-    count_region(&mut *counts, pairs[NUMBERS_PER_PAIR * k + 2], span);
+    let pair = row_at(pairs, k);
+    count_region(&mut *counts, pair.lo, span);
+    count_region(&mut *counts, pair.hi, span);
 }
 
 // The regions that the rows from `first` on, before `end`, name.
@@ -97,8 +82,8 @@ fn count_spans(pairs: &[u32], starts: &[usize; 257], count: usize, counts: &mut 
 fn unpack(counts: &mut [u32])
     ensures { counts.new ≡ map unpacked counts.old }
 {
-    for k in 0..counts.len() {
-        counts[k] = counts[k] / PACK_UNIT;
+    for count in counts.iter_mut() {
+        *count /= PACK_UNIT;
     }
 }
 

@@ -1,21 +1,39 @@
 // The rows of pairs by span, and the full cuts and full pairs of boundaries (`full_cut` and `full_pair` of context.rs).
 ghost use Rattle.std.specs.Prelude.{◌≡◌, ℕ, ◌+◌, ◌*◌, ◌≤◌, ◌<◌, length};
 ghost use Rattle.definitions.specs.Limits.{max_entries, tallies_per_span, numbers_per_pair};
+ghost use Rattle.definitions.specs.Grid.{contains};
 ghost use Rattle.definitions.specs.Context.{Context, full_cut, full_pair};
-ghost use Rattle.context.specs.Shown.{ShownTallies, ShownPairs, ShownFullPairs};
-ghost use Rattle.context.specs.Rows.{PairRows, SpanEnd, Stretch, full_pair_of, smaller_of, larger_of};
-
-use plain_numbers::wide;
+ghost use Rattle.context.specs.Shown.{pair_at, ShownTallies, ShownPairs, ShownFullPairs};
+ghost use Rattle.context.specs.Rows.{PairRows, SpanEnd, Stretch, pair_form, full_pair_of};
 
 pub const NUMBERS_PER_PAIR: usize = 3;
 
 const TALLIES_PER_SPAN: usize = 2;
 
-// The full pair of a boundary, where there is one; `full_pair_of` of specs/Rows.antt gives what it says.
-#[derive(Clone, Copy)]
-pub enum FullPair {
-    None,
-    Pair(u32, u32),
+// Two regions, the smaller first.
+#[derive(Clone, Copy, PartialEq, Eq)]
+pub struct Pair {
+    pub lo: u32,
+    pub hi: u32,
+}
+
+impl Pair {
+    pub fn contains(self, r: u32) -> bool
+        ensures { result ≡ contains r (pair_form self) }
+    {
+        (self.lo == r) | (self.hi == r)
+    }
+}
+
+// The pair of row k.
+pub fn row_at(pairs: &[u32], k: usize) -> Pair
+    requires { numbers_per_pair * k + 2 < length pairs.now }
+    ensures { pair_form result ≡ pair_at pairs.now k }
+{
+    Pair {
+        lo: pairs[NUMBERS_PER_PAIR * k + 1],
+        hi: pairs[NUMBERS_PER_PAIR * k + 2],
+    }
 }
 
 // The first row from `first` on whose span is another; `rows` where there is none.
@@ -24,14 +42,9 @@ fn span_end(pairs: &[u32], rows: usize, first: usize, span: usize) -> usize
     requires ordered { first ≤ rows }
     ensures { SpanEnd pairs.now rows first span result }
 {
-    let mut k = first;
-    while k < rows {
-        if wide(pairs[NUMBERS_PER_PAIR * k]) != span {
-            return k;
-        }
-        k += 1;
-    }
-    k
+    (first..rows)
+        .find(|&k| pairs[NUMBERS_PER_PAIR * k] as usize != span)
+        .unwrap_or(rows)
 }
 
 // The first row of each span, and the end of the last.
@@ -58,7 +71,7 @@ pub fn full_cut(tallies: &[u32], i: usize) -> bool
     (0 < removed) & (removed == separated)
 }
 
-pub fn full_pair(tallies: &[u32], pairs: &[u32], starts: &[usize; 257], i: usize) -> FullPair
+pub fn full_pair(tallies: &[u32], pairs: &[u32], starts: &[usize; 257], i: usize) -> Option<Pair>
     requires tallies_room { tallies_per_span * i + 1 < length tallies.now }
     requires stretch { Stretch pairs.now starts.now i }
     ensures { (C : Context) →
@@ -70,33 +83,12 @@ pub fn full_pair(tallies: &[u32], pairs: &[u32], starts: &[usize; 257], i: usize
     let first = starts[i];
     let end = starts[i + 1];
     if end - first != 1 {
-        return FullPair::None;
+        return None;
     }
     if full_cut(tallies, i) {
-        FullPair::Pair(
-            pairs[NUMBERS_PER_PAIR * first + 1],
-            pairs[NUMBERS_PER_PAIR * first + 2],
-        )
+        Some(row_at(pairs, first))
     } else {
-        FullPair::None
-    }
-}
-
-fn smaller_of(p: FullPair) -> u32
-    ensures { result ≡ smaller_of p }
-{
-    match p {
-        FullPair::None => 0,
-        FullPair::Pair(lo, _) => lo,
-    }
-}
-
-fn larger_of(p: FullPair) -> u32
-    ensures { result ≡ larger_of p }
-{
-    match p {
-        FullPair::None => 0,
-        FullPair::Pair(_, hi) => hi,
+        None
     }
 }
 
@@ -119,8 +111,8 @@ pub fn full_pairs(
         ShownFullPairs C smaller.new larger.new }
 {
     for i in 0..count {
-        let pair = full_pair(tallies, pairs, starts, i);
-        smaller[i] = smaller_of(pair);
-        larger[i] = larger_of(pair);
+        let pair = full_pair(tallies, pairs, starts, i).unwrap_or(Pair { lo: 0, hi: 0 });
+        smaller[i] = pair.lo;
+        larger[i] = pair.hi;
     }
 }

@@ -15,14 +15,14 @@ pub struct RunCounts {
 pub fn elevation_of(cell: u8) -> usize
     ensures { result ≡ elevation cell }
 {
-    (cell / 4) as usize
+    usize::from(cell / 4)
 }
 
 // 1 for a cell with the ramp bit, else 0.
 fn ramp_bit(cell: u8) -> usize
     ensures { (result ≡ bit (is_ramp cell)) × (result ≤ 1) }
 {
-    (cell / 2 % 2) as usize
+    usize::from(cell / 2 % 2)
 }
 
 // Up to where the cells from `from` on equal the first.
@@ -31,14 +31,7 @@ fn equal_end(cells: &[u8], from: usize, end: usize) -> usize
     ensures { Equal cells.now from end result }
 {
     let first = cells[from];
-    let mut c = from + 1;
-    while c < end {
-        if cells[c] != first {
-            return c;
-        }
-        c += 1;
-    }
-    c
+    (from + 1..end).find(|&c| cells[c] != first).unwrap_or(end)
 }
 
 // The counts of the cells from `from` to before `end`.
@@ -54,7 +47,7 @@ pub fn run_counts(cells: &[u8], from: usize, end: usize) -> RunCounts
         let alike = next - c;
         let e = elevation_of(cells[c]);
         ramps += alike * ramp_bit(cells[c]);
-        elevations[e] = elevations[e] + alike;
+        elevations[e] += alike;
         c = next;
     }
     RunCounts { ramps, elevations }
@@ -64,7 +57,7 @@ pub fn run_counts(cells: &[u8], from: usize, end: usize) -> RunCounts
 fn some(count: usize) -> u8
     ensures { (result ≡ bit (ltb 0 count)) × (result ≤ 1) }
 {
-    if count > 0 { 1 } else { 0 }
+    u8::from(count > 0)
 }
 
 // The mask of the elevations that are counted.

@@ -1,6 +1,5 @@
 -- The cases that document 01 marks P (SPECIFICATION 16), in its order, as one list of tests on the definitions, and one theorem: each holds.
-use Rattle.std.specs.Prelude.{ℕ, ◌-◌, ◌≡◌, refl, Bool, true, false, not, cond, List, [], ◌∷◌, eqb}
-use Rattle.std.specs.Prelude.{Option, None, Some}
+use Rattle.std.specs.Prelude.{ℕ, ◌-◌, ◌≡◌, refl, Bool, true, false, not, cond, List, [], ◌∷◌, eqb, Option, None, Some}
 use Rattle.std.specs.Float.{binary64}
 use Rattle.std.specs.Float.Ieee.{to_bits}
 use Rattle.definitions.specs.Scan.{all}

@@ -1,7 +1,6 @@
 -- What a pass reads (SPECIFICATION 9; PartitionContext of context.rs with the boundaries): the boundaries and their assessments,
 -- and of each region whether it is anchored and its record. A pass is a function of this and of nothing else. Assumes nothing.
-use Rattle.std.specs.Prelude.{ℕ, Bool, true, false, ◌&&◌, cond, List, [], ◌∷◌, map, length, get_or, eqb, ltb, Float}
-use Rattle.std.specs.Prelude.{Option, None, Some}
+use Rattle.std.specs.Prelude.{ℕ, Bool, true, false, ◌&&◌, cond, List, [], ◌∷◌, map, length, get_or, eqb, ltb, Float, Option, None, Some}
 use Rattle.std.specs.Float.Ieee.{binary64, of_bits}
 use Rattle.definitions.specs.Scan.{run, any, filter, count_below}
 use Rattle.definitions.specs.Grid.{Map, Segment, Boundary, Pair, contains, canonical, span_count, boundary_of}

@@ -1,8 +1,7 @@
 -- Pass 3, `remove_junction_boundaries` of junctions.rs: unions of two regions, and bridges of a pocket. Where the Rust keeps sets of ports, exteriors and
 -- reserved regions, this has their tests (laws: Ports, WidestPort, Exteriors, BridgeGroups, Selection3). Assumes nothing.
-use Rattle.std.specs.Prelude.{ℕ, zero, suc, ◌+◌, ◌-◌, ◌^◌, Bool, true, ◌&&◌, ◌||◌, Float}
+use Rattle.std.specs.Prelude.{ℕ, zero, suc, ◌+◌, ◌-◌, ◌^◌, Bool, true, ◌&&◌, ◌||◌, Float, Option, None, Some}
 use Rattle.std.proofs.Math.Bool.{not, cond}
-use Rattle.std.specs.Prelude.{Option, None, Some}
 use mathlib.Core.List.{List, [], ◌∷◌, ◌++◌, map}
 use Rattle.std.proofs.Math.Dec.{eqb, ltb, leb}
 use Rattle.std.specs.Float.Ieee.{binary64, le, mul}

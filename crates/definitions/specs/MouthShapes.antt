@@ -1,6 +1,5 @@
 -- The shape of a mouth, from its pairs: `star` and `triangle_representative` of ramp_boundaries.rs (laws: Stars, Triangles). Assumes nothing.
-use Rattle.std.specs.Prelude.{ℕ, Bool, true, false, not, ◌&&◌, List, [], ◌∷◌, length, eqb}
-use Rattle.std.specs.Prelude.{Option, None, Some}
+use Rattle.std.specs.Prelude.{ℕ, Bool, true, false, not, ◌&&◌, List, [], ◌∷◌, length, eqb, Option, None, Some}
 use Rattle.definitions.specs.Scan.{any, all, filter, only_if, add_all}
 use Rattle.definitions.specs.Grid.{Pair, pair_eq, contains}
 

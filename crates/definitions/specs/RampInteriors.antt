@@ -1,8 +1,7 @@
 -- Pass 2, `collapse_ramp_interiors` of ramp_boundaries.rs. The Rust's depth-first search for a component is the merging of regions by ordinary full cuts
 -- here, and its leaves are found by the same walk (laws: Components, Leaves, Selection2). Assumes nothing.
-use Rattle.std.specs.Prelude.{ℕ, suc, ◌+◌, Bool, false, ◌&&◌, ◌||◌, length, get_or, ltb}
+use Rattle.std.specs.Prelude.{ℕ, suc, ◌+◌, Bool, false, ◌&&◌, ◌||◌, length, get_or, ltb, Option, None}
 use Rattle.std.proofs.Math.Bool.{true, not, cond}
-use Rattle.std.specs.Prelude.{Option, None}
 use mathlib.Core.List.{List, [], ◌∷◌, ◌++◌}
 use Rattle.std.proofs.Math.Dec.{eqb, leb}
 use Rattle.std.specs.Float.Ieee.{le}

@@ -1,8 +1,7 @@
 -- Pass 1, `replace_ramp_mouths` of ramp_boundaries.rs. The Rust's chain of `continue`s is one conjunction here, and its `retain` is asked of each proposal
 -- as it is made (laws: MouthChain, Selection1, MouthsAsRust). Assumes nothing.
-use Rattle.std.specs.Prelude.{ℕ, Bool, ◌&&◌, ◌||◌, length, leb, Float}
+use Rattle.std.specs.Prelude.{ℕ, Bool, ◌&&◌, ◌||◌, length, leb, Float, Option, None, Some}
 use Rattle.std.proofs.Math.Bool.{true, false, not, cond}
-use Rattle.std.specs.Prelude.{Option, None, Some}
 use mathlib.Core.List.{List, [], ◌∷◌, ◌++◌, map}
 use Rattle.std.proofs.Math.Dec.{eqb}
 use Rattle.std.specs.Float.Ieee.{binary64, le, lt, mul, div, to_bits}

@@ -1,7 +1,6 @@
 -- The checks of the table of SPECIFICATION 4 that look at what is lent, numbers 1 to 10: each gives the first faulty place, or none. Quotations are of the table of SPECIFICATION 4.
 -- Assumes nothing; entries of the lists are 64-bit numbers and cells are bytes, as their element types have it.
-use Rattle.std.specs.Prelude.{ℕ, zero, suc, ◌+◌, ◌*◌, ◌/◌, ◌%◌, ◌^◌, Bool, not, ◌&&◌, ◌||◌, List, length, get_or, eqb, ltb, leb}
-use Rattle.std.specs.Prelude.{Option, None, Some}
+use Rattle.std.specs.Prelude.{ℕ, zero, suc, ◌+◌, ◌*◌, ◌/◌, ◌%◌, ◌^◌, Bool, not, ◌&&◌, ◌||◌, List, length, get_or, eqb, ltb, leb, Option, None, Some}
 use Rattle.std.specs.Float.{binary64}
 use Rattle.std.specs.Float.Ieee.{of_bits, le}
 use Rattle.definitions.specs.Limits.{is_side, max_entries, numbers_per_span, numbers_per_boundary, numbers_per_anchor, tallies_per_span, numbers_per_row}

@@ -1,7 +1,6 @@
 -- Region records (SPECIFICATION 9; RegionStats of context.rs) and what is asked of one: corners, dominance (junctions.rs), flatness.
 -- Assumes nothing.
-use Rattle.std.specs.Prelude.{ℕ, zero, suc, ◌+◌, ◌*◌, ◌/◌, ◌%◌, ◌^◌, ◌<◌, min, max, ◌≡◌, Bool, false, ◌&&◌, ◌||◌, cond, List, [], ◌∷◌, map, get_or, eqb, ltb, leb, Float}
-use Rattle.std.specs.Prelude.{Option, None, Some}
+use Rattle.std.specs.Prelude.{ℕ, zero, suc, ◌+◌, ◌*◌, ◌/◌, ◌%◌, ◌^◌, ◌<◌, min, max, ◌≡◌, Bool, false, ◌&&◌, ◌||◌, cond, List, [], ◌∷◌, map, get_or, eqb, ltb, leb, Float, Option, None, Some}
 use Rattle.definitions.specs.Scan.{any_below_lem, count_below, bit}
 use Rattle.definitions.specs.Grid.{Map, cell_count, cell_at, is_ramp, elevation}
 use Rattle.definitions.specs.Spans.{pixels_per_walk_cell}

@@ -1,7 +1,7 @@
 -- Scans: over the numbers below n, the way a loop goes, and over lists; by structural recursion, so that they compute.
 -- The Rust's sets are put as such scans: a set is its test, its size a count, a walk over it in ascending order a `collect`. Assumes nothing.
-use Rattle.std.specs.Prelude.{ℕ, zero, suc, ◌+◌, Bool, true, false, ◌&&◌, ◌||◌, cond, List, [], ◌∷◌, ◌++◌, eqb}
-use Rattle.std.specs.Prelude.{Option, None, Some}
+use Rattle.std.specs.Prelude.{ℕ, zero, suc, ◌+◌, Bool, true, false, ◌&&◌, ◌||◌, cond, List, [], ◌∷◌, ◌++◌, eqb, Option, None, Some}
+
 -- ---- over the numbers below n
 
 unfoldable pub any_below_lem : ℕ → (ℕ → Bool) → Bool

@@ -1,7 +1,6 @@
 -- The table of refusals as one function: the answer to every input of the call that runs a pass and of the partition alone (SPECIFICATION 3 and
 -- 4). The lists at exit stand in AtExit.antt, the hypotenuse's answer in Hypotenuse.antt, the sheet reader's in Sheet.antt. Assumes nothing.
-use Rattle.std.specs.Prelude.{ℕ, ◌*◌, ◌/◌, Bool, ◌&&◌, List, [], ◌∷◌, length, leb}
-use Rattle.std.specs.Prelude.{Option, None, Some}
+use Rattle.std.specs.Prelude.{ℕ, ◌*◌, ◌/◌, Bool, ◌&&◌, List, [], ◌∷◌, length, leb, Option, None, Some}
 use Rattle.definitions.specs.Limits.{numbers_per_span, numbers_per_boundary, numbers_per_anchor, numbers_per_pair}
 use Rattle.definitions.specs.Scan.{gather, concat_map}
 use Rattle.definitions.specs.Grid.{Map, map_of}

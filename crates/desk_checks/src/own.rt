@@ -2,19 +2,16 @@
 ghost use Rattle.std.specs.Prelude.{◌≡◌, ◌&&◌, ◌+◌, ◌≤◌, ◌<◌, length};
 ghost use Rattle.definitions.specs.Limits.{max_side, numbers_per_boundary, numbers_per_anchor};
 ghost use Rattle.definitions.specs.Grid.{segment_at};
-ghost use Rattle.checks.specs.Contract.{place_of};
-ghost use Rattle.areas.specs.Answers.{refusal_of};
+ghost use Rattle.refusals.specs.Refusals.{refusal_in};
 ghost use Rattle.call_partition.specs.Early.{is_whole_of};
 ghost use Rattle.desks.specs.Desks.{is_span, desk_fault, own_refusal};
 ghost use Rattle.desk_checks.specs.Own.{lies_on, places_refusal};
 
-use areas::checked::Check;
-use checks::Fault;
 use checks::anchors::anchors_fault;
 use checks::boundaries::boundaries_fault;
 use checks::limits::{NUMBERS_PER_ANCHOR, NUMBERS_PER_BOUNDARY, NUMBERS_PER_SPAN};
 use checks::sizes::{is_whole, output_has_room, pass_fits};
-use plain_numbers::most;
+use refusals::{Cause, Refusal, ensure, no_fault};
 
 // Whether the four numbers from b on are the span of the four from s on, up to the order of its endpoints.
 fn is_span(boundaries: &[u64], b: usize, spans: &[u64], s: usize) -> bool
@@ -37,34 +34,22 @@ fn is_span(boundaries: &[u64], b: usize, spans: &[u64], s: usize) -> bool
 fn lies_on(spans: &[u64], boundaries: &[u64], i: usize) -> bool
     ensures { result ≡ lies_on spans.now boundaries.now i }
 {
-    if spans.len() / NUMBERS_PER_SPAN <= i {
-        return false;
-    }
-    if boundaries.len() / NUMBERS_PER_BOUNDARY <= i {
-        return false;
-    }
-    is_span(
-        boundaries,
-        NUMBERS_PER_BOUNDARY * i,
-        spans,
-        NUMBERS_PER_SPAN * i,
-    )
+    i < spans.len() / NUMBERS_PER_SPAN
+        && i < boundaries.len() / NUMBERS_PER_BOUNDARY
+        && is_span(
+            boundaries,
+            NUMBERS_PER_BOUNDARY * i,
+            spans,
+            NUMBERS_PER_SPAN * i,
+        )
 }
 
 // 20: "if a desk's boundary is not its shared span up to endpoint order, or one of them is missing"
-pub fn desk_fault(spans: &[u64], boundaries: &[u64]) -> Fault
-    ensures { place_of result ≡ desk_fault spans.now boundaries.now }
+pub fn desk_fault(spans: &[u64], boundaries: &[u64]) -> Option<usize>
+    ensures { result ≡ desk_fault spans.now boundaries.now }
 {
-    let count = most(
-        spans.len() / NUMBERS_PER_SPAN,
-        boundaries.len() / NUMBERS_PER_BOUNDARY,
-    );
-    for i in 0..count {
-        if !lies_on(spans, boundaries, i) {
-            return Fault::At(i);
-        }
-    }
-    Fault::Nowhere
+    let count = (spans.len() / NUMBERS_PER_SPAN).max(boundaries.len() / NUMBERS_PER_BOUNDARY);
+    (0..count).find(|&i| !lies_on(spans, boundaries, i))
 }
 
 // Check 3, of boundaries and anchors.
@@ -82,24 +67,16 @@ fn check_places(
     boundaries: &[u64],
     anchors: &[u64],
     output: usize,
-) -> Check
+) -> Result<(), Refusal>
     requires { (width ≤ max_side) × (height ≤ max_side) }
-    ensures { refusal_of result
+    ensures { refusal_in result
         ≡ places_refusal width height spans.now boundaries.now anchors.now output }
 {
-    if let Fault::At(boundary) = boundaries_fault(width, height, boundaries) {
-        return Check::Refused(7, boundary);
-    }
-    if let Fault::At(boundary) = desk_fault(spans, boundaries) {
-        return Check::Refused(20, boundary);
-    }
-    if let Fault::At(anchor) = anchors_fault(width, height, anchors) {
-        return Check::Refused(8, anchor);
-    }
-    if !output_has_room(boundaries.len() / NUMBERS_PER_BOUNDARY, output) {
-        return Check::Refused(10, 0);
-    }
-    Check::Fit
+    no_fault(boundaries_fault(width, height, boundaries), Cause::Boundary)?;
+    no_fault(desk_fault(spans, boundaries), Cause::Desk)?;
+    no_fault(anchors_fault(width, height, anchors), Cause::AnchorOutside)?;
+    let room = output_has_room(boundaries.len() / NUMBERS_PER_BOUNDARY, output);
+    ensure(room, Cause::Room)
 }
 
 // All of them. Of the output only the length matters.
@@ -111,16 +88,12 @@ pub fn check_desk(
     boundaries: &[u64],
     anchors: &[u64],
     output: usize,
-) -> Check
+) -> Result<(), Refusal>
     requires { (width ≤ max_side) × (height ≤ max_side) }
-    ensures { refusal_of result
+    ensures { refusal_in result
         ≡ own_refusal width height spans.now pass boundaries.now anchors.now output }
 {
-    if !both_whole(boundaries.len(), anchors.len()) {
-        return Check::Refused(3, 0);
-    }
-    if !pass_fits(pass) {
-        return Check::Refused(4, 0);
-    }
+    ensure(both_whole(boundaries.len(), anchors.len()), Cause::Entries)?;
+    ensure(pass_fits(pass), Cause::Pass)?;
     check_places(width, height, spans, boundaries, anchors, output)
 }

@@ -1,9 +1,9 @@
 // What comes before the records that both desks share: the checks of the shared lists, labels, tallies and pairs. The boundaries and anchors of neither desk are looked at.
 ghost use Rattle.desk_checks.specs.Shared.{SharedAs};
 
-use areas::checked::Check;
 use call_partition::checked::checks_before;
-use call_partition::{Prepared, divide};
+use call_partition::{Ready, divide};
+use refusals::Refusal;
 
 // A pass that the checks let through: none is run here.
 const ANY_PASS: u64 = 1;
@@ -20,12 +20,12 @@ pub fn prepare_shared(
     queue: &mut [u32],
     tallies: &mut [u32],
     pairs: &mut [u32],
-) -> Prepared
+) -> Result<Ready, Refusal>
     ensures { SharedAs width height cells.now spans.now room
         labels.old masks.old queue.old tallies.old pairs.old result
         labels.new masks.new queue.new tallies.new pairs.new }
 {
-    let check = checks_before(
+    checks_before(
         ANY_PASS,
         width,
         height,
@@ -38,20 +38,17 @@ pub fn prepare_shared(
         queue.len(),
         tallies.len(),
         0,
-    );
-    match check {
-        Check::Refused(number, place) => Prepared::Refused(number, place),
-        Check::Fit => divide(
-            width as usize,
-            height as usize,
-            cells,
-            spans,
-            room,
-            labels,
-            masks,
-            queue,
-            tallies,
-            pairs,
-        ),
-    }
+    )?;
+    divide(
+        width as usize,
+        height as usize,
+        cells,
+        spans,
+        room,
+        labels,
+        masks,
+        queue,
+        tallies,
+        pairs,
+    )
 }

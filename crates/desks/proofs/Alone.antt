@@ -1,9 +1,8 @@
 -- "each one accepted gets the rows of a run with its lists alone": where neither the shared lists nor a desk's own are refused, the answer, the output and every shared list are
 -- those of the call of its pass with its lists alone. The partition reads neither boundaries nor anchors (Terrain). Assumes nothing.
-use Rattle.std.specs.Prelude.{ℕ, ◌*◌, ◌/◌, ◌≡◌, Bool, true, ◌&&◌, List, [], ◌∷◌, length, leb}
+use Rattle.std.specs.Prelude.{ℕ, ◌*◌, ◌/◌, ◌≡◌, Bool, true, ◌&&◌, List, [], ◌∷◌, length, leb, None}
 use Rattle.std.proofs.Math.Path.{sym, ap}
 use Rattle.std.proofs.Common.{ap₂, ◌∙◌}
-use Rattle.std.specs.Prelude.{None}
 use Rattle.definitions.specs.Limits.{numbers_per_span, numbers_per_boundary, numbers_per_anchor, numbers_per_pair}
 use Rattle.definitions.specs.Grid.{map_of, cell_count}
 use Rattle.definitions.specs.Lists.{overwrite}

@@ -1,9 +1,8 @@
 -- What the request says of the desks, over any two calls that met the contract: a desk is served alike beside whatever other desk, in either order, whatever the shared lists
 -- held; the shared lists are the same whatever the desks; a shared refusal goes to both; a desk's own leaves the shared lists as on success. Assumes nothing.
-use Rattle.std.specs.Prelude.{ℕ, ◌≡◌, List, length}
+use Rattle.std.specs.Prelude.{ℕ, ◌≡◌, List, length, None, Some}
 use Rattle.std.proofs.Common.{sym, ap₂, ◌∙◌}
 use Rattle.std.proofs.Math.Path.{ap}
-use Rattle.std.specs.Prelude.{None, Some}
 use Rattle.definitions.specs.RegionRecord.{Region}
 use Rattle.definitions.specs.Rows.{rows_of, flat_rows}
 use Rattle.definitions.specs.Refusals.{Refusal, or_else}

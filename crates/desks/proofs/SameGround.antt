@@ -1,8 +1,7 @@
 -- What decides the answer to a desk and its output: the shared sides, cells and spans, how long the shared lists are, and its own pass and lists. What the shared lists
 -- held does not, nor does the other desk. Assumes nothing.
-use Rattle.std.specs.Prelude.{ℕ, ◌*◌, ◌/◌, ◌≡◌, refl, List, [], length, leb}
+use Rattle.std.specs.Prelude.{ℕ, ◌*◌, ◌/◌, ◌≡◌, refl, List, [], length, leb, Option}
 use Rattle.std.proofs.Common.{sym, ap₂, ◌∙◌}
-use Rattle.std.specs.Prelude.{Option}
 use Rattle.definitions.specs.Limits.{numbers_per_span, numbers_per_pair}
 use Rattle.definitions.specs.Grid.{map_of}
 use Rattle.definitions.specs.Partition.{region_count}

@@ -1,7 +1,6 @@
 -- Two desks over one partition (document 02, request 9): what they share, what is a desk's own, the answer to each desk and every list at exit. Quotations are of the
 -- request. Assumes nothing.
-use Rattle.std.specs.Prelude.{ℕ, ◌*◌, ◌/◌, max, ◌≡◌, Bool, ◌&&◌, ◌||◌, List, [], length, eqb, ltb}
-use Rattle.std.specs.Prelude.{Option, None, Some}
+use Rattle.std.specs.Prelude.{ℕ, ◌*◌, ◌/◌, max, ◌≡◌, Bool, ◌&&◌, ◌||◌, List, [], length, eqb, ltb, Option, None, Some}
 use Rattle.definitions.specs.Limits.{numbers_per_span, numbers_per_boundary, numbers_per_anchor}
 use Rattle.definitions.specs.Grid.{Segment, segment_at}
 use Rattle.definitions.specs.RegionRecord.{Region}

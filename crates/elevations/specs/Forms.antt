@@ -1,9 +1,8 @@
--- What the declared types say, in the words of RegionRecord: for each case of `Share` the paper's values, and the answer for C. Definitions only; assumes nothing.
+-- What the declared types say, in the words of RegionRecord: the paper's values of a share, and the answer for C. Definitions only; assumes nothing.
 use Rattle.std.specs.Prelude.{ℕ, Bool, true, false}
 use Rattle.std.specs.Prelude.{Option, None, Some}
 use Rattle.definitions.specs.RegionRecord as def
 use Rattle.elevations.specs.declared.Share.{Share}
-use Rattle.elevations.specs.declared.Share.TheVariants as share
 use Rattle.elevations.specs.declared.Dominance.{Dominance}
 use Rattle.elevations.specs.declared.ElevationsAnswer.{ElevationsAnswer}
 
@@ -11,9 +10,9 @@ use Rattle.elevations.specs.declared.ElevationsAnswer.{ElevationsAnswer}
 abbrev pub max_count : ℕ
 max_count = 0xFFFFFFFF
 
-abbrev pub share_form : Share → Option def.Share
-share_form share.None = None
-share_form (share.Of p r) = Some (record { percent = p; remainder = r })
+abbrev pub share_form : Option Share → Option def.Share
+share_form None = None
+share_form (Some h) = Some (record { percent = h.percent; remainder = h.remainder })
 
 abbrev pub dominance_form : Dominance → def.Dominance
 dominance_form d = record { elevation = d.elevation; share = share_form d.share }

@@ -6,18 +6,18 @@ ghost use Rattle.std.specs.Prelude.{◌≡◌, [], ◌∷◌, ℕ, ◌≤◌, �
 ghost use Rattle.definitions.specs.RegionRecord.{better, most_common_elevation, share_of, dominance_of};
 ghost use Rattle.elevations.specs.Forms.{max_count, share_form, dominance_form, answer_of};
 
-// The whole percent and the remainder, or that there are no cells; `share_form` of specs/Forms.antt gives what it says.
-#[derive(Clone, Copy)]
-pub enum Share {
-    None,
-    Of(usize, usize),
+// A share in whole percents, and the remainder of the division that gave them.
+#[derive(Clone, Copy, PartialEq, Eq)]
+pub struct Share {
+    pub percent: usize,
+    pub remainder: usize,
 }
 
-// The elevation of most cells, and the share of its count.
-#[derive(Clone, Copy)]
+// The elevation of most cells, and the share of its count, which no cells have none of; `share_form` of specs/Forms.antt gives what it says.
+#[derive(Clone, Copy, PartialEq, Eq)]
 pub struct Dominance {
     pub elevation: usize,
-    pub share: Share,
+    pub share: Option<Share>,
 }
 
 // Which of two elevations has more cells; of equal counts the former.
@@ -36,21 +36,22 @@ fn most_common_elevation(counts: [usize; 4]) -> usize
     more_common(counts, more_common(counts, more_common(counts, 0, 1), 2), 3)
 }
 
-fn share_of(count: usize, cells: usize) -> Share
+fn share_of(count: usize, cells: usize) -> Option<Share>
     requires { count ≤ max_count }
     ensures { share_form result ≡ share_of count cells }
 {
     if cells == 0 {
-        return Share::None;
+        return None;
     }
     let hundredfold = count * 100;
-    let percent = hundredfold / cells;
-    let remainder = hundredfold % cells;
-    Share::Of(percent, remainder)
+    Some(Share {
+        percent: hundredfold / cells,
+        remainder: hundredfold % cells,
+    })
 }
 
 // The share of elevation e.
-fn share_at(counts: [usize; 4], e: usize, cells: usize) -> Share
+fn share_at(counts: [usize; 4], e: usize, cells: usize) -> Option<Share>
     requires { (e < 4) × (get_or counts e 0 ≤ max_count) }
     ensures { share_form result ≡ share_of (get_or counts e 0) cells }
 {
@@ -79,21 +80,15 @@ pub struct ElevationsAnswer {
 fn answer(d: Dominance) -> ElevationsAnswer
     ensures { result ≡ answer_of (dominance_form d) }
 {
-    let elevation = d.elevation as u64;
-    let share = d.share;
-    match share {
-        Share::None => ElevationsAnswer {
-            elevation,
-            has_share: false,
-            percent: 0,
-            remainder: 0,
-        },
-        Share::Of(percent, remainder) => ElevationsAnswer {
-            elevation,
-            has_share: true,
-            percent: percent as u64,
-            remainder: remainder as u64,
-        },
+    let share = d.share.unwrap_or(Share {
+        percent: 0,
+        remainder: 0,
+    });
+    ElevationsAnswer {
+        elevation: d.elevation as u64,
+        has_share: d.share.is_some(),
+        percent: share.percent as u64,
+        remainder: share.remainder as u64,
     }
 }
 

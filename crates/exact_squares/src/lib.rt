@@ -14,7 +14,6 @@ ghost use Rattle.exact_squares.specs.Forms.{Bounded, fraction_of};
 
 use geometry::Segment;
 use span_geometry::PixelPosition;
-use span_geometry::numbers::{abs_diff, saturating_sub};
 
 // The square of a distance: numerator and denominator.
 #[derive(Clone, Copy)]
@@ -35,8 +34,8 @@ fn end_square(p: PixelPosition, q: PixelPosition) -> u64
     requires { InLimits p × InLimits q }
     ensures { (result ≡ end_square (point_of p) (point_of q)) × (result ≤ 2 ^ 27) }
 {
-    let x = abs_diff(p.x, q.x);
-    let y = abs_diff(p.y, q.y);
+    let x = p.x.abs_diff(q.x);
+    let y = p.y.abs_diff(q.y);
     product(x, x) + product(y, y)
 }
 
@@ -56,7 +55,7 @@ fn along(p: PixelPosition, a: PixelPosition, b: PixelPosition) -> u64
 {
     let more = products(p.x, b.x, a.x, a.x, p.y, b.y, a.y, a.y);
     let less = products(p.x, a.x, a.x, b.x, p.y, a.y, a.y, b.y);
-    saturating_sub(more, less)
+    more.saturating_sub(less)
 }
 
 // The cross product, without its sign.
@@ -66,7 +65,7 @@ fn height(p: PixelPosition, a: PixelPosition, b: PixelPosition) -> u64
 {
     let more = products(b.x, p.y, a.x, a.y, b.y, a.x, a.y, p.x);
     let less = products(b.x, a.y, a.x, p.y, b.y, p.x, a.y, a.x);
-    abs_diff(more, less)
+    more.abs_diff(less)
 }
 
 // The square of the distance from p to the segment from a to b.

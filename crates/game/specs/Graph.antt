@@ -1,7 +1,6 @@
 -- The game over a graph given as plain lists (document 02, request 14): the graph, the answer of the operation that solves it, and the lent list of verdicts at exit.
 -- Quotations are of the request. Definitions only; assumes nothing.
-use Rattle.std.specs.Prelude.{ℕ, suc, ◌+◌, ◌*◌, ◌/◌, ◌%◌, ◌≡◌, Bool, ◌&&◌, ◌||◌, cond, List, [], ◌∷◌, length, get_or, eqb, leb}
-use Rattle.std.specs.Prelude.{Option}
+use Rattle.std.specs.Prelude.{ℕ, suc, ◌+◌, ◌*◌, ◌/◌, ◌%◌, ◌≡◌, Bool, ◌&&◌, ◌||◌, cond, List, [], ◌∷◌, length, get_or, eqb, leb, Option}
 use Rattle.definitions.specs.Limits.{numbers_per_pair}
 use Rattle.definitions.specs.Scan.{any_below_lem, gather}
 use Rattle.definitions.specs.Lists.{overwrite}

@@ -1,9 +1,8 @@
 -- What follows of a call that met its contract (`Played`) and was accepted: its regions are those of the kept graph, its rows the pass's (`played-regions`,
 -- `played-rows`), and each entry of the lent verdicts is the one over all ways of play (`played-entries`). Nothing is assumed of the lists that the call fills.
-use Rattle.std.specs.Prelude.{ℕ, ◌/◌, ◌≡◌, ◌&&◌, List, [], ◌∷◌, ◌++◌, leb}
+use Rattle.std.specs.Prelude.{ℕ, ◌/◌, ◌≡◌, ◌&&◌, List, [], ◌∷◌, ◌++◌, leb, Option, None}
 use Rattle.std.proofs.Common.{arith, sym, ◌∙◌}
 use Rattle.std.proofs.Math.Path.{ap}
-use Rattle.std.specs.Prelude.{Option, None}
 use Rattle.std.proofs.Math.ListN.{length, drop}
 use Rattle.definitions.specs.Limits.{numbers_per_span, numbers_per_boundary, numbers_per_anchor}
 use Rattle.definitions.specs.Partition.{region_count}

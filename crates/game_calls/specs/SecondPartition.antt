@@ -1,10 +1,9 @@
 -- Of a map whose spans and boundaries are one list: the second partition has no more spans, pairs and regions than the first (`second-fewer`), so that 11 and 12
 -- cannot come of it (`second-records`, `second-pairs`). The argument: its boundaries are those that a pass of a run to rest leaves (`numbers-passed`), of which
 -- this is known (FewerPairs of `rest`). Assumes that no check of a pass refuses the call, and that 16 does not.
-use Rattle.std.specs.Prelude.{ℕ, ◌*◌, ◌/◌, ◌≤◌, ◌<◌, max, ◌≡◌, refl, Bool, true, false, not, ◌&&◌, get_or, ltb, leb}
+use Rattle.std.specs.Prelude.{ℕ, ◌*◌, ◌/◌, ◌≤◌, ◌<◌, max, ◌≡◌, refl, Bool, true, false, not, ◌&&◌, get_or, ltb, leb, None}
 use Rattle.std.proofs.Common.{arith, ◌∙◌}
 use Rattle.std.proofs.Math.Path.{sym, ap, ap₂, subst}
-use Rattle.std.specs.Prelude.{None}
 use mathlib.Core.List.{List, map, map-map}
 use Rattle.std.proofs.Math.ListN.{length}
 use borrow.Author.Tests.{ltb-true, ltb-false, leb-true, le-leb}

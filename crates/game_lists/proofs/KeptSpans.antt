@@ -28,7 +28,7 @@ use Rattle.laws.specs.ListLaws.Tests.{both}
 use Rattle.laws.specs.TableLaws.KeptRows.{collect-few}
 use Rattle.laws.specs.TableLaws.AcceptedCalls.{Accepted, fits-parts}
 use Rattle.cut_steps.specs.Prefixes.{concat-append, concat_map_lem, gather_ext}
-use Rattle.areas.proofs.Chain.{next}
+use Rattle.refusals.proofs.Steps.{next}
 use Rattle.call_partition.specs.Early.{sizes_refusal, entries_refusal, early_refusal}
 use Rattle.rest_definitions.specs.RowOrder.{map_with}
 use Rattle.rest_definitions.specs.Rest.{kept_map}

@@ -12,7 +12,7 @@ use Rattle.definitions.specs.Refusals.{unless}
 use Rattle.definitions.specs.Verdict.{refusal}
 use Rattle.laws.specs.ListLaws.NoFault.{or_else_none}
 use Rattle.cut_steps.specs.Prefixes.{gather_ext}
-use Rattle.areas.proofs.Chain.{next}
+use Rattle.refusals.proofs.Steps.{next}
 use Rattle.call_partition.specs.Early.{sizes_refusal, early_refusal}
 use Rattle.game.specs.Graph.{verdicts_room, edges_in}
 use Rattle.game_lists.specs.Early.{game_early}

@@ -44,15 +44,7 @@ pub fn center_of(boundaries: &[u64], i: usize) -> Point
     requires { Placed boundaries.now i }
     ensures { point_form result ≡ center (segment_at boundaries.now (numbers_per_boundary * i)) }
 {
-    let k = NUMBERS_PER_BOUNDARY * i;
-    let a = PixelPosition {
-        x: boundaries[k],
-        y: boundaries[k + 1],
-    };
-    let b = PixelPosition {
-        x: boundaries[k + 2],
-        y: boundaries[k + 3],
-    };
+    let Segment { a, b } = segment_of(boundaries, i);
     center(a, b)
 }
 

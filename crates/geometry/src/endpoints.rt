@@ -24,10 +24,5 @@ pub fn canonical(s: Segment) -> Segment
 pub fn precedes(s: Segment, t: Segment) -> bool
     ensures { result ≡ list_lt (endpoints_key (segment_form s)) (endpoints_key (segment_form t)) }
 {
-    let left = canonical(s);
-    let right = canonical(t);
-    span_geometry::precedes(left.a, right.a)
-        | ((left.a.x == right.a.x)
-            & (left.a.y == right.a.y)
-            & span_geometry::precedes(left.b, right.b))
+    canonical(s) < canonical(t)
 }

@@ -19,8 +19,8 @@ pub struct Point {
     pub y: f64,
 }
 
-// The endpoints of a boundary.
-#[derive(Clone, Copy)]
+// The endpoints of a boundary. Segments compare by the first, then the second.
+#[derive(Clone, Copy, PartialEq, Eq, PartialOrd, Ord)]
 pub struct Segment {
     pub a: PixelPosition,
     pub b: PixelPosition,

@@ -5,7 +5,7 @@ ghost use Rattle.definitions.specs.Hypotenuse.{hypot_value};
 ghost use Rattle.definitions.specs.RampGeometry.{difference, fabs, fmin, fmax, signum};
 ghost use Rattle.span_geometry.specs.Shapes.{max_pixel};
 
-use hypotenuse::{Answer, hypotenuse};
+use hypotenuse::hypotenuse;
 use span_geometry::numbers::{is_zero, not_negative};
 
 // `f64::from`
@@ -59,10 +59,7 @@ pub fn clamp01(t: f64) -> f64
 pub fn hypot(x: f64, y: f64) -> f64
     ensures { result ≡ hypot_value x y }
 {
-    match hypotenuse(x, y) {
-        Answer::Root(value) => value,
-        Answer::Refused => 0.0,
-    }
+    hypotenuse(x, y).unwrap_or(0.0)
 }
 
 // `signum`, moved by 1.

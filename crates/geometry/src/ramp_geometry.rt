@@ -162,10 +162,7 @@ pub fn overlapping_ramp_representative(candidate: Segment, ramp: Segment) -> boo
     let t = canonical(ramp);
     let ramp_length = length(t);
     let candidate_length = length(s);
-    if ramp_length == 0.0 {
-        return false;
-    }
-    if candidate_length == 0.0 {
+    if ramp_length == 0.0 || candidate_length == 0.0 {
         return false;
     }
     if cosine(t, s, ramp_length * candidate_length) < MIN_PARALLEL_COSINE {

@@ -7,10 +7,10 @@ use Rattle.std.specs.Float.Ieee.{to_bits}
 use Rattle.definitions.specs.Hypotenuse.{in_range, sum_of_squares}
 use Rattle.definitions.specs.Nearest.{Nearest}
 use Rattle.laws.specs.FloatLaws.Hypotenuse.{hypot_of-nearest}
-use Rattle.hypotenuse.specs.declared.Answer.{Answer}
+use Rattle.std.specs.Prelude.{Option}
 use Rattle.hypotenuse.specs.Contract.{number_of, value_of, Allowed, root-in_range}
 
-pub root-nearest : (x y : Float) (r : Answer) → in_range x ≡ true → in_range y ≡ true → Allowed x y r
+pub root-nearest : (x y : Float) (r : Option Float) → in_range x ≡ true → in_range y ≡ true → Allowed x y r
     → (number_of r ≡ 0) × Nearest (sum_of_squares x y) (to_bits binary64 (value_of r))
 root-nearest x y r p q h =
-    subst (λ (s : Answer). (number_of s ≡ 0) × Nearest (sum_of_squares x y) (to_bits binary64 (value_of s))) (sym (root-in_range x y r p q h)) (refl, hypot_of-nearest x y p q)
+    subst (λ (s : Option Float). (number_of s ≡ 0) × Nearest (sum_of_squares x y) (to_bits binary64 (value_of s))) (sym (root-in_range x y r p q h)) (refl, hypot_of-nearest x y p q)

@@ -11,22 +11,15 @@ mod root;
 mod short;
 mod wide;
 
-#[derive(Clone, Copy)]
-pub enum Answer {
-    Root(f64),
-    Refused,
-}
-
-// The hypotenuse of x and y, whatever their signs; refused where one of them is a NaN, or not zero and not of a magnitude from 2^-64 to 2^15. The hypotenuse of zeros is +0.
-pub fn hypotenuse(x: f64, y: f64) -> Answer
+// The hypotenuse of x and y, whatever their signs; none where one of them is a NaN, or not zero and not of a magnitude from 2^-64 to 2^15. The hypotenuse of zeros is +0.
+pub fn hypotenuse(x: f64, y: f64) -> Option<f64>
     ensures { (number_of result ≡ hypot_number x y) × (value_of result ≡ hypot_value x y) }
 {
     let a = patterns::bits_of(x);
     let b = patterns::bits_of(y);
-    if patterns::in_range(a) {
-        if patterns::in_range(b) {
-            return Answer::Root(f64::from_bits(patterns::hypotenuse_pattern(a, b)));
-        }
+    if patterns::in_range(a) && patterns::in_range(b) {
+        Some(f64::from_bits(patterns::hypotenuse_pattern(a, b)))
+    } else {
+        None
     }
-    Answer::Refused
 }

@@ -39,13 +39,7 @@ pub fn bits_of(x: f64) -> u64
 pub fn in_range(b: u64) -> bool
     ensures { result ≡ pattern_in_range b }
 {
-    if b == 0 {
-        return true;
-    }
-    if b < LEAST {
-        return false;
-    }
-    b <= MOST
+    b == 0 || (LEAST <= b && b <= MOST)
 }
 
 // A guess at twice the root of the two doubles' squares, in units of the last place of the larger, by two of Halley's steps in floats. All that is claimed of it is its size.
@@ -59,10 +53,7 @@ fn guess(larger: u64, smaller: u64) -> u64
     // The larger of two lines is within 3 in 100 of the root.
     let a = x + y * 0.125;
     let b = x * 0.875 + y * 0.53;
-    let mut first = a;
-    if a < b {
-        first = b;
-    }
+    let first = if a < b { b } else { a };
     let p = first * first;
     let second = first * (p + 3.0 * s) / (3.0 * p + s);
     let q = second * second;
@@ -89,11 +80,7 @@ fn rounded_pattern(k: u64, t: u64, extra: u64) -> u64
     requires { (2 ^ 53 ≤ t) × (t < 2 ^ 55) × (k < 1040) }
     ensures { (t < 2 ^ 54 → Rounded k (t / 2) (t % 2) 1 extra result) × (2 ^ 54 ≤ t → Rounded (k + 1) (t / 4) (t % 4) 2 extra result) }
 {
-    let mut more = 0;
-    if extra > 0 {
-        more = 1;
-    }
-    let digits = 2 * t + more;
+    let digits = 2 * t + u64::from(extra > 0);
     if t < LONG_ROOT {
         k * LEADING + (digits + 1 + t / 2 % 2) / 4
     } else {
@@ -129,8 +116,7 @@ fn root_pattern(larger: u64, smaller: u64) -> u64
     if gap > MAX_GAP {
         return larger;
     }
-    let short = short_root(larger, smaller);
-    if short > 0 {
+    if let Some(short) = short_root(larger, smaller) {
         return short;
     }
     let start = guess(larger, smaller);
@@ -149,11 +135,5 @@ pub fn hypotenuse_pattern(a: u64, b: u64) -> u64
     requires b_in_range { T (pattern_in_range b) }
     ensures { (of_bits binary64 result ≡ root_of (pattern_magnitude a * pattern_magnitude a + pattern_magnitude b * pattern_magnitude b)) × (result < 2047 * 2 ^ 52) }
 {
-    let mut larger = a;
-    let mut smaller = b;
-    if a < b {
-        larger = b;
-        smaller = a;
-    }
-    root_pattern(larger, smaller)
+    root_pattern(a.max(b), a.min(b))
 }

@@ -1,6 +1,6 @@
-// Roots of doubles of at most 17 digits, as half pixels have: a guess in floats is checked in whole numbers, and put right by one where it must be. Each function answers 0 where it has
+// Roots of doubles of at most 17 digits, as half pixels have: a guess in floats is checked in whole numbers, and put right by one where it must be. Each function answers `None` where it has
 // no root, so that nothing is claimed of floats.
-ghost use Rattle.std.specs.Prelude.{◌≡◌, ◌+◌, ◌-◌, ◌*◌, ◌/◌, ◌%◌, ◌<◌, ◌≤◌, ◌^◌};
+ghost use Rattle.std.specs.Prelude.{◌≡◌, ◌+◌, ◌-◌, ◌*◌, ◌/◌, ◌%◌, ◌<◌, ◌≤◌, ◌^◌, IfSome};
 ghost use Rattle.std.specs.Float.{binary64};
 ghost use Rattle.std.specs.Float.Ieee.{of_bits};
 ghost use Rattle.definitions.specs.Hypotenuse.{root_of};
@@ -21,14 +21,14 @@ const LIMIT: u64 = 17179869184;
 const START: u64 = 6908488151547772928;
 
 // A guess at the pattern of the root of the two doubles' squares: one divided by the root by two of Newton's steps, and from that the root by a step of the third order. Nothing is claimed of it.
-fn guess(larger: u64, smaller: u64) -> u64
+fn guess(larger: u64, smaller: u64) -> Option<u64>
     requires { (larger ≤ 1038 * 2 ^ 52) × (smaller ≤ 1038 * 2 ^ 52) }
 {
     let x = f64::from_bits(larger);
     let y = f64::from_bits(smaller);
     let s = x * x + y * y;
     if s != s {
-        return 0;
+        return None;
     }
     let a = f64::from_bits(START - f64::to_bits(s) % SIGN / 2);
     let b = a * (1.621486 - s * (a * a));
@@ -37,39 +37,23 @@ fn guess(larger: u64, smaller: u64) -> u64
     let d = 1.0 - r * c;
     let near = r + r * d * (0.5 + 0.375 * d);
     if near != near {
-        return 0;
+        return None;
     }
-    f64::to_bits(near)
+    Some(f64::to_bits(near))
 }
 
 // How far b * b is below n + b, for n = m * 2^44, where b is near the root of n. With b of two digits, high and low, what is left of each column is passed down to the next.
-fn excess(m: u64, b: u64) -> u64
+fn excess(m: u64, b: u64) -> Option<u64>
     requires { b < 2 ^ 53 }
-    ensures { 0 < result → b * b + result ≡ m * 2 ^ 44 + b }
+    ensures { IfSome result (λ e. b * b + e ≡ m * 2 ^ 44 + b) }
 {
     let high = b / COLUMN;
     let low = b % COLUMN;
-    let first = high * high;
-    if m < first {
-        return 0;
-    }
-    if m - first >= LIMIT {
-        return 0;
-    }
-    let second = (m - first) * COLUMN + high;
-    let cross = 2 * (high * low);
-    if second < cross {
-        return 0;
-    }
-    if second - cross >= LIMIT {
-        return 0;
-    }
-    let third = (second - cross) * COLUMN + low;
-    let last = low * low;
-    if third < last {
-        return 0;
-    }
-    third - last
+    let first = m.checked_sub(high * high).filter(|&left| left < LIMIT)?;
+    let second = (first * COLUMN + high)
+        .checked_sub(2 * (high * low))
+        .filter(|&left| left < LIMIT)?;
+    (second * COLUMN + low).checked_sub(low * low)
 }
 
 // How many steps by one lead from b to the whole number nearest to the root, by the excess e over b * b.
@@ -77,36 +61,22 @@ fn steps(b: u64, e: u64) -> u64
     requires { b < 2 ^ 53 }
     ensures { Steps b e result }
 {
-    let mut one = 0;
-    if e > 2 * b {
-        one = 1;
-    }
-    let mut two = 0;
-    if e > 4 * b + 2 {
-        two = 1;
-    }
-    one + two
+    u64::from(e > 2 * b) + u64::from(e > 4 * b + 2)
 }
 
 // The whole number nearest to the root of m * 2^44, where that is 2^52 + fraction, or one more or less.
-fn nearest_root(m: u64, fraction: u64) -> u64
-    ensures { 0 < result → NearestWhole (m * 2 ^ 44) result }
+fn nearest_root(m: u64, fraction: u64) -> Option<u64>
+    ensures { IfSome result (NearestWhole (m * 2 ^ 44)) }
 {
-    if fraction < 2 {
-        return 0;
-    }
-    if fraction > LEADING - 2 {
-        return 0;
+    if fraction < 2 || fraction > LEADING - 2 {
+        return None;
     }
     let b = fraction + (LEADING - 1);
-    let e = excess(m, b);
-    if e == 0 {
-        return 0;
+    let e = excess(m, b)?;
+    if e == 0 || e > 6 * b + 6 {
+        return None;
     }
-    if e > 6 * b + 6 {
-        return 0;
-    }
-    b + steps(b, e)
+    Some(b + steps(b, e))
 }
 
 // The sum of the two doubles' squares. The unit is 2^44 squares of the last place of a double whose exponent is that of the smaller and `up` more.
@@ -121,29 +91,23 @@ fn squares(larger: u64, smaller: u64, up: u64) -> u64
 }
 
 // The pattern of the double nearest to the root of two patterns' squares, where both have 17 digits at most and the root's exponent is at most 14 above that of the smaller.
-pub fn short_root(larger: u64, smaller: u64) -> u64
+pub fn short_root(larger: u64, smaller: u64) -> Option<u64>
     requires { (2 ^ 52 ≤ smaller) × (smaller ≤ larger) × (larger ≤ 1038 * 2 ^ 52) }
-    ensures { 0 < result → (of_bits binary64 result ≡ root_of (pattern_magnitude larger * pattern_magnitude larger
-        + pattern_magnitude smaller * pattern_magnitude smaller)) × (result < 2047 * 2 ^ 52) }
+    ensures { IfSome result (λ r. (of_bits binary64 r ≡ root_of (pattern_magnitude larger * pattern_magnitude larger
+        + pattern_magnitude smaller * pattern_magnitude smaller)) × (r < 2047 * 2 ^ 52)) }
 {
-    if larger % LAST_PLACE > 0 {
-        return 0;
+    if larger % LAST_PLACE > 0 || smaller % LAST_PLACE > 0 {
+        return None;
     }
-    if smaller % LAST_PLACE > 0 {
-        return 0;
-    }
-    let near = guess(larger, smaller);
+    let near = guess(larger, smaller)?;
     let top = near / LEADING;
     if top < larger / LEADING {
-        return 0;
+        return None;
     }
     let up = top - smaller / LEADING;
     if up > 14 {
-        return 0;
+        return None;
     }
-    let root = nearest_root(squares(larger, smaller, up), near % LEADING);
-    if root == 0 {
-        return 0;
-    }
-    (top - 1) * LEADING + root
+    let root = nearest_root(squares(larger, smaller, up), near % LEADING)?;
+    Some((top - 1) * LEADING + root)
 }

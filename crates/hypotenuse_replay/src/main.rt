@@ -9,7 +9,6 @@ ghost use Rattle.std.specs.Float.Ieee.{of_bits};
 ghost use Rattle.definitions.specs.Scan.{bit};
 ghost use Rattle.hypotenuse_replay.specs.Lines.{digit_of, digits_after, number_of_bits, root_of_bits, is_answer_line, lines_in, answers_in};
 
-use hypotenuse::Answer;
 use std::io;
 use std::io::{Read, Write};
 use streams::{read_full, write_bytes, write_decimal};
@@ -81,11 +80,11 @@ fn answer_of(x: u64, y: u64) -> Stored
     ensures { (result.number ≡ number_of_bits x y) × (result.root ≡ root_of_bits x y) }
 {
     match hypotenuse::hypotenuse(double(x), double(y)) {
-        Answer::Root(value) => Stored {
+        Some(value) => Stored {
             number: 0,
             root: f64::to_bits(value),
         },
-        Answer::Refused => Stored {
+        None => Stored {
             number: 13,
             root: 0,
         },

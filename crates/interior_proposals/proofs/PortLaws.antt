@@ -2,17 +2,29 @@
 use Prim.Native.Nat.{ℕ, zero, suc, ◌+◌, ◌≤◌, ◌<◌}
 use native.Mathlib.Omega.{arith}
 use native.Mathlib.Numerals.{add-one}
-use lib.Arith.{lt_of_le-ne}
 use mathlib.Core.Path.{◌≡◌, refl, sym, ap, ap₂, ◌∙◌}
 use mathlib.Core.Bool.{Bool, true, false}
 use mathlib.Core.Logic.{⊎_elim}
 use mathlib.Core.List.{List, [], ◌∷◌, ◌++◌, append-nil, append_assoc}
+use Rattle.std.specs.Prelude.{Option, None, Some, MatchOption}
 use Rattle.definitions.specs.Scan.{collect, to_list, only_if}
 use Rattle.definitions.specs.Context.{Context}
 use Rattle.definitions.specs.RampInteriors.{components, component_ports}
 use Rattle.laws.specs.NumberLaws.Comparisons.{last_or}
-use Rattle.interior_proposals.specs.Candidates.{port, NextPort, two_ports}
-use Rattle.interior_proposals.specs.declared.ports.Ports.TheVariants as ports
+use Rattle.interior_proposals.specs.declared.ports.Ports.{Ports}
+use Rattle.interior_proposals.specs.Candidates.{port, NoPort, PortFrom, NextPort, both_ports, two_ports}
+
+-- ---- ports that are the same
+
+port_of : (Ports → ℕ) → Option Ports → ℕ
+port_of f None = 0
+port_of f (Some p) = f p
+
+pub same_ports : {a b x y : ℕ} → both_ports a b ≡ both_ports x y → (a ≡ x) × (b ≡ y)
+unfolding port_of
+same_ports e = (ap (port_of (λ p. p.first)) e, ap (port_of (λ p. p.second)) e)
+
+-- ---- all that are found
 
 module _ (p : ℕ → Bool) where
   abbrev picked : ℕ → List ℕ
@@ -57,41 +69,31 @@ module _ (C : Context) (r : ℕ) where
   all_is e = ap (picked (port C r)) e
 
   module _ {count : ℕ} (e : C.count ≡ count) where
-    module _ {a : ℕ} (A : NextPort C r count 0 a) where
-      first_none : a ≡ count → all_found ≡ []
+    -- what `find` gives, where the test is told of boundaries of C alone
+    pub next_found : (first : ℕ) (found : Option ℕ) → MatchOption found ((k : ℕ) → first ≤ k → k < count → k < C.count → port C r k ≡ false) (λ i. (first ≤ i) × (i < count) × (i < C.count → port C r i ≡ true) × ((k : ℕ) → first ≤ k → k < i → k < C.count → port C r k ≡ false)) → NextPort C r count first found
+    next_found first None h = λ k a b. h k a b (omega arith)
+    next_found first (Some i) (a, b, p, h) = (a, b, p (omega arith), λ k c d. h k c d (omega arith))
+
+    pub ports_none : NoPort C r 0 count → None ≡ two_ports all_found
+    unfolding collect
+    ports_none N = sym (ap two_ports (all_is e ∙ picked-skip (port C r) count 0 (omega arith) N))
+
+    module _ {a : ℕ} (A : PortFrom C r count 0 a) where
+      upto-a : picked (port C r) (a + 1) ≡ a ∷ []
       unfolding collect
-      first_none q = all_is e ∙ picked-skip (port C r) count 0 (omega arith) (λ j h l. A.before j h (omega arith))
+      upto-a = picked_one (port C r) a A.2 ∙ ap (λ l. l ++ (a ∷ [])) (picked-skip (port C r) a 0 (omega arith) A.3)
 
-      pub ports_none : a ≡ count → ports.Other ≡ two_ports all_found
-      ports_none q = sym (ap two_ports (first_none q))
+      pub ports_one : NoPort C r (a + 1) count → None ≡ two_ports all_found
+      ports_one N = sym (ap two_ports (all_is e ∙ picked-skip (port C r) count (a + 1) (omega (arith, A.1)) N ∙ upto-a))
 
-      module _ (n : a ≡ count → ⊥) where
-        in_a : a < count
-        in_a = lt_of_le-ne A.upto n
+      module _ {b : ℕ} (B : PortFrom C r count (a + 1) b) where
+        upto-b : picked (port C r) (b + 1) ≡ a ∷ b ∷ []
+        upto-b = picked_one (port C r) b B.2 ∙ ap (λ l. l ++ (b ∷ [])) (picked-skip (port C r) b (a + 1) B.0 B.3 ∙ upto-a)
 
-        upto-a : picked (port C r) (a + 1) ≡ a ∷ []
-        unfolding collect
-        upto-a = picked_one (port C r) a (A.found in_a) ∙ ap (λ l. l ++ (a ∷ [])) (picked-skip (port C r) a 0 (omega arith) A.before)
+        pub ports_two : NoPort C r (b + 1) count → both_ports a b ≡ two_ports all_found
+        ports_two N = sym (ap two_ports (all_is e ∙ picked-skip (port C r) count (b + 1) (omega (arith, B.1)) N ∙ upto-b))
 
-        module _ {b : ℕ} (B : NextPort C r count (a + 1) b) where
-          pub ports_one : b ≡ count → ports.Other ≡ two_ports all_found
-          ports_one q = sym (ap two_ports (all_is e ∙ picked-skip (port C r) count (a + 1) (omega (arith, in_a)) (λ j h l. B.before j h (omega arith)) ∙ upto-a))
-
-          module _ (m : b ≡ count → ⊥) where
-            in_b : b < count
-            in_b = lt_of_le-ne B.upto m
-
-            upto-b : picked (port C r) (b + 1) ≡ a ∷ b ∷ []
-            upto-b = picked_one (port C r) b (B.found in_b) ∙ ap (λ l. l ++ (b ∷ [])) (picked-skip (port C r) b (a + 1) B.rising B.before ∙ upto-a)
-
-            module _ {d : ℕ} (D : NextPort C r count (b + 1) d) where
-              pub ports_two : d ≡ count → ports.Two a b ≡ two_ports all_found
-              ports_two q = sym (ap two_ports (all_is e ∙ picked-skip (port C r) count (b + 1) (omega (arith, in_b)) (λ j h l. D.before j h (omega arith)) ∙ upto-b))
-
-              pub ports_more : (d ≡ count → ⊥) → ports.Other ≡ two_ports all_found
-              ports_more q =
-                  let rest = picked-rest (port C r) count (d + 1) (omega (arith, in_d)) in
-                  sym (ap two_ports (all_is e ∙ rest.1 ∙ ap (λ l. l ++ rest.0) (picked_one (port C r) d (D.found in_d) ∙ ap (λ l. l ++ (d ∷ [])) (picked-skip (port C r) d (b + 1) D.rising D.before ∙ upto-b))))
-                where
-                  in_d : d < count
-                  in_d = lt_of_le-ne D.upto q
+        pub ports_more : {d : ℕ} → PortFrom C r count (b + 1) d → None ≡ two_ports all_found
+        ports_more {d} D =
+            let rest = picked-rest (port C r) count (d + 1) (omega (arith, D.1)) in
+            sym (ap two_ports (all_is e ∙ rest.1 ∙ ap (λ l. l ++ rest.0) (picked_one (port C r) d D.2 ∙ ap (λ l. l ++ (d ∷ [])) (picked-skip (port C r) d (b + 1) D.0 D.3 ∙ upto-b))))

@@ -8,6 +8,7 @@ use mathlib.Core.List.{List, [], ◌∷◌}
 use lib.ListN.{length, get_or, set}
 use lib.Dec.{eqb}
 use borrow.Author.Tests.{eq-eqb, ne_eqb, eqb-false, not-true}
+use Rattle.std.specs.Prelude.{Option, None}
 use Rattle.definitions.specs.Scan.{any_below_lem, member}
 use Rattle.definitions.specs.Context.{Context}
 use Rattle.definitions.specs.RampInteriors.{components, component_ports, ports_fit}
@@ -19,11 +20,11 @@ use Rattle.laws.specs.RustInteriors.ComponentRegions.{inside}
 use Rattle.laws.specs.ListLaws.Beyond.{beyond_same, beyond-then}
 use Rattle.laws.specs.NumberLaws.Comparisons.{last_or}
 use Rattle.interior_proposals.specs.Owners.{several, all_in_lem, edge, Owners}
-use Rattle.interior_proposals.specs.Candidates.{Told, candidate}
+use Rattle.interior_proposals.specs.Candidates.{Told, candidate, both_ports}
 use Rattle.interior_proposals.specs.Leaves.{Inside}
-use Rattle.interior_proposals.specs.Proposals.{expanded_of, fitting_ports, proposed_ports, Facing, Leafed, Proposed, is_first, first_of, second_of, found_ports, Progress, Owning, FoundAll}
+use Rattle.interior_proposals.specs.Proposals.{expanded_of, fitting_ports, proposed_ports, Facing, Leafed, Proposed, is_first, found_ports, Progress, Owning, FoundAll}
 use Rattle.interior_proposals.specs.declared.ports.Ports.{Ports}
-use Rattle.interior_proposals.specs.declared.ports.Ports.TheVariants as ports
+use Rattle.interior_proposals.proofs.PortLaws.{same_ports}
 use Rattle.interior_proposals.proofs.Stored.{filled_more}
 use Rattle.interior_proposals.proofs.NoConflict.{Fit, regions-apart, loose_edge}
 use Rattle.interior_proposals.proofs.Removed.{fit_of}
@@ -61,39 +62,40 @@ module _ {C : Context} (owners : List ℕ) (O : Owners C owners) (i : ℕ) (l : 
 
 -- ---- two ports that were found
 
-other_two : {a b : ℕ} → ports.Other ≡ ports.Two a b → ⊥
+other_two : {a b : ℕ} → None ≡ both_ports a b → ⊥
 other_two e =
     let z : ◌≡◌ {A = ℕ} 0 1 = cc in
     omega arith
 
-two_found : (C : Context) (r : ℕ) {a b : ℕ} (l : List ℕ) → fitting_ports C r l ≡ ports.Two a b → (l ≡ a ∷ b ∷ []) × ((ports_fit C a b ≡ true) × ((expanded_of C r a b).valid ≡ true))
+two_found : (C : Context) (r : ℕ) {a b : ℕ} (l : List ℕ) → fitting_ports C r l ≡ both_ports a b → (l ≡ a ∷ b ∷ []) × ((ports_fit C a b ≡ true) × ((expanded_of C r a b).valid ≡ true))
 unfolding fitting_ports
 two_found C r [] e = absurd (other_two e)
 two_found C r (x ∷ []) e = absurd (other_two e)
 two_found C r (x ∷ y ∷ z ∷ l) e = absurd (other_two e)
 two_found C r {a} {b} (x ∷ y ∷ []) e = go (ports_fit C x y) refl (expanded_of C r x y).valid refl e
   where
-    go : (f : Bool) → ports_fit C x y ≡ f → (v : Bool) → (expanded_of C r x y).valid ≡ v → cond (f && v) (ports.Two x y) ports.Other ≡ ports.Two a b → (◌≡◌ {A = List ℕ} (x ∷ y ∷ []) (a ∷ b ∷ [])) × ((ports_fit C a b ≡ true) × ((expanded_of C r a b).valid ≡ true))
+    go : (f : Bool) → ports_fit C x y ≡ f → (v : Bool) → (expanded_of C r x y).valid ≡ v → cond (f && v) (both_ports x y) None ≡ both_ports a b → (◌≡◌ {A = List ℕ} (x ∷ y ∷ []) (a ∷ b ∷ [])) × ((ports_fit C a b ≡ true) × ((expanded_of C r a b).valid ≡ true))
     go false q v u k = absurd (other_two k)
     go true q false u k = absurd (other_two k)
     go true q true u k =
-        let d : x ≡ a = cc in
-        let c : y ≡ b = cc in
-        (cc, (sym (ap₂ (ports_fit C) d c) ∙ q, sym (ap₂ (λ m n. (expanded_of C r m n).valid) d c) ∙ u))
+        let s = same_ports k in
+        let d = s.0 in
+        let c = s.1 in
+        (ap₂ (λ m n. m ∷ n ∷ []) d c, (sym (ap₂ (ports_fit C) d c) ∙ q, sym (ap₂ (λ m n. (expanded_of C r m n).valid) d c) ∙ u))
 
-pub proposed_two : (C : Context) (r : ℕ) {a b : ℕ} → proposed_ports C r ≡ ports.Two a b → (candidate C r ≡ true) × ((component_ports C (components C) r ≡ a ∷ b ∷ []) × ((ports_fit C a b ≡ true) × ((expanded_of C r a b).valid ≡ true)))
+pub proposed_two : (C : Context) (r : ℕ) {a b : ℕ} → proposed_ports C r ≡ both_ports a b → (candidate C r ≡ true) × ((component_ports C (components C) r ≡ a ∷ b ∷ []) × ((ports_fit C a b ≡ true) × ((expanded_of C r a b).valid ≡ true)))
 unfolding proposed_ports
 proposed_two C r {a} {b} e = go (candidate C r) refl e
   where
-    go : (t : Bool) → candidate C r ≡ t → cond t (fitting_ports C r (component_ports C (components C) r)) ports.Other ≡ ports.Two a b → (candidate C r ≡ true) × ((component_ports C (components C) r ≡ a ∷ b ∷ []) × ((ports_fit C a b ≡ true) × ((expanded_of C r a b).valid ≡ true)))
+    go : (t : Bool) → candidate C r ≡ t → cond t (fitting_ports C r (component_ports C (components C) r)) None ≡ both_ports a b → (candidate C r ≡ true) × ((component_ports C (components C) r ≡ a ∷ b ∷ []) × ((ports_fit C a b ≡ true) × ((expanded_of C r a b).valid ≡ true)))
     go true c k = (c, two_found C r (component_ports C (components C) r) k)
     go false c k = absurd (other_two k)
 
-pub found_first : (C : Context) (owners : List ℕ) (i : ℕ) {a b : ℕ} → found_ports C owners i ≡ ports.Two a b → (is_first owners i ≡ true) × (proposed_ports C (get_or owners i 0) ≡ ports.Two a b)
+pub found_first : (C : Context) (owners : List ℕ) (i : ℕ) {a b : ℕ} → found_ports C owners i ≡ both_ports a b → (is_first owners i ≡ true) × (proposed_ports C (get_or owners i 0) ≡ both_ports a b)
 unfolding found_ports
 found_first C owners i {a} {b} e = go (is_first owners i) refl e
   where
-    go : (t : Bool) → is_first owners i ≡ t → cond t (proposed_ports C (get_or owners i 0)) ports.Other ≡ ports.Two a b → (is_first owners i ≡ true) × (proposed_ports C (get_or owners i 0) ≡ ports.Two a b)
+    go : (t : Bool) → is_first owners i ≡ t → cond t (proposed_ports C (get_or owners i 0)) None ≡ both_ports a b → (is_first owners i ≡ true) × (proposed_ports C (get_or owners i 0) ≡ both_ports a b)
     go true c k = (c, k)
     go false c k = absurd (other_two k)
 
@@ -117,7 +119,7 @@ module _ {C : Context} {owners was names wasMarks marks : List ℕ} (S : Sound C
         cleared = P.cleared;
       }
 
-  module _ (h : is_first owners i ≡ true) {now nowMarks : List ℕ} {x : Ports} (Q : Proposed C (get_or owners i 0) names now marks nowMarks x) where
+  module _ (h : is_first owners i ≡ true) {now nowMarks : List ℕ} {x : Option Ports} (Q : Proposed C (get_or owners i 0) names now marks nowMarks x) where
     abbrev r : ℕ
     r = get_or owners i 0
 
@@ -213,19 +215,16 @@ module _ {C : Context} {boundaries tallies pairs starts names marks owners was w
         owned = W.owned;
       }
 
-  pub found-proposed : {now nowMarks : List ℕ} {x : Ports} → t ≡ true → Proposed C (get_or owners i 0) names now marks nowMarks x → Progress C owners was now wasMarks nowMarks (i + 1) × (x ≡ found_ports C owners i)
+  pub found-proposed : {now nowMarks : List ℕ} {x : Option Ports} → t ≡ true → Proposed C (get_or owners i 0) names now marks nowMarks x → Progress C owners was now wasMarks nowMarks (i + 1) × (x ≡ found_ports C owners i)
   unfolding found_ports
-  found-proposed h Q = (progress_first W.given.sound W.owned i l P (sym e ∙ h) Q, Q.result ∙ sym (ap (λ b. cond b (proposed_ports C (get_or owners i 0)) ports.Other) (sym e ∙ h)))
+  found-proposed h Q = (progress_first W.given.sound W.owned i l P (sym e ∙ h) Q, Q.result ∙ sym (ap (λ b. cond b (proposed_ports C (get_or owners i 0)) None) (sym e ∙ h)))
 
-  pub found_nothing : t ≡ false → Progress C owners was names wasMarks marks (i + 1) × (ports.Other ≡ found_ports C owners i)
+  pub found_nothing : t ≡ false → Progress C owners was names wasMarks marks (i + 1) × (None ≡ found_ports C owners i)
   unfolding found_ports
-  found_nothing h = (progress-other W.given.sound W.owned i l P (sym e ∙ h), sym (ap (λ b. cond b (proposed_ports C (get_or owners i 0)) ports.Other) (sym e ∙ h)))
+  found_nothing h = (progress-other W.given.sound W.owned i l P (sym e ∙ h), sym (ap (λ b. cond b (proposed_ports C (get_or owners i 0)) None) (sym e ∙ h)))
 
 -- one boundary's ports are stored
-pub found_more : (C : Context) (owners firsts seconds : List ℕ) (i : ℕ) {a b : ℕ} {x : Ports} → FoundAll C owners firsts seconds i → i < length firsts → i < length seconds → a ≡ first_of x → b ≡ second_of x → x ≡ found_ports C owners i → FoundAll C owners (set firsts i a) (set seconds i b) (i + 1)
-found_more C owners firsts seconds i F k l d e q j m = (
-  filled_more (λ o n. n ≡ first_of (found_ports C owners o)) firsts (λ o h. (F o h).0) k (d ∙ ap first_of q) j m,
-  filled_more (λ o n. n ≡ second_of (found_ports C owners o)) seconds (λ o h. (F o h).1) l (e ∙ ap second_of q) j m,
-)
+pub found_more : (C : Context) (owners : List ℕ) (found : List (Option Ports)) (i : ℕ) {x : Option Ports} → FoundAll C owners found i → i < length found → x ≡ found_ports C owners i → FoundAll C owners (set found i x) (i + 1)
+found_more C owners found i F l e = filled_more (λ o p. p ≡ found_ports C owners o) None found F l e
 
 -- ---- before the first boundary

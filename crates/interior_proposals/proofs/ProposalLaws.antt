@@ -7,7 +7,8 @@ use mathlib.Core.Logic.{inl, inr, ⊎_elim}
 use mathlib.Core.List.{List, [], ◌∷◌}
 use lib.ListN.{get_or}
 use lib.Dec.{eqb, leb}
-use borrow.Author.Tests.{eq-eqb, eqb-true, leb-true, not-true, not-false}
+use borrow.Author.Tests.{eq-eqb, eqb-true, leb-true, not-true}
+use Rattle.std.specs.Prelude.{None}
 use Rattle.definitions.specs.Scan.{any, any_below_lem, count_below}
 use Rattle.definitions.specs.Context.{Context, no_ramp, full_cut}
 use Rattle.definitions.specs.MouthShapes.{regions_of}
@@ -20,11 +21,11 @@ use Rattle.laws.specs.ListLaws.Beyond.{beyond_same, beyond-then}
 use Rattle.laws.specs.RegionLaws.OneMore.{any-counted}
 use Rattle.context.specs.Shown.{ShownPairs}
 use Rattle.interior_proposals.specs.Owners.{entry_at, all_in_lem, edge}
-use Rattle.interior_proposals.specs.Candidates.{spoils_at, candidate, port, two_ports}
+use Rattle.interior_proposals.specs.Candidates.{spoils_at, candidate, port, both_ports, two_ports}
 use Rattle.interior_proposals.specs.Fits.{Listed}
 use Rattle.interior_proposals.specs.Leaves.{Inside, PortReachable, Single, from, Ported, Walked, BothWalked}
 use Rattle.interior_proposals.specs.Proposals.{expanded_of, fitting_ports, proposed_ports, Facing, Leafed, Spread, Proposed}
-use Rattle.interior_proposals.specs.declared.ports.Ports.TheVariants as ports
+use Rattle.interior_proposals.proofs.PortLaws.{same_ports}
 use Rattle.interior_proposals.proofs.Walks.{shown-walkable}
 use Rattle.interior_proposals.proofs.CandidateLaws.{within, candidate_some, candidate_unspoilt}
 use Rattle.interior_proposals.proofs.Bools.{first_two}
@@ -75,18 +76,20 @@ module _ (C : Context) (r : ℕ) (h : candidate C r ≡ true) where
 
 -- ---- two ports
 
-other : {a b : ℕ} → ports.Two a b ≡ ports.Other → ⊥
+other : {a b : ℕ} → both_ports a b ≡ None → ⊥
 other e =
     let z : ◌≡◌ {A = ℕ} 0 1 = cc in
     omega arith
 
-two_is : {a b : ℕ} (l : List ℕ) → ports.Two a b ≡ two_ports l → l ≡ a ∷ b ∷ []
+two_is : {a b : ℕ} (l : List ℕ) → both_ports a b ≡ two_ports l → l ≡ a ∷ b ∷ []
 two_is [] e = absurd (other e)
 two_is (x ∷ []) e = absurd (other e)
-two_is (x ∷ y ∷ []) e = cc
+two_is (x ∷ y ∷ []) e =
+    let s = same_ports e in
+    ap₂ (λ m n. m ∷ n ∷ []) (sym s.0) (sym s.1)
 two_is (x ∷ y ∷ z ∷ l) e = absurd (other e)
 
-other_is : (C : Context) (r : ℕ) (l : List ℕ) → ports.Other ≡ two_ports l → fitting_ports C r l ≡ ports.Other
+other_is : (C : Context) (r : ℕ) (l : List ℕ) → None ≡ two_ports l → fitting_ports C r l ≡ None
 unfolding fitting_ports
 other_is C r [] e = refl
 other_is C r (x ∷ []) e = refl
@@ -96,7 +99,7 @@ other_is C r (x ∷ y ∷ z ∷ l) e = refl
 -- ---- what was found
 
 module _ {C : Context} {boundaries tallies pairs starts names marks owners : List ℕ} {count r : ℕ} (F : Facing C boundaries tallies pairs starts names marks owners count r) where
-  idle : ports.Other ≡ proposed_ports C r → Proposed C r names names marks marks ports.Other
+  idle : None ≡ proposed_ports C r → Proposed C r names names marks marks None
   idle e =
       record {
         result = e;
@@ -105,17 +108,16 @@ module _ {C : Context} {boundaries tallies pairs starts names marks owners : Lis
         cleared = record { marked = F.mapped.marked; beyond = beyond_same C.regions marks };
       }
 
-  -- t is what `is_candidate` returned
-  pub no_candidate : {t : Bool} → t ≡ candidate C r → not t ≡ true → Proposed C r names names marks marks ports.Other
+  pub no_candidate : false ≡ candidate C r → Proposed C r names names marks marks None
   unfolding proposed_ports
-  no_candidate {t} e h = idle (sym (ap (λ b. cond b (fitting_ports C r (component_ports C (components C) r)) ports.Other) (sym e ∙ not-true t h)))
+  no_candidate e = idle (ap (λ b. cond b (fitting_ports C r (component_ports C (components C) r)) None) e)
 
   module _ (h : candidate C r ≡ true) where
     proposed_is : proposed_ports C r ≡ fitting_ports C r (component_ports C (components C) r)
     unfolding proposed_ports
-    proposed_is = ap (λ b. cond b (fitting_ports C r (component_ports C (components C) r)) ports.Other) h
+    proposed_is = ap (λ b. cond b (fitting_ports C r (component_ports C (components C) r)) None) h
 
-    pub no_ports : ports.Other ≡ two_ports (component_ports C (components C) r) → Proposed C r names names marks marks ports.Other
+    pub no_ports : None ≡ two_ports (component_ports C (components C) r) → Proposed C r names names marks marks None
     no_ports e = idle (sym (proposed_is ∙ other_is C r (component_ports C (components C) r) e))
 
     pub component-inside : Inside C r (component_regions C (components C) r) names
@@ -125,7 +127,7 @@ module _ {C : Context} {boundaries tallies pairs starts names marks owners : Lis
           at = λ x a b. F.mapped.told.at x a b ∙ sym (region_members C (within F.mapped.sound) r F.mapped.from (candidate-edge C r h) (candidate-inside C r h) x);
         }
 
-    module _ {a b : ℕ} (e : ports.Two a b ≡ two_ports (component_ports C (components C) r)) where
+    module _ {a b : ℕ} (e : both_ports a b ≡ two_ports (component_ports C (components C) r)) where
       listed : component_ports C (components C) r ≡ a ∷ b ∷ []
       listed = two_is (component_ports C (components C) r) e
 
@@ -136,20 +138,19 @@ module _ {C : Context} {boundaries tallies pairs starts names marks owners : Lis
           go : All (λ x. x < C.count) (a ∷ b ∷ []) → (a < C.count) × (b < C.count)
           go (more k (more l done)) = (k, l)
 
-      fitting_is : proposed_ports C r ≡ cond (ports_fit C a b && (expanded_of C r a b).valid) (ports.Two a b) ports.Other
+      fitting_is : proposed_ports C r ≡ cond (ports_fit C a b && (expanded_of C r a b).valid) (both_ports a b) None
       unfolding fitting_ports
       fitting_is = proposed_is ∙ ap (fitting_ports C r) listed
 
-      -- t is what `ports_fit` returned
-      pub unfit : {t : Bool} → t ≡ ports_fit C a b → not t ≡ true → Proposed C r names names marks marks ports.Other
-      unfit {t} q k = idle (sym (fitting_is ∙ ap (λ z. cond (z && (expanded_of C r a b).valid) (ports.Two a b) ports.Other) (sym q ∙ not-true t k)))
+      pub unfit : false ≡ ports_fit C a b → Proposed C r names names marks marks None
+      unfit q = idle (sym (fitting_is ∙ ap (λ z. cond (z && (expanded_of C r a b).valid) (both_ports a b) None) (sym q)))
 
-      module _ {s : Bool} (q : s ≡ ports_fit C a b) (k : not s ≡ false) {now nowMarks : List ℕ} {t : Bool} (B : BothWalked C a b r (component_regions C (components C) r) names now marks nowMarks t) where
+      module _ (q : true ≡ ports_fit C a b) {now nowMarks : List ℕ} {t : Bool} (B : BothWalked C a b r (component_regions C (components C) r) names now marks nowMarks t) where
         fit : ports_fit C a b ≡ true
-        fit = sym q ∙ not-false s k
+        fit = sym q
 
-        valid_is : proposed_ports C r ≡ cond t (ports.Two a b) ports.Other
-        valid_is = fitting_is ∙ ap₂ (λ y z. cond (y && z) (ports.Two a b) ports.Other) fit (sym B.fits)
+        valid_is : proposed_ports C r ≡ cond t (both_ports a b) None
+        valid_is = fitting_is ∙ ap₂ (λ y z. cond (y && z) (both_ports a b) None) fit (sym B.fits)
 
         -- neither port is without a ramp
         ramps : (not (no_ramp C a) ≡ true) × (not (no_ramp C b) ≡ true)
@@ -178,19 +179,21 @@ module _ {C : Context} {boundaries tallies pairs starts names marks owners : Lis
               each = λ x l m. ⊎_elim (λ n. inl n) (λ n. inr (n.0, ⊎_elim (λ S. leafed x l m n.0 a ports-below.0 S (not-true (no_ramp C a) ramps.0)) (λ S. leafed x l m n.0 b ports-below.1 S (not-true (no_ramp C b) ramps.1)) n.1)) (B.each x l m);
             }
 
-        pub ports-valid : t ≡ true → Proposed C r names now marks nowMarks (ports.Two a b)
+        pub ports-valid : t ≡ true → Proposed C r names now marks nowMarks (both_ports a b)
         ports-valid w =
             record {
-              result = sym (valid_is ∙ ap (λ z. cond z (ports.Two a b) ports.Other) w);
-              holds = λ c d n. subst (λ y. Inside C r (expanded_of C r y d).regions now) (cc) (subst (λ y. Inside C r (expanded_of C r a y).regions now) (cc) B.inside);
+              result = sym (valid_is ∙ ap (λ z. cond z (both_ports a b) None) w);
+              holds = λ c d n.
+                  let s = same_ports n in
+                  subst (λ y. Inside C r (expanded_of C r y d).regions now) s.0 (subst (λ y. Inside C r (expanded_of C r a y).regions now) s.1 B.inside);
               spread = spread;
               cleared = B.cleared;
             }
 
-        pub ports-invalid : t ≡ false → Proposed C r names now marks nowMarks ports.Other
+        pub ports-invalid : t ≡ false → Proposed C r names now marks nowMarks None
         ports-invalid w =
             record {
-              result = sym (valid_is ∙ ap (λ z. cond z (ports.Two a b) ports.Other) w);
+              result = sym (valid_is ∙ ap (λ z. cond z (both_ports a b) None) w);
               holds = λ c d n. absurd (other (sym n));
               spread = spread;
               cleared = B.cleared;

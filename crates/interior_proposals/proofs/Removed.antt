@@ -27,7 +27,7 @@ use Rattle.interior_proposals.specs.Owners.{edge, Owned}
 use Rattle.interior_proposals.specs.Candidates.{candidate, port}
 use Rattle.interior_proposals.specs.Proposals.{expanded_of, fitting_ports, proposed_ports, records_fit}
 use Rattle.interior_proposals.specs.declared.ports.Ports.{Ports}
-use Rattle.interior_proposals.specs.declared.ports.Ports.TheVariants as ports
+use Rattle.interior_proposals.specs.Candidates.{both_ports}
 use Rattle.interior_proposals.proofs.CandidateLaws.{candidate_unspoilt, edge-owned}
 use Rattle.interior_proposals.proofs.NoConflict.{Fit, regions-apart, edges-apart}
 use Rattle.interior_proposals.proofs.Bools.{first_two}
@@ -293,7 +293,7 @@ module _ (C : Context) (S : Sound C) where
       found : ℕ → ℕ → InteriorProposal
       found a b = record { regions = (expanded_of C r a b).regions; edges = edges_of C (components C) r; first_port = a; second_port = b }
 
-      only : (p : InteriorProposal) (f v x y : Bool) (d : Ports) → records_fit C r d ≡ (x && y) → any (λ q. true) (to_list (only_if (f && v && x && y) p)) ≡ records_fit C r (cond (f && v) d ports.Other)
+      only : (p : InteriorProposal) (f v x y : Bool) (d : Option Ports) → records_fit C r d ≡ (x && y) → any (λ q. true) (to_list (only_if (f && v && x && y) p)) ≡ records_fit C r (cond (f && v) d None)
       only p true true true true d e = sym e
       only p true true true false d e = sym e
       only p true true false y d e = sym e
@@ -303,9 +303,9 @@ module _ (C : Context) (S : Sound C) where
       listed : (l : List ℕ) → any (λ p. true) (to_list (interior_from C (component_regions C (components C) r) (edges_of C (components C) r) l)) ≡ records_fit C r (fitting_ports C r l)
       listed [] = refl
       listed (a ∷ []) = refl
-      listed (a ∷ b ∷ []) = only (found a b) (ports_fit C a b) (expanded_of C r a b).valid (any (λ q. has_ramp (C.region q)) (expanded_of C r a b).regions) (all (region_fits C a b) (expanded_of C r a b).regions) (ports.Two a b) refl
+      listed (a ∷ b ∷ []) = only (found a b) (ports_fit C a b) (expanded_of C r a b).valid (any (λ q. has_ramp (C.region q)) (expanded_of C r a b).regions) (all (region_fits C a b) (expanded_of C r a b).regions) (both_ports a b) refl
       listed (a ∷ b ∷ c ∷ l) = refl
 
-      go : (t : Bool) → any (λ p. true) (to_list (cond t (interior_from C (component_regions C (components C) r) (edges_of C (components C) r) (component_ports C (components C) r)) None)) ≡ records_fit C r (cond t (fitting_ports C r (component_ports C (components C) r)) ports.Other)
+      go : (t : Bool) → any (λ p. true) (to_list (cond t (interior_from C (component_regions C (components C) r) (edges_of C (components C) r) (component_ports C (components C) r)) None)) ≡ records_fit C r (cond t (fitting_ports C r (component_ports C (components C) r)) None)
       go true = listed (component_ports C (components C) r)
       go false = refl

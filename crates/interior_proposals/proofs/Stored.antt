@@ -27,11 +27,12 @@ stored_more {f} {was} {l} {k} {v} s h e =
 
 -- ---- what holds of each entry below k
 
-abbrev pub Filled : (ℕ → ℕ → Type 0) → List ℕ → ℕ → Type 0
-Filled P l k = (j : ℕ) → j < k → P j (get_or l j 0)
+module _ {A : Type 0} (P : ℕ → A → Type 0) (d : A) where
+  abbrev pub Filled : List A → ℕ → Type 0
+  Filled l k = (j : ℕ) → j < k → P j (get_or l j d)
 
-pub filled_more : (P : ℕ → ℕ → Type 0) (l : List ℕ) {k v : ℕ} → Filled P l k → k < length l → P k v → Filled P (set l k v) (k + 1)
-filled_more P l {k} {v} f h p j m =
-    ⊎_elim
-    (λ q. subst (λ i. P i (get_or (set l k v) i 0)) (sym q) (subst (P k) (sym (get_or-set_same l k v 0 h)) p))
-    (λ n. subst (P j) (sym (get_or-set_other l k j v 0 n)) (f j (lt_of_le-ne (omega arith) n))) (same_or j k)
+  pub filled_more : (l : List A) {k : ℕ} {v : A} → Filled l k → k < length l → P k v → Filled (set l k v) (k + 1)
+  filled_more l {k} {v} f h p j m =
+      ⊎_elim
+      (λ q. subst (λ i. P i (get_or (set l k v) i d)) (sym q) (subst (P k) (sym (get_or-set_same l k v d h)) p))
+      (λ n. subst (P j) (sym (get_or-set_other l k j v d n)) (f j (lt_of_le-ne (omega arith) n))) (same_or j k)

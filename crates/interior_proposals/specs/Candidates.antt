@@ -1,5 +1,5 @@
 -- What is read of the lists to tell whether a component is a candidate, and which are its ports. Definitions only; assumes nothing.
-use Rattle.std.specs.Prelude.{ℕ, ◌%◌, ◌≤◌, ◌<◌, ◌≡◌, Bool, true, false, not, ◌&&◌, ◌||◌, List, [], ◌∷◌, length, eqb}
+use Rattle.std.specs.Prelude.{ℕ, ◌%◌, ◌≤◌, ◌<◌, ◌≡◌, Bool, true, false, not, ◌&&◌, ◌||◌, List, [], ◌∷◌, length, eqb, Option, None, Some, MatchOption}
 use Rattle.definitions.specs.Scan.{any}
 use Rattle.definitions.specs.Grid.{Pair}
 use Rattle.definitions.specs.Context.{Context}
@@ -10,7 +10,6 @@ use Rattle.context.specs.Shown.{ShownPairs}
 use Rattle.interior_proposals.specs.Given.{Marked}
 use Rattle.interior_proposals.specs.Owners.{entry_at, all_in_lem, edge}
 use Rattle.interior_proposals.specs.declared.ports.Ports.{Ports}
-use Rattle.interior_proposals.specs.declared.ports.Ports.TheVariants as ports
 
 -- the names tell which regions are in the component named r; elsewhere they may be others
 pub record Told (C : Context) (r : ℕ) (names : List ℕ) : Type 0 where
@@ -51,16 +50,23 @@ module _ (C : Context) where
   abbrev pub port : ℕ → ℕ → Bool
   port r i = is_port C (components C) r i
 
-  -- j is the first port from `first` on, or `count`
-  pub record NextPort (r count first j : ℕ) : Type 0 where
-    pub rising : first ≤ j
-    pub upto : j ≤ count
-    pub found : j < count → port r j ≡ true
-    pub before : (k : ℕ) → first ≤ k → k < j → port r k ≡ false
+  -- no boundary from `first` on, before `end`, is a port
+  abbrev pub NoPort : ℕ → ℕ → ℕ → Type 0
+  NoPort r first end = (k : ℕ) → first ≤ k → k < end → port r k ≡ false
+
+  -- j is the first port from `first` on, before `count`
+  abbrev pub PortFrom : ℕ → ℕ → ℕ → ℕ → Type 0
+  PortFrom r count first j = (first ≤ j) × (j < count) × (port r j ≡ true) × NoPort r first j
+
+  abbrev pub NextPort : ℕ → ℕ → ℕ → Option ℕ → Type 0
+  NextPort r count first found = MatchOption found (NoPort r first count) (PortFrom r count first)
+
+abbrev pub both_ports : ℕ → ℕ → Option Ports
+both_ports a b = Some (record { first = a; second = b })
 
 -- two ports and no more
-abbrev pub two_ports : List ℕ → Ports
-two_ports [] = ports.Other
-two_ports (a ∷ []) = ports.Other
-two_ports (a ∷ b ∷ []) = ports.Two a b
-two_ports (a ∷ b ∷ c ∷ l) = ports.Other
+abbrev pub two_ports : List ℕ → Option Ports
+two_ports [] = None
+two_ports (a ∷ []) = None
+two_ports (a ∷ b ∷ []) = both_ports a b
+two_ports (a ∷ b ∷ c ∷ l) = None

@@ -1,8 +1,7 @@
 -- A component and what is found about it before its records are looked at. Definitions only; assumes nothing.
-use Rattle.std.specs.Prelude.{ℕ, ◌≤◌, ◌<◌, ◌≡◌, Bool, true, false, not, ◌&&◌, ◌||◌, ◌⊎◌, eqb, length, get_or}
+use Rattle.std.specs.Prelude.{ℕ, ◌≤◌, ◌<◌, ◌≡◌, Bool, true, false, not, ◌&&◌, ◌||◌, ◌⊎◌, eqb, length, get_or, Option, None, Some}
 use Rattle.std.proofs.Math.Bool.{cond}
 use mathlib.Core.List.{List, [], ◌∷◌}
-use Rattle.definitions.specs.Limits.{max_entries}
 use Rattle.definitions.specs.Scan.{any, all, member, any_below_lem}
 use Rattle.definitions.specs.RegionRecord.{has_ramp}
 use Rattle.definitions.specs.Context.{Context, no_ramp}
@@ -10,10 +9,9 @@ use Rattle.definitions.specs.RampInteriors.{Expansion, components, component_reg
 use Rattle.laws.specs.ListLaws.Beyond.{Beyond}
 use Rattle.interior_proposals.specs.Given.{Given}
 use Rattle.interior_proposals.specs.Owners.{entry_at, several, edge, Owners}
-use Rattle.interior_proposals.specs.Candidates.{Told, Mapped, candidate}
+use Rattle.interior_proposals.specs.Candidates.{Told, Mapped, candidate, both_ports}
 use Rattle.interior_proposals.specs.Leaves.{Inside, Single, Cleared, from}
 use Rattle.interior_proposals.specs.declared.ports.Ports.{Ports}
-use Rattle.interior_proposals.specs.declared.ports.Ports.TheVariants as ports
 
 -- the lists show C, r is a region, and the owners of boundaries are known
 pub record Facing (C : Context) (boundaries tallies pairs starts names marks owners : List ℕ) (count r : ℕ) : Type 0 where
@@ -34,16 +32,16 @@ module _ (C : Context) (r : ℕ) where
   expanded_of a b = expand_port C (expand_port C own a) b
 
   -- the two ports, if they fit and are valid
-  unfoldable pub fitting_ports : List ℕ → Ports
+  unfoldable pub fitting_ports : List ℕ → Option Ports
   unfolding ports_fit expand_port component_regions
-  fitting_ports [] = ports.Other
-  fitting_ports (a ∷ []) = ports.Other
-  fitting_ports (a ∷ b ∷ []) = cond (ports_fit C a b && (expanded_of a b).valid) (ports.Two a b) ports.Other
-  fitting_ports (a ∷ b ∷ c ∷ l) = ports.Other
+  fitting_ports [] = None
+  fitting_ports (a ∷ []) = None
+  fitting_ports (a ∷ b ∷ []) = cond (ports_fit C a b && (expanded_of a b).valid) (both_ports a b) None
+  fitting_ports (a ∷ b ∷ c ∷ l) = None
 
-  unfoldable pub proposed_ports : Ports
+  unfoldable pub proposed_ports : Option Ports
   unfolding fitting_ports component_ports
-  proposed_ports = cond (candidate C r) (fitting_ports (component_ports C (components C) r)) ports.Other
+  proposed_ports = cond (candidate C r) (fitting_ports (component_ports C (components C) r)) None
 
   -- a region beyond the component: its one incident is a port, and it is one of the expansion
   pub record Leafed (x : ℕ) : Type 0 where
@@ -64,35 +62,23 @@ module _ (C : Context) (r : ℕ) where
     pub each : (x : ℕ) → 1 ≤ x → x ≤ C.regions → (entry_at names x ≡ entry_at was x) ⊎ ((entry_at names x ≡ r) × Leafed x)
 
   -- x is what was found; where it is two ports, the names hold what the component expands to
-  pub record Proposed (was names wasMarks marks : List ℕ) (x : Ports) : Type 0 where
+  pub record Proposed (was names wasMarks marks : List ℕ) (x : Option Ports) : Type 0 where
     pub result : x ≡ proposed_ports
-    pub holds : (a b : ℕ) → x ≡ ports.Two a b → Inside C r (expanded_of a b).regions names
+    pub holds : (a b : ℕ) → x ≡ both_ports a b → Inside C r (expanded_of a b).regions names
     pub spread : Spread was names
     pub cleared : Cleared C wasMarks marks
 
 -- ---- all components
-
--- in place of a port, where there is none
-abbrev pub no_port : ℕ
-no_port = max_entries
 
 -- boundary i is the first that its owner, a component, has
 unfoldable pub is_first : List ℕ → ℕ → Bool
 unfolding any_below_lem
 is_first owners i = not (eqb (get_or owners i 0) 0 || eqb (get_or owners i 0) several) && not (any_below_lem i (λ j. eqb (get_or owners j 0) (get_or owners i 0)))
 
-abbrev pub first_of : Ports → ℕ
-first_of ports.Other = no_port
-first_of (ports.Two a b) = a
-
-abbrev pub second_of : Ports → ℕ
-second_of ports.Other = no_port
-second_of (ports.Two a b) = b
-
 -- what is found at boundary i
-unfoldable pub found_ports : Context → List ℕ → ℕ → Ports
+unfoldable pub found_ports : Context → List ℕ → ℕ → Option Ports
 unfolding is_first proposed_ports
-found_ports C owners i = cond (is_first owners i) (proposed_ports C (get_or owners i 0)) ports.Other
+found_ports C owners i = cond (is_first owners i) (proposed_ports C (get_or owners i 0)) None
 
 module _ (C : Context) (owners names : List ℕ) where
   -- a component that no boundary before i has, and has an edge, is told by the names
@@ -101,7 +87,7 @@ module _ (C : Context) (owners names : List ℕ) where
 
   -- what is found at boundary j expands to the regions that have the owner's name
   abbrev pub Settled : ℕ → Type 0
-  Settled j = (a b : ℕ) → found_ports C owners j ≡ ports.Two a b → Inside C (get_or owners j 0) (expanded_of C (get_or owners j 0) a b).regions names
+  Settled j = (a b : ℕ) → found_ports C owners j ≡ both_ports a b → Inside C (get_or owners j 0) (expanded_of C (get_or owners j 0) a b).regions names
 
 -- the boundaries before i are done
 pub record Progress (C : Context) (owners was names wasMarks marks : List ℕ) (i : ℕ) : Type 0 where
@@ -123,12 +109,13 @@ SomeProgress boundaries tallies pairs starts names marks owners count i =
     (C : Context) × (Owning C boundaries tallies pairs starts owners count × Progress C owners names names marks marks i)
 
 -- the ports found at the boundaries before i are stored
-abbrev pub FoundAll : Context → List ℕ → List ℕ → List ℕ → ℕ → Type 0
-FoundAll C owners firsts seconds i =
-    (j : ℕ) → j < i → (get_or firsts j 0 ≡ first_of (found_ports C owners j)) × (get_or seconds j 0 ≡ second_of (found_ports C owners j))
+abbrev pub FoundAll : Context → List ℕ → List (Option Ports) → ℕ → Type 0
+FoundAll C owners found i = (j : ℕ) → j < i → get_or found j None ≡ found_ports C owners j
 
 -- what is asked of the records of the regions that a component with these ports expands to
-unfoldable pub records_fit : Context → ℕ → Ports → Bool
+unfoldable pub records_fit : Context → ℕ → Option Ports → Bool
 unfolding any all region_fits
-records_fit C r ports.Other = false
-records_fit C r (ports.Two a b) = any (λ q. has_ramp (C.region q)) (expanded_of C r a b).regions && all (region_fits C a b) (expanded_of C r a b).regions
+records_fit C r None = false
+records_fit C r (Some p) =
+    let regions = (expanded_of C r p.first p.second).regions in
+    any (λ q. has_ramp (C.region q)) regions && all (region_fits C p.first p.second) regions

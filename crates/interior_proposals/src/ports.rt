@@ -1,5 +1,5 @@
 // The ports of a candidate: the boundaries about it that are no edges of it.
-ghost use Rattle.std.specs.Prelude.{◌≡◌, true, ◌≤◌, ◌<◌};
+ghost use Rattle.std.specs.Prelude.{◌≡◌, true, ◌≤◌, ◌<◌, IfSome};
 ghost use Rattle.definitions.specs.Context.{Context};
 ghost use Rattle.definitions.specs.RampInteriors.{components, component_ports};
 ghost use Rattle.interior_proposals.specs.Owners.{Owned, Owners};
@@ -7,11 +7,11 @@ ghost use Rattle.interior_proposals.specs.Candidates.{Mapped, SomeMapped, AllMap
 
 use crate::owners::{SEVERAL, touches};
 
-// Exactly two ports, or another number of them.
+// The two ports of a candidate that has no others.
 #[derive(Clone, Copy)]
-pub enum Ports {
-    Other,
-    Two(usize, usize),
+pub struct Ports {
+    pub first: usize,
+    pub second: usize,
 }
 
 // Whether boundary i is a port of the candidate r.
@@ -42,7 +42,7 @@ fn is_port(
     touches(names, pairs, starts[i], starts[i + 1], r)
 }
 
-// The first port of the candidate r from `first` on; `count` where there is none.
+// The first port of the candidate r from `first` on.
 fn next_port(
     pairs: &[u32],
     starts: &[usize; 257],
@@ -52,7 +52,7 @@ fn next_port(
     count: usize,
     r: u32,
     first: usize,
-) -> usize
+) -> Option<usize>
     requires mapped { AllMapped pairs.now starts.now names.now marks.now r count }
     requires ordered { first ≤ count }
     ensures next_port { (C : Context) →
@@ -61,16 +61,9 @@ fn next_port(
         Owners C owners.now →
         candidate C r ≡ true →
         NextPort C r count first result }
-    ensures bound { (first ≤ result) × (result ≤ count) }
+    ensures bound { IfSome result (λ i. i < count) }
 {
-    let mut i = first;
-    while i < count {
-        if is_port(pairs, starts, names, marks, owners[i], i, r) {
-            return i;
-        }
-        i += 1;
-    }
-    i
+    (first..count).find(|&i| is_port(pairs, starts, names, marks, owners[i], i, r))
 }
 
 // The ports of the candidate r, if they are two.
@@ -82,7 +75,7 @@ pub fn find_ports(
     owners: &[u32; 256],
     count: usize,
     r: u32,
-) -> Ports
+) -> Option<Ports>
     requires { AllMapped pairs.now starts.now names.now marks.now r count }
     ensures { (C : Context) →
         Mapped C pairs.now starts.now names.now marks.now r →
@@ -91,18 +84,10 @@ pub fn find_ports(
         candidate C r ≡ true →
         result ≡ two_ports (component_ports C (components C) r) }
 {
-    let a = next_port(pairs, starts, names, marks, owners, count, r, 0);
-    if a == count {
-        return Ports::Other;
-    }
-    let b = next_port(pairs, starts, names, marks, owners, count, r, a + 1);
-    if b == count {
-        return Ports::Other;
-    }
-    let c = next_port(pairs, starts, names, marks, owners, count, r, b + 1);
-    if c == count {
-        Ports::Two(a, b)
-    } else {
-        Ports::Other
+    let first = next_port(pairs, starts, names, marks, owners, count, r, 0)?;
+    let second = next_port(pairs, starts, names, marks, owners, count, r, first + 1)?;
+    match next_port(pairs, starts, names, marks, owners, count, r, second + 1) {
+        None => Some(Ports { first, second }),
+        Some(_) => None,
     }
 }

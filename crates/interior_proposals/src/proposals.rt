@@ -5,16 +5,13 @@ ghost use Rattle.definitions.specs.Context.{Context};
 ghost use Rattle.context.specs.Shown.{ShownPairs};
 ghost use Rattle.interior_proposals.specs.Given.{Marked};
 ghost use Rattle.interior_proposals.specs.Leaves.{Inside, PortReachable, BothWalked};
-ghost use Rattle.interior_proposals.specs.Proposals.{Facing, SomeFacing, Proposed, is_first, first_of, second_of, found_ports, Progress, Owning, SomeProgress, FoundAll};
+ghost use Rattle.interior_proposals.specs.Proposals.{Facing, SomeFacing, Proposed, is_first, found_ports, Progress, Owning, SomeProgress, FoundAll};
 
 use crate::candidates::is_candidate;
 use crate::fits::ports_fit;
 use crate::leaves::expand_port;
 use crate::owners::SEVERAL;
 use crate::ports::{Ports, find_ports};
-
-// In place of a port, where there is none.
-pub const NO_PORT: usize = 256;
 
 // The leaves beyond the ports a and b. Whether both are valid.
 fn expand_ports(
@@ -52,7 +49,7 @@ pub fn propose(
     owners: &[u32; 256],
     count: usize,
     r: u32,
-) -> Ports
+) -> Option<Ports>
     requires { SomeFacing boundaries.now tallies.now pairs.now starts.now names.old marks.old owners.now count r }
     ensures proposed { (C : Context) →
         Facing C boundaries.now tallies.now pairs.now starts.now names.old marks.old
@@ -61,21 +58,16 @@ pub fn propose(
     ensures lengths { (length names.new ≡ length names.old) × (length marks.new ≡ length marks.old) }
 {
     if !is_candidate(pairs, starts, names, marks, owners, count, r) {
-        return Ports::Other;
+        return None;
     }
-    let found = find_ports(pairs, starts, names, marks, owners, count, r);
-    match found {
-        Ports::Other => Ports::Other,
-        Ports::Two(a, b) => {
-            if !ports_fit(boundaries, tallies, a, b) {
-                return Ports::Other;
-            }
-            if expand_ports(names, marks, pairs, starts, a, b, r) {
-                Ports::Two(a, b)
-            } else {
-                Ports::Other
-            }
-        }
+    let ports = find_ports(pairs, starts, names, marks, owners, count, r)?;
+    if !ports_fit(boundaries, tallies, ports.first, ports.second) {
+        return None;
+    }
+    if expand_ports(names, marks, pairs, starts, ports.first, ports.second, r) {
+        Some(ports)
+    } else {
+        None
     }
 }
 
@@ -96,24 +88,6 @@ fn is_first(owners: &[u32; 256], i: usize) -> bool
     true
 }
 
-fn first_of(p: Ports) -> usize
-    ensures { result ≡ first_of p }
-{
-    match p {
-        Ports::Other => NO_PORT,
-        Ports::Two(a, _) => a,
-    }
-}
-
-fn second_of(p: Ports) -> usize
-    ensures { result ≡ second_of p }
-{
-    match p {
-        Ports::Other => NO_PORT,
-        Ports::Two(_, b) => b,
-    }
-}
-
 // What is found at boundary i, if it comes first.
 fn propose_at(
     boundaries: &[u64],
@@ -125,7 +99,7 @@ fn propose_at(
     owners: &[u32; 256],
     count: usize,
     i: usize,
-) -> Ports
+) -> Option<Ports>
     requires i_within { i < count }
     requires progress { SomeProgress boundaries.now tallies.now pairs.now starts.now names.old marks.old owners.now count i }
     ensures proposed { (C : Context) (was wasMarks : List ℕ) →
@@ -139,7 +113,7 @@ fn propose_at(
             boundaries, tallies, pairs, starts, names, marks, owners, count, owners[i],
         )
     } else {
-        Ports::Other
+        None
     }
 }
 
@@ -153,25 +127,21 @@ pub fn propose_all(
     marks: &mut [u16],
     owners: &[u32; 256],
     count: usize,
-    firsts: &mut [usize; 256],
-    seconds: &mut [usize; 256],
+    found: &mut [Option<Ports>; 256],
 )
     requires progress { SomeProgress boundaries.now tallies.now pairs.now starts.now names.old marks.old owners.now count 0 }
-    requires room { (length firsts.old ≡ max_entries) × (length seconds.old ≡ max_entries) }
+    requires room { length found.old ≡ max_entries }
     ensures proposed { (C : Context) (was wasMarks : List ℕ) →
         Owning C boundaries.now tallies.now pairs.now starts.now owners.now count →
         Progress C owners.now was names.old wasMarks marks.old 0 →
         Progress C owners.now was names.new wasMarks marks.new C.count
-        × FoundAll C owners.now firsts.new seconds.new C.count }
+        × FoundAll C owners.now found.new C.count }
     ensures lengths { (length names.new ≡ length names.old) × (length marks.new ≡ length marks.old) }
 {
     for i in 0..count {
-        let found = propose_at(
+        let ports = propose_at(
             boundaries, tallies, pairs, starts, names, marks, owners, count, i,
         );
-        let a = first_of(found);
-        let b = second_of(found);
-        firsts[i] = a;
-        seconds[i] = b;
+        found[i] = ports;
     }
 }

@@ -1,5 +1,5 @@
 -- What is found at the places of rows is what is asked of the regions that a component expands to (`judged_two`), and where nothing was found, nothing is
--- (`judged-other`). The boundaries whose owners are accepted are those that the pass removes (`marked-removed`). Assumes Sound.
+-- (`judged_none`). The boundaries whose owners are accepted are those that the pass removes (`marked-removed`). Assumes Sound.
 use Prim.Native.Nat.{ℕ, ◌-◌, ◌*◌, ◌≤◌, ◌<◌}
 use native.Mathlib.Omega.{arith}
 use mathlib.Core.Path.{◌≡◌, refl, sym, ap, ap₂, subst, ◌∙◌}
@@ -9,6 +9,7 @@ use mathlib.Core.List.{List, [], ◌∷◌}
 use lib.ListN.{get_or}
 use lib.Dec.{eqb, ltb, leb}
 use borrow.Author.Tests.{eq-eqb, eqb-true, leb-true, ltb-true, ltb-false, le-leb, not-true}
+use Rattle.std.specs.Prelude.{None}
 use Rattle.definitions.specs.Scan.{any, all, member, any_below_lem, all_below}
 use Rattle.definitions.specs.RegionRecord.{has_ramp}
 use Rattle.definitions.specs.Context.{Context}
@@ -23,7 +24,7 @@ use Rattle.context.specs.Shown.{ShownPairs}
 use Rattle.interior_proposals.specs.Owners.{several, edge, Owners}
 use Rattle.interior_proposals.specs.Leaves.{Inside}
 use Rattle.interior_proposals.specs.Proposals.{expanded_of, proposed_ports, is_first, found_ports, records_fit}
-use Rattle.interior_proposals.specs.declared.ports.Ports.TheVariants as ports
+use Rattle.interior_proposals.specs.Candidates.{both_ports}
 use Rattle.interior_proposals.proofs.RowScans.{all-holds}
 use Rattle.interior_proposals.proofs.CandidateLaws.{edge-owned, candidate_unspoilt}
 use Rattle.interior_proposals.proofs.NoConflict.{Fit}
@@ -106,7 +107,7 @@ module _ {C : Context} (S : Sound C) {rows starts names : List ℕ} (P : ShownPa
       at k l h true e = member-all (λ y. region_fits C a b y ≡ true) (region_at rows k) (all-holds (region_fits C a b) regions h) (place-member k l e)
       at k l h false e = refl
 
-  pub interior_is : interior_fits_lem C rows names r begin a b end ≡ records_fit C r (ports.Two a b)
+  pub interior_is : interior_fits_lem C rows names r begin a b end ≡ records_fit C r (both_ports a b)
   unfolding interior_fits_lem records_fit
   interior_is = ap₂ ◌&&◌ ramp_is fits-are
 
@@ -116,19 +117,19 @@ module _ {C : Context} (S : Sound C) (owners : List ℕ) (O : Owners C owners) (
   abbrev owner : ℕ
   owner = get_or owners i 0
 
-  pub found-fit : {a b : ℕ} → found_ports C owners i ≡ ports.Two a b → Fit C S owner a b
+  pub found-fit : {a b : ℕ} → found_ports C owners i ≡ both_ports a b → Fit C S owner a b
   found-fit e =
       let w = found_first C owners i e in
       let t = proposed_two C owner w.1 in
       fit_of C S owner (first_region owners O i l w.0).0 t.0 t.1.0 t.1.1.0
 
-  pub judged_two : {rows starts names : List ℕ} → ShownPairs C rows starts → {a b low high : ℕ} → (e : found_ports C owners i ≡ ports.Two a b) → Spanned C owner a b low high → Inside C owner (expanded_of C owner a b).regions names
+  pub judged_two : {rows starts names : List ℕ} → ShownPairs C rows starts → {a b low high : ℕ} → (e : found_ports C owners i ≡ both_ports a b) → Spanned C owner a b low high → Inside C owner (expanded_of C owner a b).regions names
       → interior_fits_lem C rows names owner (2 * get_or starts low 0) a b (2 * get_or starts high 0) ≡ accepted C owners i
   unfolding accepted
   judged_two P e N I = interior_is S P (found-fit e) N I ∙ ap (records_fit C owner) (sym e)
 
   -- the edges of what was found are from i on, and before the number after the last that has the owner
-  pub found-spanned : {a b low high n count : ℕ} → found_ports C owners i ≡ ports.Two a b → C.count ≡ count → EndOf owners count owner n → n ≤ high → high ≤ count → low ≤ i → (low ≤ a) × (a < high) → (low ≤ b) × (b < high) → Spanned C owner a b low high
+  pub found-spanned : {a b low high n count : ℕ} → found_ports C owners i ≡ both_ports a b → C.count ≡ count → EndOf owners count owner n → n ≤ high → high ≤ count → low ≤ i → (low ≤ a) × (a < high) → (low ≤ b) × (b < high) → Spanned C owner a b low high
   unfolding is_first
   found-spanned {a = a} {b = b} {low = low} {high = high} {n = n} e c E u v s t w = record { upto = omega arith; edges = edges; first = t; second = w }
     where
@@ -152,22 +153,22 @@ module _ {C : Context} (S : Sound C) (owners : List ℕ) (O : Owners C owners) (
           before true q = omega (arith, ltb-true j n q)
           before false q = absurd (true≢false (sym same ∙ E.none j (ltb-false j n q) (omega arith)))
 
-  pub judged-other : (rows names : List ℕ) (name begin a b : ℕ) → found_ports C owners i ≡ ports.Other → interior_fits_lem C rows names name begin a b 0 ≡ accepted C owners i
-  unfolding accepted interior_fits_lem records_fit any_below_lem
-  judged-other rows names name begin a b e = sym (ap (records_fit C owner) e)
+  pub judged_none : found_ports C owners i ≡ None → accepted C owners i ≡ false
+  unfolding accepted records_fit
+  judged_none e = ap (records_fit C owner) e
 
   -- accepted ones come first, and are proposed
   accepted_first : accepted C owners i ≡ true → (is_first owners i ≡ true) × (records_fit C owner (proposed_ports C owner) ≡ true)
   unfolding accepted found_ports records_fit
   accepted_first h = go (is_first owners i) refl h
     where
-      go : (t : Bool) → is_first owners i ≡ t → records_fit C owner (cond t (proposed_ports C owner) ports.Other) ≡ true → (is_first owners i ≡ true) × (records_fit C owner (proposed_ports C owner) ≡ true)
+      go : (t : Bool) → is_first owners i ≡ t → records_fit C owner (cond t (proposed_ports C owner) None) ≡ true → (is_first owners i ≡ true) × (records_fit C owner (proposed_ports C owner) ≡ true)
       go true e k = (e, k)
       go false e k = absurd (false≢true k)
 
   first_accepted : is_first owners i ≡ true → accepted C owners i ≡ records_fit C owner (proposed_ports C owner)
   unfolding accepted found_ports
-  first_accepted e = ap (λ t. records_fit C owner (cond t (proposed_ports C owner) ports.Other)) e
+  first_accepted e = ap (λ t. records_fit C owner (cond t (proposed_ports C owner) None)) e
 
 -- ---- all boundaries
 

@@ -1,67 +1,46 @@
 -- What stands at a boundary, by whether ports were found there. Assumes nothing.
 use Prim.Native.Nat.{ℕ, ◌+◌, ◌*◌, ◌<◌, min, max}
 use native.Mathlib.Omega.{arith}
-use mathlib.Core.Path.{◌≡◌, refl, sym, ap, ap₂, subst, ◌∙◌}
+use mathlib.Core.Path.{◌≡◌, refl, sym, ◌∙◌}
+use mathlib.Core.Bool.{false}
 use mathlib.Core.List.{List}
 use lib.ListN.{get_or}
+use Rattle.std.specs.Prelude.{Option, None, Some}
 use Rattle.definitions.specs.Context.{Context}
-use Rattle.interior_proposals.specs.Proposals.{no_port, first_of, second_of, found_ports}
+use Rattle.interior_proposals.specs.Proposals.{found_ports}
 use Rattle.interior_proposals.specs.declared.ports.Ports.{Ports}
-use Rattle.interior_proposals.specs.declared.ports.Ports.TheVariants as ports
-use Rattle.interior_regions.specs.Places.{interior_fits_lem}
-use Rattle.interior_regions.specs.Marks.{Interiors, Stretched, EndOf}
+use Rattle.interior_regions.specs.Marks.{Interiors, accepted, Stretched, EndOf}
 use Rattle.interior_regions.proofs.PlaceLaws.{starts-rise, place-readable, Spanned}
-use Rattle.interior_regions.proofs.JudgeLaws.{found-fit, found-spanned, judged_two, judged-other}
+use Rattle.interior_regions.proofs.JudgeLaws.{found-fit, found-spanned, judged_two, judged_none}
 
-module _ {C : Context} {boundaries tallies pairs starts names owners firsts seconds : List ℕ} {count : ℕ} (I : Interiors C boundaries tallies pairs starts names owners firsts seconds count) (i : ℕ) (l : i < C.count) where
-  pub stretched_none : get_or firsts i 0 ≡ no_port → Stretched C pairs names owners i (record { name = get_or owners i 0; begin = 0; end = 0; first = i; second = i })
-  stretched_none e = go (found_ports C owners i) refl
-    where
-      go : (x : Ports) → found_ports C owners i ≡ x → Stretched C pairs names owners i (record { name = get_or owners i 0; begin = 0; end = 0; first = i; second = i })
-      go ports.Other d =
+module _ {C : Context} {boundaries tallies pairs starts names owners : List ℕ} {found : List (Option Ports)} {count : ℕ} (I : Interiors C boundaries tallies pairs starts names owners found count) (i : ℕ) (l : i < C.count) where
+  pub stretched_none : get_or found i None ≡ None → accepted C owners i ≡ false
+  stretched_none e = judged_none I.owning.given.sound owners I.owning.owned i l (sym (I.found i l) ∙ e)
+
+  module _ {p : Ports} (e : get_or found i None ≡ Some p) where
+    was_found : found_ports C owners i ≡ Some p
+    was_found = sym (I.found i l) ∙ e
+
+    pub ports-below : (p.first < count) × (p.second < count)
+    ports-below =
+        let F = found-fit I.owning.given.sound owners I.owning.owned i l was_found in
+        (omega (arith, F.first, I.owning.counted), omega (arith, F.second, I.owning.counted))
+
+    -- n is the number after the last boundary that has the owner
+    module _ {low high n : ℕ} (E : EndOf owners count (get_or owners i 0) n) (low-is : low ≡ min i (min p.first p.second)) (high_is : high ≡ max n (max p.first p.second + 1)) where
+      pub stretched_two : Stretched C pairs names owners i (record { name = get_or owners i 0; begin = 2 * get_or starts low 0; end = 2 * get_or starts high 0; first = p.first; second = p.second })
+      stretched_two =
+          let F = found-fit I.owning.given.sound owners I.owning.owned i l was_found in
           record {
             name = refl;
-            rising = omega arith;
-            readable = λ k a b. absurd (omega arith);
-            first = l;
-            second = l;
-            judged = judged-other I.owning.given.sound owners I.owning.owned i l pairs names (get_or owners i 0) 0 i i d;
+            rising = starts-rise I.owning.given.paired low high (omega arith) spanned.upto;
+            readable = place-readable I.owning.given.paired low high spanned.upto (omega arith);
+            first = F.first;
+            second = F.second;
+            judged = judged_two I.owning.given.sound owners I.owning.owned i l I.owning.given.paired was_found spanned (I.settled i l p.first p.second was_found);
           }
-      go (ports.Two a b) d = absurd (omega (arith, e, (I.found i l).0 ∙ ap first_of d, (found-fit I.owning.given.sound owners I.owning.owned i l d).first, I.owning.given.paired.few))
-
-  pub ports-below : (get_or firsts i 0 ≡ no_port → ⊥) → (get_or firsts i 0 < count) × (get_or seconds i 0 < count)
-  ports-below none = go (found_ports C owners i) refl
-    where
-      go : (x : Ports) → found_ports C owners i ≡ x → (get_or firsts i 0 < count) × (get_or seconds i 0 < count)
-      go ports.Other d = absurd (none ((I.found i l).0 ∙ ap first_of d))
-      go (ports.Two a b) d =
-          let F = found-fit I.owning.given.sound owners I.owning.owned i l d in
-          (omega (arith, (I.found i l).0 ∙ ap first_of d, F.first, I.owning.counted), omega (arith, (I.found i l).1 ∙ ap second_of d, F.second, I.owning.counted))
-
-  -- n is the number after the last boundary that has the owner
-  module _ {low high n : ℕ} (E : EndOf owners count (get_or owners i 0) n) (low-is : low ≡ min i (min (get_or firsts i 0) (get_or seconds i 0))) (high_is : high ≡ max n (max (get_or firsts i 0) (get_or seconds i 0) + 1)) where
-    pub stretched_two : (get_or firsts i 0 ≡ no_port → ⊥) → Stretched C pairs names owners i (record { name = get_or owners i 0; begin = 2 * get_or starts low 0; end = 2 * get_or starts high 0; first = get_or firsts i 0; second = get_or seconds i 0 })
-    stretched_two none = go (found_ports C owners i) refl
-      where
-        go : (x : Ports) → found_ports C owners i ≡ x → Stretched C pairs names owners i (record { name = get_or owners i 0; begin = 2 * get_or starts low 0; end = 2 * get_or starts high 0; first = get_or firsts i 0; second = get_or seconds i 0 })
-        go ports.Other d = absurd (none ((I.found i l).0 ∙ ap first_of d))
-        go (ports.Two a b) d =
-            let f : get_or firsts i 0 ≡ a = (I.found i l).0 ∙ ap first_of d in
-            let g : get_or seconds i 0 ≡ b = (I.found i l).1 ∙ ap second_of d in
-            let F = found-fit I.owning.given.sound owners I.owning.owned i l d in
-            let N = spanned d f g F.first F.second in
-            record {
-              name = refl;
-              rising = starts-rise I.owning.given.paired low high (omega arith) N.upto;
-              readable = place-readable I.owning.given.paired low high N.upto (omega arith);
-              first = subst (λ m. m < C.count) (sym f) F.first;
-              second = subst (λ m. m < C.count) (sym g) F.second;
-              judged =
-                  ap₂ (λ m t. interior_fits_lem C pairs names (get_or owners i 0) (2 * get_or starts low 0) m t (2 * get_or starts high 0)) f g
-                  ∙ judged_two I.owning.given.sound owners I.owning.owned i l I.owning.given.paired d N (I.settled i l a b d);
-            }
-          where
-            spanned : {a b : ℕ} → found_ports C owners i ≡ ports.Two a b → get_or firsts i 0 ≡ a → get_or seconds i 0 ≡ b → a < C.count → b < C.count → Spanned C (get_or owners i 0) a b low high
-            spanned d f g u v =
-                found-spanned I.owning.given.sound owners I.owning.owned i l d I.owning.counted E (omega (arith, high_is)) (omega (arith, high_is, E.upto, f, g, u, v, I.owning.counted)) (omega (arith, low-is))
-                (omega (arith, low-is, f), omega (arith, high_is, f)) (omega (arith, low-is, g), omega (arith, high_is, g))
+        where
+          spanned : Spanned C (get_or owners i 0) p.first p.second low high
+          spanned =
+              found-spanned I.owning.given.sound owners I.owning.owned i l was_found I.owning.counted E (omega (arith, high_is)) (omega (arith, high_is, E.upto, ports-below, I.owning.counted)) (omega (arith, low-is))
+              (omega (arith, low-is), omega (arith, high_is)) (omega (arith, low-is), omega (arith, high_is))

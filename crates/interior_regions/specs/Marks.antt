@@ -1,26 +1,27 @@
 -- What is known once the components are proposed, and which of them the pass takes. Definitions only; assumes nothing.
-use Rattle.std.specs.Prelude.{ℕ, ◌*◌, ◌≤◌, ◌<◌, ◌≡◌, Bool, false, ◌&&◌, List, length, get_or, eqb}
+use Rattle.std.specs.Prelude.{ℕ, ◌*◌, ◌≤◌, ◌<◌, ◌≡◌, Bool, false, ◌&&◌, List, length, get_or, eqb, Option, MatchOption}
 use Rattle.definitions.specs.Limits.{max_side}
 use Rattle.definitions.specs.Scan.{any_below_lem}
 use Rattle.definitions.specs.Context.{Context}
 use Rattle.laws.specs.FloatLaws.Pixels.{PixelContext}
+use Rattle.interior_proposals.specs.declared.ports.Ports.{Ports}
 use Rattle.interior_proposals.specs.Proposals.{found_ports, Settled, Owning, FoundAll, records_fit}
 use Rattle.interior_regions.specs.Places.{AllReadable, interior_fits_lem}
 use Rattle.interior_regions.specs.declared.Interior.{Interior}
 
 -- the lists show C, and hold what was found of its components
-pub record Interiors (C : Context) (boundaries tallies pairs starts names owners firsts seconds : List ℕ) (count : ℕ) : Type 0 where
+pub record Interiors (C : Context) (boundaries tallies pairs starts names owners : List ℕ) (ports : List (Option Ports)) (count : ℕ) : Type 0 where
   pub owning : Owning C boundaries tallies pairs starts owners count
-  pub found : FoundAll C owners firsts seconds C.count
+  pub found : FoundAll C owners ports C.count
   pub settled : (j : ℕ) → j < C.count → Settled C owners names j
   pub long : C.regions ≤ length names
   pub few : C.regions ≤ max_side * max_side
   pub pixels : PixelContext C
 
 -- some context and lists are so
-abbrev pub SomeInteriors : List ℕ → List ℕ → List ℕ → List ℕ → List ℕ → ℕ → Type 0
-SomeInteriors pairs starts owners firsts seconds count =
-    (C : Context) × ((boundaries : List ℕ) × ((tallies : List ℕ) × ((names : List ℕ) × Interiors C boundaries tallies pairs starts names owners firsts seconds count)))
+abbrev pub SomeInteriors : List ℕ → List ℕ → List ℕ → List (Option Ports) → ℕ → Type 0
+SomeInteriors pairs starts owners ports count =
+    (C : Context) × ((boundaries : List ℕ) × ((tallies : List ℕ) × ((names : List ℕ) × Interiors C boundaries tallies pairs starts names owners ports count)))
 
 -- the component whose first boundary is i is proposed: two ports were found there, and the records fit
 unfoldable pub accepted : Context → List ℕ → ℕ → Bool
@@ -46,3 +47,7 @@ pub record Stretched (C : Context) (pairs names owners : List ℕ) (i : ℕ) (x 
   pub first : x.first < C.count
   pub second : x.second < C.count
   pub judged : interior_fits_lem C pairs names x.name x.begin x.first x.second x.end ≡ accepted C owners i
+
+-- where nothing stands, no component that is proposed has i for its first boundary
+abbrev pub StandsAt : Context → List ℕ → List ℕ → List ℕ → ℕ → Option Interior → Type 0
+StandsAt C pairs names owners i found = MatchOption found (accepted C owners i ≡ false) (Stretched C pairs names owners i)

@@ -1,5 +1,5 @@
 -- The regions of rows, place by place: row j has the places 2 j and 2 j + 1. Definitions only; assumes nothing.
-use Rattle.std.specs.Prelude.{ℕ, ◌+◌, ◌*◌, ◌/◌, ◌%◌, ◌≤◌, ◌<◌, ◌≡◌, Bool, true, false, not, ◌&&◌, ◌||◌, List, length, get_or, eqb, leb}
+use Rattle.std.specs.Prelude.{ℕ, ◌+◌, ◌*◌, ◌/◌, ◌%◌, ◌≤◌, ◌<◌, Bool, not, ◌&&◌, ◌||◌, List, length, get_or, eqb, leb}
 use Rattle.definitions.specs.Limits.{numbers_per_pair}
 use Rattle.definitions.specs.Scan.{any_below_lem, all_below}
 use Rattle.definitions.specs.RegionRecord.{has_ramp}
@@ -23,13 +23,6 @@ AllReadable rows n first end = (k : ℕ) → first ≤ k → k < end → Readabl
 -- the region at place k has the name
 abbrev pub is_named : List ℕ → List ℕ → ℕ → ℕ → Bool
 is_named rows names name k = eqb (entry_at names (region_at rows k)) name
-
--- j is the first place from `first` on whose region has the name, or `end`
-pub record NextInside (rows names : List ℕ) (name first end j : ℕ) : Type 0 where
-  pub rising : first ≤ j
-  pub upto : j ≤ end
-  pub found : j < end → is_named rows names name j ≡ true
-  pub before : (k : ℕ) → first ≤ k → k < j → is_named rows names name k ≡ false
 
 -- ---- what is asked of the records of regions
 

@@ -3,24 +3,24 @@
 
 #![tactic(auto)]
 
-ghost use Rattle.std.specs.Prelude.{◌≡◌, false, ◌&&◌, ◌||◌, ℕ, ◌-◌, ◌≤◌, ◌<◌, length, get_or, eqb, List};
+ghost use Rattle.std.specs.Prelude.{◌≡◌, false, ◌&&◌, ◌||◌, ℕ, ◌-◌, ◌≤◌, ◌<◌, length, get_or, eqb, List, None};
 ghost use Rattle.definitions.specs.Limits.{max_entries};
 ghost use Rattle.definitions.specs.Context.{Context};
 ghost use Rattle.laws.specs.FloatLaws.Pixels.{PixelContext};
 ghost use Rattle.interior_proposals.specs.Given.{Lent, SomeLent};
-ghost use Rattle.interior_regions.specs.Marks.{Interiors, SomeInteriors, Stretched, EndOf};
-ghost use Rattle.interior_regions.specs.Places.{region_at, Readable, AllReadable, NextInside};
+ghost use Rattle.interior_regions.specs.Marks.{Interiors, SomeInteriors, StandsAt, EndOf};
+ghost use Rattle.interior_regions.specs.Places.{region_at, Readable, is_named};
 
 use interior_proposals::components::{name_components, parent_of};
 use interior_proposals::owners::find_owners;
-use interior_proposals::proposals::{NO_PORT, propose_all};
-use plain_numbers::{least, most};
+use interior_proposals::ports::Ports;
+use interior_proposals::proposals::propose_all;
 
 const NUMBERS_PER_PAIR: usize = 3;
 
 const REGIONS_PER_PAIR: usize = 2;
 
-// The component at a boundary, the places of rows among which its regions stand, and its ports. Where nothing was found, there is no place.
+// The component at a boundary, the places of rows among which its regions stand, and its ports.
 #[derive(Clone, Copy)]
 pub struct Interior {
     pub name: u32,
@@ -46,20 +46,12 @@ pub fn record_place(pairs: &[u32], k: usize) -> usize
     region_at(pairs, k) as usize - 1
 }
 
-// The first place from `first` on, before `end`, whose region has the name; `end` where there is none.
-pub fn next_inside(pairs: &[u32], names: &[u32], name: u32, first: usize, end: usize) -> usize
-    requires ordered { first ≤ end }
-    requires readable { AllReadable pairs.now (length names.now) first end }
-    ensures { NextInside pairs.now names.now name first end result }
+// Whether the region at place k has the name.
+pub fn is_inside(pairs: &[u32], names: &[u32], name: u32, k: usize) -> bool
+    requires { Readable pairs.now (length names.now) k }
+    ensures { result ≡ is_named pairs.now names.now name k }
 {
-    let mut k = first;
-    while k < end {
-        if parent_of(names, region_at(pairs, k)) == name {
-            return k;
-        }
-        k += 1;
-    }
-    k
+    parent_of(names, region_at(pairs, k)) == name
 }
 
 // Marks the boundaries whose owner has the name, if `on`.
@@ -84,54 +76,40 @@ fn end_of(owners: &[u32; 256], count: usize, name: u32) -> usize
     requires { count ≤ max_entries }
     ensures { EndOf owners.now count name result }
 {
-    let mut j = count;
-    while 0 < j {
-        if owners[j - 1] == name {
-            return j;
+    for j in (0..count).rev() {
+        if owners[j] == name {
+            return j + 1;
         }
-        j -= 1;
     }
-    j
+    0
 }
 
-// What stands at boundary i. Where ports were found, it is the first edge, and each region of the interior stands in a row of an edge or of a port.
+// What stands at boundary i, if ports were found. It is the first edge, and each region of the interior stands in a row of an edge or of a port.
 pub fn interior_at(
     pairs: &[u32],
     starts: &[usize; 257],
     owners: &[u32; 256],
-    firsts: &[usize; 256],
-    seconds: &[usize; 256],
+    found: &[Option<Ports>; 256],
     count: usize,
     i: usize,
-) -> Interior
+) -> Option<Interior>
     requires i_within { i < count }
-    requires interiors { SomeInteriors pairs.now starts.now owners.now firsts.now seconds.now count }
+    requires interiors { SomeInteriors pairs.now starts.now owners.now found.now count }
     ensures { (C : Context) (boundaries tallies names : List ℕ) →
-        Interiors C boundaries tallies pairs.now starts.now names owners.now firsts.now
-        seconds.now count →
-        Stretched C pairs.now names owners.now i result }
+        Interiors C boundaries tallies pairs.now starts.now names owners.now found.now count →
+        StandsAt C pairs.now names owners.now i result }
 {
+    let ports = found[i]?;
     let name = owners[i];
-    let a = firsts[i];
-    let b = seconds[i];
-    if a == NO_PORT {
-        return Interior {
-            name,
-            begin: 0,
-            end: 0,
-            first: i,
-            second: i,
-        };
-    }
-    let low = least(i, least(a, b));
-    let high = most(end_of(owners, count, name), most(a, b) + 1);
-    Interior {
+    let low = i.min(ports.first.min(ports.second));
+    let high = end_of(owners, count, name).max(ports.first.max(ports.second) + 1);
+    Some(Interior {
         name,
         begin: REGIONS_PER_PAIR * starts[low],
         end: REGIONS_PER_PAIR * starts[high],
-        first: a,
-        second: b,
-    }
+        first: ports.first,
+        second: ports.second,
+    })
 }
 
 // Names the components in place of the counts, and finds owners and ports.
@@ -145,17 +123,16 @@ pub fn find_interiors(
     marks: &mut [u16],
     counts: &mut [u32],
     owners: &mut [u32; 256],
-    firsts: &mut [usize; 256],
-    seconds: &mut [usize; 256],
+    found: &mut [Option<Ports>; 256],
 )
     requires lent { SomeLent boundaries.now tallies.now pairs.now starts.now count regions marks.old counts.old }
-    requires room { (length owners.old ≡ max_entries) × ((length firsts.old ≡ max_entries) × (length seconds.old ≡ max_entries)) }
+    requires room { (length owners.old ≡ max_entries) × (length found.old ≡ max_entries) }
     ensures found { (C : Context) →
         Lent C boundaries.now tallies.now pairs.now starts.now count regions marks.old
         counts.old →
         PixelContext C →
         Interiors C boundaries.now tallies.now pairs.now starts.now
-        counts.new owners.new firsts.new seconds.new count }
+        counts.new owners.new found.new count }
     ensures lengths { (length marks.new ≡ length marks.old) × (length counts.new ≡ length counts.old) }
 {
     name_components(
@@ -163,6 +140,6 @@ pub fn find_interiors(
     );
     find_owners(boundaries, tallies, pairs, starts, counts, count, owners);
     propose_all(
-        boundaries, tallies, pairs, starts, counts, marks, owners, count, firsts, seconds,
+        boundaries, tallies, pairs, starts, counts, marks, owners, count, found,
     );
 }

@@ -1,12 +1,10 @@
 -- Pass 1, a mouth with its approach: what the large context finds for a mouth and a ramp inside is what the small one finds for their ranks, renamed.
 -- One lemma for each definition, in their order, up to the mouth of a given shape and the mouth of a given triangle. Assumes a frame.
 use Prim.Native.Nat.{ℕ}
-use Rattle.std.specs.Prelude.{◌≡◌, ◌&&◌, ◌||◌, leb}
+use Rattle.std.specs.Prelude.{◌≡◌, ◌&&◌, ◌||◌, leb, option_map, Option}
 use Rattle.std.proofs.Math.Path.{refl, sym, ap}
 use Rattle.std.proofs.Common.{◌∙◌}
 use Rattle.std.proofs.Math.Bool.{Bool, true, false, not, cond, and-false}
-use Rattle.std.specs.Prelude.{option_map}
-use Rattle.std.specs.Prelude.{Option}
 use mathlib.Core.List.{List, [], ◌∷◌, map}
 use Rattle.std.proofs.Math.ListN.{length}
 use Rattle.std.proofs.lemmas.List.{length-map}

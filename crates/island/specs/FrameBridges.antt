@@ -1,11 +1,9 @@
 -- Pass 3, the bridges: what the large context proposes for a pocket inside is what the small one proposes for its new number, renamed; and the ports and the
 -- exterior of a pocket lie where it does. One lemma for each definition, in their order. Assumes a frame.
-use Rattle.std.specs.Prelude.{ℕ, ◌≡◌, Bool, ◌&&◌, List, map, eqb}
+use Rattle.std.specs.Prelude.{ℕ, ◌≡◌, Bool, ◌&&◌, List, map, eqb, option_map, Option, None}
 use Rattle.std.proofs.Math.Path.{refl, sym, ap}
 use Rattle.std.proofs.Common.{ap₂, ◌∙◌}
 use Rattle.std.proofs.Math.Bool.{true, not, cond}
-use Rattle.std.specs.Prelude.{option_map}
-use Rattle.std.specs.Prelude.{Option, None}
 use Rattle.std.specs.Float.Ieee.{binary64, le, mul}
 use Rattle.definitions.specs.Scan.{all, only_if}
 use Rattle.definitions.specs.Grid.{Pair}

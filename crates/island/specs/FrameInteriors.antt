@@ -1,11 +1,9 @@
 -- Pass 2, the proposals and the choice: inside, the large context's proposals, their order and their conflicts are the small one's, and no proposal outside
 -- conflicts with one inside; so a boundary inside is removed exactly when the small context removes its rank. Assumes a frame.
-use Rattle.std.specs.Prelude.{ℕ, suc, ◌<◌, ◌≡◌, Bool, ◌&&◌}
+use Rattle.std.specs.Prelude.{ℕ, suc, ◌<◌, ◌≡◌, Bool, ◌&&◌, option_map, None}
 use Rattle.std.proofs.Common.{arith, ◌∙◌}
 use Rattle.std.proofs.Math.Path.{refl, sym, ap, ap₂}
 use Rattle.std.proofs.Math.Bool.{true, false, not, ◌||◌, cond}
-use Rattle.std.specs.Prelude.{option_map}
-use Rattle.std.specs.Prelude.{None}
 use mathlib.Core.List.{List, ◌∷◌, map}
 use Rattle.std.proofs.Math.Dec.{eqb}
 use Rattle.std.specs.Float.Ieee.{le}

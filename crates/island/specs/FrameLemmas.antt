@@ -1,11 +1,9 @@
 -- What all passes ask of a context, of a large one inside and of the small one: incidents, full cuts and full pairs, widths, and scans over the boundaries.
 -- A lemma `x_in` says that the large context's answer inside is the small one's, at the new numbers. Assumes a frame.
-use Rattle.std.specs.Prelude.{ℕ, ◌≡◌, refl, Bool, false, not, ◌&&◌, List, [], ◌∷◌, map}
+use Rattle.std.specs.Prelude.{ℕ, ◌≡◌, refl, Bool, false, not, ◌&&◌, List, [], ◌∷◌, map, option_map, Option}
 use Rattle.std.proofs.Common.{sym, ◌∙◌}
 use Rattle.std.proofs.Math.Path.{ap}
 use Rattle.std.proofs.Math.Bool.{true}
-use Rattle.std.specs.Prelude.{option_map}
-use Rattle.std.specs.Prelude.{Option}
 use Rattle.std.proofs.Math.Dec.{eqb, ltb}
 use Rattle.std.specs.Float.Ieee.{binary64, of_bits}
 use Rattle.definitions.specs.Scan.{any, any_below_lem, all_below, count_below, collect, to_list, only_if}

@@ -1,11 +1,9 @@
 -- Pass 1, the proposals for a ramp and a mouth. Of one side, a proposal has its regions there too; inside, it is the small context's, renamed; of two sides,
 -- there is none, since the ramp's pair names no region of the mouth. Assumes a frame.
-use Rattle.std.specs.Prelude.{ℕ, Bool, ◌&&◌, ◌||◌, List, [], ◌∷◌, map, length, leb}
+use Rattle.std.specs.Prelude.{ℕ, Bool, ◌&&◌, ◌||◌, List, [], ◌∷◌, map, length, leb, option_map, Option, None, Some}
 use Rattle.std.proofs.Math.Path.{◌≡◌, refl, ap, ap₂}
 use Rattle.std.proofs.Common.{sym, ◌∙◌}
 use Rattle.std.proofs.Math.Bool.{true, false, not, cond}
-use Rattle.std.specs.Prelude.{option_map}
-use Rattle.std.specs.Prelude.{Option, None, Some}
 use Rattle.std.proofs.Math.Dec.{eqb}
 use Rattle.std.specs.Float.Ieee.{le, lt}
 use Rattle.definitions.specs.Scan.{any, all, filter, only_if}

@@ -1,10 +1,9 @@
 -- The rows: whatever is kept alike inside, the rows of the boundaries inside are the small context's rows, in the same order, with ranks in place of
 -- numbers. Rows are sorted by endpoints, then number, and ranks stand in the order of the numbers. Assumes a frame.
 use Prim.Native.Nat.{ℕ}
-use Rattle.std.specs.Prelude.{◌≡◌, Bool, true, false, ◌&&◌, ◌||◌, [], ◌∷◌, map}
+use Rattle.std.specs.Prelude.{◌≡◌, Bool, true, false, ◌&&◌, ◌||◌, [], ◌∷◌, map, Option}
 use Rattle.std.proofs.Math.Path.{refl, ap}
 use Rattle.std.proofs.Common.{sym, ◌∙◌}
-use Rattle.std.specs.Prelude.{Option}
 use Rattle.std.proofs.Math.ListN.{length}
 use Rattle.definitions.specs.Scan.{filter, collect, only_if}
 use Rattle.definitions.specs.Sort.{sort, list_lt}

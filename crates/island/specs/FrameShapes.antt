@@ -1,11 +1,9 @@
 -- The shapes of mouths and triangles, from lists of pairs: of pairs inside they are those of the renamed pairs, renamed; of pairs on one side they have their
 -- regions there; and pairs of two sides make no triangle. Assumes nothing.
-use Rattle.std.specs.Prelude.{ℕ, ◌≡◌, Bool, ◌&&◌, length}
+use Rattle.std.specs.Prelude.{ℕ, ◌≡◌, Bool, ◌&&◌, length, option_map, Option, None, Some}
 use Rattle.std.proofs.Math.Path.{refl, sym, ap}
 use Rattle.std.proofs.Common.{◌∙◌}
 use Rattle.std.proofs.Math.Bool.{true, false, not, and-false}
-use Rattle.std.specs.Prelude.{option_map}
-use Rattle.std.specs.Prelude.{Option, None, Some}
 use mathlib.Core.List.{List, [], ◌∷◌, map}
 use Rattle.std.proofs.lemmas.List.{length-map}
 use Rattle.std.proofs.Math.Dec.{eqb}

@@ -1,11 +1,9 @@
 -- Pass 3, the unions: what the large context proposes at a boundary inside is what the small one proposes at its rank, renamed; and a proposal's regions lie
 -- where its boundary does. One lemma for each definition, in their order. Assumes a frame.
-use Rattle.std.specs.Prelude.{ℕ, ◌+◌, ◌≡◌, false, ◌||◌}
+use Rattle.std.specs.Prelude.{ℕ, ◌+◌, ◌≡◌, false, ◌||◌, Option, option_map}
 use Rattle.std.proofs.Math.Path.{refl, ap, ap₂}
 use Rattle.std.proofs.Common.{sym, ◌∙◌}
 use Rattle.std.proofs.Math.Bool.{Bool, true, not, ◌&&◌, cond, and-false}
-use Rattle.std.specs.Prelude.{Option}
-use Rattle.std.specs.Prelude.{option_map}
 use Rattle.std.proofs.Math.Dec.{eqb, ltb, leb}
 use Rattle.std.specs.Float.Ieee.{le}
 use Rattle.definitions.specs.Scan.{any_below_lem, all_below, only_if, bit}

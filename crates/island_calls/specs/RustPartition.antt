@@ -1,9 +1,8 @@
 -- DEMAND 2 over calls, its labels and assessments: a call that met the contract and returned 0 holds in its lists the labels, tallies and pairs that the Rust's own
 -- `partition_by_spans` gives for the map that it was lent, and so does a partition alone, which answers with as many regions as the Rust has areas. (The kept rows are `Call-rows`, RustRows.) The proof: the lists hold the
 -- definitions' data, which are the Rust's (rust_partition, PartitionAsRust). Assumes nothing more.
-use Rattle.std.specs.Prelude.{ℕ, ◌≡◌, List, [], ◌∷◌, length}
+use Rattle.std.specs.Prelude.{ℕ, ◌≡◌, List, [], ◌∷◌, length, Option}
 use Rattle.std.proofs.Common.{arith, sym, ap, ◌∙◌}
-use Rattle.std.specs.Prelude.{Option}
 use Rattle.definitions.specs.Limits.{numbers_per_span}
 use Rattle.definitions.specs.RegionRecord.{Region}
 use Rattle.definitions.specs.Lists.{overwrite}

@@ -1,8 +1,7 @@
 -- DEMAND 2 over a call: a call that met the contract and returned 0 holds in its output the rows that the Rust's own steps return for the map that it was lent.
 -- The proof: check 4 leaves passes 1, 2 and 3, and for each the steps return the definitions' rows (laws, RustPasses). Assumes nothing more.
-use Rattle.std.specs.Prelude.{ℕ, zero, suc, ◌≡◌, List, [], leb}
+use Rattle.std.specs.Prelude.{ℕ, zero, suc, ◌≡◌, List, [], leb, None}
 use Rattle.std.proofs.Common.{arith, sym, ap, ◌∙◌, true≢false, leb-true}
-use Rattle.std.specs.Prelude.{None}
 use Rattle.definitions.specs.Grid.{Map}
 use Rattle.definitions.specs.RegionRecord.{Region}
 use Rattle.definitions.specs.Refusals.{pass_fault}

@@ -8,8 +8,10 @@ use Rattle.areas.specs.Answers.{answer_of}
 use Rattle.areas.specs.Contract.{Ran}
 use Rattle.areas.specs.declared.Partitioned.{Partitioned}
 use Rattle.definitions.specs.Sheet.{Reading}
-use Rattle.sheet.specs.Contract.{Answered}
-use Rattle.sheet.specs.declared.Answer.{Answer as SheetAnswer}
+use Rattle.std.specs.Prelude.{Result}
+use Rattle.refusals.specs.declared.Refusal.{Refusal}
+use Rattle.sheet.specs.Contract.{by_number, Answered}
+use Rattle.sheet.specs.declared.Header.{Header}
 use Rattle.jenwyllt.specs.Contract.{answer_in, Partitions, sheet_in, Reads}
 use Rattle.jenwyllt.specs.declared.JenwylltAnswer.{JenwylltAnswer}
 use Rattle.jenwyllt.specs.declared.JenwylltSheet.{JenwylltSheet}
@@ -25,12 +27,12 @@ answered {L} {f} {l} {m} {q} {t} {p} r ran e =
       pairs = subst (λ (a : Answer). p ≡ (partition_exit L a.number).pairs) e ran.pairs;
     }
 
-pub sheet-answered : {reading : Reading} {cells spans boundaries anchors : List ℕ} {f g : SheetAnswer} {cells' spans' boundaries' anchors' : List ℕ} {r : JenwylltSheet}
-    → Answered reading cells spans boundaries anchors f cells' spans' boundaries' anchors' → f ≡ g → r ≡ sheet_in g
+pub sheet-answered : {reading : Reading} {cells spans boundaries anchors : List ℕ} {f g : Result Header Refusal} {cells' spans' boundaries' anchors' : List ℕ} {r : JenwylltSheet}
+    → Answered reading cells spans boundaries anchors f cells' spans' boundaries' anchors' → f ≡ g → r ≡ sheet_in (by_number g)
     → Reads reading cells spans boundaries anchors r cells' spans' boundaries' anchors'
 sheet-answered read same told =
     record {
-      answer = told ∙ ap sheet_in (sym same ∙ read.said);
+      answer = told ∙ ap sheet_in (ap by_number (sym same) ∙ read.said);
       cells_left = read.cells_left;
       spans-left = read.spans-left;
       boundaries-left = read.boundaries-left;

@@ -1,12 +1,12 @@
 -- The contracts of the exported partition and reader: those of `areas::partition` and `sheet::read_sheet`, with the answer as numbers. Definitions only;
 -- assumes nothing.
-use Rattle.std.specs.Prelude.{ℕ, ◌≡◌, List}
+use Rattle.std.specs.Prelude.{ℕ, ◌≡◌, List, Result, Ok, Err}
 use Rattle.definitions.specs.Verdict.{Lent, Answer, partition_verdict}
 use Rattle.definitions.specs.AtExit.{partition_exit}
+use Rattle.definitions.specs.Refusals.{Refusal}
 use Rattle.definitions.specs.Sheet.{Reading, at_exit}
 use Rattle.sheet.specs.Contract.{answer_of}
-use Rattle.sheet.specs.declared.Answer.{Answer as SheetAnswer}
-use Rattle.sheet.specs.declared.Answer.TheVariants.{Read, Refused}
+use Rattle.sheet.specs.declared.Header.{Header}
 use Rattle.jenwyllt.specs.declared.JenwylltAnswer.{JenwylltAnswer}
 use Rattle.jenwyllt.specs.declared.JenwylltSheet.{JenwylltSheet}
 
@@ -23,8 +23,8 @@ pub record Partitions (L : Lent) (r : JenwylltAnswer) (l m q t p : List ℕ) : T
   pub pairs : p ≡ (partition_exit L r.number).pairs
 
 -- document 01's number and place of the reader's answer, and what the sheet opens with, which is 0 throughout where it is refused
-abbrev pub sheet_in : SheetAnswer → JenwylltSheet
-sheet_in (Read header) =
+abbrev pub sheet_in : Result Header Refusal → JenwylltSheet
+sheet_in (Ok header) =
     record {
       number = 0;
       place = 0;
@@ -35,7 +35,7 @@ sheet_in (Read header) =
       boundaries = header.boundaries;
       anchors = header.anchors;
     }
-sheet_in (Refused refusal at) = record { number = refusal; place = at; pass = 0; width = 0; height = 0; spans = 0; boundaries = 0; anchors = 0 }
+sheet_in (Err refusal) = record { number = refusal.number; place = refusal.place; pass = 0; width = 0; height = 0; spans = 0; boundaries = 0; anchors = 0 }
 
 -- what the bytes read as, the lists at entry, the answer, and the lists at exit
 pub record Reads (reading : Reading) (cells spans boundaries anchors : List ℕ) (r : JenwylltSheet) (cells' spans' boundaries' anchors' : List ℕ) : Type 0 where

@@ -2,16 +2,17 @@
 
 #![tactic(auto)]
 
-ghost use Rattle.std.specs.Prelude.{◌≡◌, length};
+ghost use Rattle.std.specs.Prelude.{◌≡◌, length, Ok, Err};
 ghost use Rattle.definitions.specs.Hypotenuse.{hypot_number, hypot_value};
 ghost use Rattle.definitions.specs.Sheet.{read_verdict};
 ghost use Rattle.areas.specs.Contract.{given};
-ghost use Rattle.sheet.specs.declared.Answer.TheVariants.{Read, Refused};
+ghost use Rattle.refusals.specs.Refusals.{refusal_of};
 ghost use Rattle.jenwyllt.specs.Contract.{Partitions, sheet_in, Reads};
 
 use areas::{Partitioned, partition};
-use hypotenuse::{Answer, hypotenuse};
-use sheet::{Answer as Reading, Header, read_sheet};
+use hypotenuse::hypotenuse;
+use refusals::Refusal;
+use sheet::{Header, read_sheet};
 
 // Number 0 and a count, or a refusal's number and place.
 #[repr(C)]
@@ -65,7 +66,7 @@ pub struct JenwylltSheet {
 }
 
 fn opened(header: Header) -> JenwylltSheet
-    ensures { result ≡ sheet_in (Read header) }
+    ensures { result ≡ sheet_in (Ok header) }
 {
     JenwylltSheet {
         number: 0,
@@ -79,12 +80,12 @@ fn opened(header: Header) -> JenwylltSheet
     }
 }
 
-fn refused(number: u32, place: usize) -> JenwylltSheet
-    ensures { result ≡ sheet_in (Refused number place) }
+fn refused(refusal: Refusal) -> JenwylltSheet
+    ensures { result ≡ sheet_in (Err (refusal_of refusal)) }
 {
     JenwylltSheet {
-        number: number as u64,
-        place: place as u64,
+        number: refusal.cause.number(),
+        place: refusal.place as u64,
         pass: 0,
         width: 0,
         height: 0,
@@ -106,8 +107,8 @@ pub fn jenwyllt_read_sheet(
         anchors.old result cells.new spans.new boundaries.new anchors.new }
 {
     match read_sheet(bytes, cells, spans, boundaries, anchors) {
-        Reading::Read(header) => opened(header),
-        Reading::Refused(number, place) => refused(number, place),
+        Ok(header) => opened(header),
+        Err(refusal) => refused(refusal),
     }
 }
 
@@ -123,8 +124,8 @@ pub fn jenwyllt_hypotenuse(x: f64, y: f64) -> Outcome
     ensures { (result.number ≡ hypot_number x y) × (result.value ≡ hypot_value x y) }
 {
     match hypotenuse(x, y) {
-        Answer::Root(value) => Outcome { number: 0, value },
-        Answer::Refused => Outcome {
+        Some(value) => Outcome { number: 0, value },
+        None => Outcome {
             number: 13,
             value: 0.0,
         },

@@ -4,7 +4,7 @@ ghost use Rattle.std.specs.Prelude.{◌≡◌, length};
 ghost use Rattle.catalogue.specs.Line.{line_verdict, line_at_exit};
 ghost use Rattle.accession.specs.Contract.{answer_in};
 
-use accession::line::LineAnswer;
+use accession::LineAnswer;
 
 // "Report the whole line of an own number": 3 for a last entry unfinished, 17 at the first record that breaks a rule, 10 where the line does not fit.
 #[unsafe(no_mangle)]

@@ -20,6 +20,7 @@ use Rattle.junction_proposals.specs.Lent.{LentPairs, Lent, Shows}
 use Rattle.junction_proposals.specs.Unions.{is_union_at, shape_at}
 use Rattle.junction_proposals.specs.Bridges.{is_bridge_at}
 use Rattle.junction_proposals.specs.Rows.{row_at, rows_of, union_at, is_allowed, RowFits}
+use Rattle.junction_proposals.specs.declared.proposals.Candidate.{Candidate}
 use Rattle.junction_proposals.proofs.UnionRows.{of_some, union-row}
 use Rattle.junction_proposals.proofs.BridgeRows.{bridge-row}
 use Rattle.junction_proposals.proofs.BridgeIndex.{bridge_fits_lem}
@@ -63,7 +64,7 @@ shows-own s =
       pixels = s.pixels;
     }
 
-module _ (boundaries smaller larger counts marks rows : List ℕ) (count regions n : ℕ) (are : rows_of rows n ≡ collect count (union_at boundaries smaller larger counts marks count) ++ collect regions (λ k. is_bridge_at boundaries smaller larger marks (suc k) counts count)) where
+module _ (boundaries smaller larger counts marks : List ℕ) (rows : List Candidate) (count regions n : ℕ) (are : rows_of rows n ≡ collect count (union_at boundaries smaller larger counts marks count) ++ collect regions (λ k. is_bridge_at boundaries smaller larger marks (suc k) counts count)) where
   pub rows-proposed : (C : Context) → Shows boundaries smaller larger counts marks count regions C → filter (is_allowed C) (rows_of rows n) ≡ proposals C
   unfolding proposals
   rows-proposed C s =

@@ -1,7 +1,7 @@
 -- The bridge of a pocket, read off the lists: `bridge_proposal` of Junctions.antt but for what it asks of the pocket's record. Definitions only; assumes nothing.
 use Rattle.std.specs.Prelude.{ℕ, ◌-◌, ◌≤◌, ◌<◌, ◌≡◌, Bool, true, false, not, ◌&&◌, get_or}
 use Rattle.std.proofs.Math.Bool.{cond}
-use Rattle.std.specs.Prelude.{Option, None, Some}
+use Rattle.std.specs.Prelude.{Option, None, Some, MatchOption}
 use mathlib.Core.List.{List, [], ◌∷◌}
 use Rattle.std.proofs.Math.Dec.{eqb}
 use Rattle.std.specs.Float.{binary64}
@@ -13,12 +13,11 @@ use Rattle.definitions.specs.Junctions.{Proposal}
 use Rattle.junction_proposals.specs.Ports.{names}
 use Rattle.junction_proposals.specs.Unions.{width_at, no_ramp_at, is_near, mark_at}
 use Rattle.junction_proposals.specs.declared.bridges.Bridge.{Bridge}
-use Rattle.junction_proposals.specs.declared.bridges.Bridge.TheVariants.{None, At}
 
 -- a bridge of pocket r
-abbrev pub bridge_form : ℕ → Bridge → Option Proposal
+abbrev pub bridge_form : ℕ → Option Bridge → Option Proposal
 bridge_form r None = None
-bridge_form r (At i e) = Some (record { index = i; kind = 1; first = r; second = e })
+bridge_form r (Some b) = Some (record { index = b.index; kind = 1; first = r; second = b.exterior })
 
 -- boundary j is a full pair
 pub record PortAt (smaller : List ℕ) (count j : ℕ) : Type 0 where
@@ -79,5 +78,17 @@ module _ (boundaries smaller larger marks : List ℕ) (r : ℕ) where
 pub record FirstFrom (f : ℕ → Bool) (from n r : ℕ) : Type 0 where
   pub within : r ≤ n
   pub behind : r < n → from ≤ r
-  pub None : (j : ℕ) → from ≤ j → j < r → f j ≡ false
+  pub none : (j : ℕ) → from ≤ j → j < r → f j ≡ false
   pub found : r < n → f r ≡ true
+
+-- no number from `from` on, below n, passes f
+abbrev pub NoneFrom : (ℕ → Bool) → ℕ → ℕ → Type 0
+NoneFrom f from n = (j : ℕ) → from ≤ j → j < n → f j ≡ false
+
+-- r is the first that does
+abbrev pub FirstAt : (ℕ → Bool) → ℕ → ℕ → ℕ → Type 0
+FirstAt f from n r = (from ≤ r) × (r < n) × (f r ≡ true) × NoneFrom f from r
+
+-- the first that does, if one does
+abbrev pub FirstIn : (ℕ → Bool) → ℕ → ℕ → Option ℕ → Type 0
+FirstIn f from n found = MatchOption found (NoneFrom f from n) (FirstAt f from n)

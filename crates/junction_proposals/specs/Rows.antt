@@ -1,5 +1,5 @@
--- Proposals as rows of four numbers: boundary, kind, first and second region. Definitions only; assumes nothing.
-use Rattle.std.specs.Prelude.{ℕ, ◌+◌, ◌*◌, ◌≤◌, ◌<◌, Bool, ◌&&◌, List, get_or, eqb}
+-- Proposals as the code has them: boundary, kind, first and second region. Definitions only; assumes nothing.
+use Rattle.std.specs.Prelude.{ℕ, ◌≤◌, ◌<◌, Bool, ◌&&◌, List, get_or, eqb}
 use Rattle.std.proofs.Math.Bool.{not, cond}
 use Rattle.std.specs.Prelude.{Option, Some}
 use Rattle.definitions.specs.Scan.{collect, only_if}
@@ -8,25 +8,30 @@ use Rattle.definitions.specs.RegionRecord.{has_ramp, strictly_flat}
 use Rattle.definitions.specs.Context.{Context}
 use Rattle.definitions.specs.Junctions.{Proposal, within_radius, union_regions}
 use Rattle.junction_proposals.specs.Unions.{is_union_at}
+use Rattle.junction_proposals.specs.declared.proposals.Kind.{Kind}
+use Rattle.junction_proposals.specs.declared.proposals.Kind.TheVariants.{Union, Bridge}
+use Rattle.junction_proposals.specs.declared.proposals.Candidate.{Candidate}
 
 -- at most 256 unions, and 170 bridges: a pocket has three full pairs, and a full pair names two regions
 abbrev pub max_proposals : ℕ
 max_proposals = 426
 
-abbrev pub numbers_per_proposal : ℕ
-numbers_per_proposal = 4
+abbrev pub kind_of : Kind → ℕ
+kind_of Union = 0
+kind_of Bridge = 1
 
-abbrev pub row_at : List ℕ → ℕ → Proposal
-row_at rows k =
-    record {
-      index = get_or rows (numbers_per_proposal * k) 0;
-      kind = get_or rows (numbers_per_proposal * k + 1) 0;
-      first = get_or rows (numbers_per_proposal * k + 2) 0;
-      second = get_or rows (numbers_per_proposal * k + 3) 0;
-    }
+abbrev pub form : Candidate → Proposal
+form c = record { index = c.index; kind = kind_of c.kind; first = c.first; second = c.second }
+
+-- what is said of a place beyond the last
+abbrev pub nothing : Candidate
+nothing = record { index = 0; kind = Union; first = 0; second = 0 }
+
+abbrev pub row_at : List Candidate → ℕ → Proposal
+row_at rows k = form (get_or rows k nothing)
 
 -- the first n rows
-unfoldable pub rows_of : List ℕ → ℕ → List Proposal
+unfoldable pub rows_of : List Candidate → ℕ → List Proposal
 unfolding collect
 rows_of rows n = collect n (λ k. Some (row_at rows k))
 

@@ -2,7 +2,7 @@
 ghost use Rattle.std.specs.Prelude.{◌≡◌, ◌≤◌, ◌<◌, length};
 ghost use Rattle.definitions.specs.Context.{other_region};
 ghost use Rattle.junction_proposals.specs.Lent.{LentBoundaries, LentPairs, Lent};
-ghost use Rattle.junction_proposals.specs.Bridges.{bridge_form, PortAt, is_twice_at, is_shared_at, near_at, pick_at, bridge_of_three, is_pocket_port, is_bridge_at, FirstFrom};
+ghost use Rattle.junction_proposals.specs.Bridges.{bridge_form, PortAt, is_twice_at, is_shared_at, near_at, pick_at, bridge_of_three, is_pocket_port, is_bridge_at, FirstIn};
 
 use crate::distances::is_near_port;
 use crate::ports::names_region;
@@ -11,9 +11,9 @@ use geometry::boundaries::{kind_at, width_at};
 
 // The boundary that would go, and the region beyond it; `bridge_form` of specs/Bridges.antt gives the proposal.
 #[derive(Clone, Copy)]
-pub enum Bridge {
-    None,
-    At(usize, u32),
+pub struct Bridge {
+    pub index: usize,
+    pub exterior: u32,
 }
 
 // The region of the full pair a, b that is not r.
@@ -69,7 +69,7 @@ pub fn bridge_if_near(
     i: usize,
     k: usize,
     t: usize,
-) -> Bridge
+) -> Option<Bridge>
     requires boundaries_lent { LentBoundaries boundaries.now count }
     requires places { (i < count) × ((k < count) × (t < count)) }
     ensures { bridge_form r result ≡ near_at smaller.now larger.now r boundaries.now i k t }
@@ -78,9 +78,12 @@ pub fn bridge_if_near(
     let other = is_near_port(boundaries, i, k);
     let third = is_near_port(boundaries, i, t);
     if own & other & third {
-        Bridge::At(i, region_beyond(r, smaller[i], larger[i]))
+        Some(Bridge {
+            index: i,
+            exterior: region_beyond(r, smaller[i], larger[i]),
+        })
     } else {
-        Bridge::None
+        None
     }
 }
 
@@ -94,7 +97,7 @@ pub fn pick_bridge(
     i: usize,
     k: usize,
     t: usize,
-) -> Bridge
+) -> Option<Bridge>
     requires boundaries_lent { LentBoundaries boundaries.now count }
     requires places { (i < count) × ((k < count) × (t < count)) }
     ensures { bridge_form r result ≡ pick_at smaller.now larger.now r boundaries.now i k t }
@@ -105,7 +108,7 @@ pub fn pick_bridge(
     if is_twice_as_wide(boundaries, count, k, i) {
         return bridge_if_near(boundaries, smaller, larger, count, r, k, i, t);
     }
-    Bridge::None
+    None
 }
 
 // The bridge of a pocket whose ports are i, j and k, of which two share their exterior.
@@ -120,7 +123,7 @@ pub fn bridge_of_three(
     i: usize,
     j: usize,
     k: usize,
-) -> Bridge
+) -> Option<Bridge>
     requires boundaries_lent { LentBoundaries boundaries.now count }
     requires pairs_lent { LentPairs smaller.now larger.now count regions }
     requires marks_room { regions ≤ length marks.now }
@@ -138,10 +141,10 @@ pub fn bridge_of_three(
     if is_shared(smaller, larger, marks, count, regions, r, j, k, i) {
         return pick_bridge(boundaries, smaller, larger, count, r, j, k, i);
     }
-    Bridge::None
+    None
 }
 
-// The first port of pocket r from number `from` on, or `count`: a full pair without ramp that names the pocket.
+// The first port of pocket r from number `from` on: a full pair without ramp that names the pocket.
 pub fn next_port(
     boundaries: &[u64],
     smaller: &[u32; 256],
@@ -149,17 +152,11 @@ pub fn next_port(
     count: usize,
     r: u32,
     from: usize,
-) -> usize
+) -> Option<usize>
     requires { LentBoundaries boundaries.now count }
-    ensures { FirstFrom (is_pocket_port smaller.now larger.now r boundaries.now) «from» count result }
+    ensures first { FirstIn (is_pocket_port smaller.now larger.now r boundaries.now) «from» count result }
 {
-    for j in from..count {
-        let plain = kind_at(boundaries, j) == 0;
-        if names_region(smaller[j], larger[j], r) & plain {
-            return j;
-        }
-    }
-    count
+    (from..count).find(|&j| names_region(smaller[j], larger[j], r) && kind_at(boundaries, j) == 0)
 }
 
 // The bridge of region r: it is not anchored, and its incidents are three full pairs without ramps.
@@ -172,28 +169,25 @@ pub fn bridge_of(
     count: usize,
     regions: usize,
     r: u32,
-) -> Bridge
+) -> Option<Bridge>
     requires lent { Lent boundaries.now smaller.now larger.now counts.now marks.now count regions }
     requires r_named { (1 ≤ r) × (r ≤ regions) }
     ensures { bridge_form r result ≡ is_bridge_at boundaries.now smaller.now larger.now marks.now r
         counts.now count }
 {
     if counts[r as usize - 1] != 3 {
-        return Bridge::None;
+        return None;
     }
     if anchored_bit(marks, r) == 1 {
-        return Bridge::None;
+        return None;
     }
-    let i = next_port(boundaries, smaller, larger, count, r, 0);
-    let j = next_port(boundaries, smaller, larger, count, r, i + 1);
-    let k = next_port(boundaries, smaller, larger, count, r, j + 1);
-    if count <= k {
-        return Bridge::None;
+    let i = next_port(boundaries, smaller, larger, count, r, 0)?;
+    let j = next_port(boundaries, smaller, larger, count, r, i + 1)?;
+    let k = next_port(boundaries, smaller, larger, count, r, j + 1)?;
+    match next_port(boundaries, smaller, larger, count, r, k + 1) {
+        Some(_) => None,
+        None => bridge_of_three(
+            boundaries, smaller, larger, marks, count, regions, r, i, j, k,
+        ),
     }
-    if next_port(boundaries, smaller, larger, count, r, k + 1) < count {
-        return Bridge::None;
-    }
-    bridge_of_three(
-        boundaries, smaller, larger, marks, count, regions, r, i, j, k,
-    )
 }

@@ -1,31 +1,50 @@
-// The proposals of the pass, as rows of four numbers, before records are looked at: unions by boundary, then bridges by pocket.
-ghost use Rattle.std.specs.Prelude.{◌≡◌, [], ◌∷◌, ◌++◌, ℕ, suc, ◌+◌, ◌*◌, ◌≤◌, ◌<◌, length};
+// The proposals of the pass before records are looked at: unions by boundary, then bridges by pocket.
+ghost use Rattle.std.specs.Prelude.{◌≡◌, ◌++◌, ℕ, suc, ◌+◌, ◌≤◌, ◌<◌, length, eqb};
 ghost use Rattle.definitions.specs.Scan.{collect, to_list, filter};
 ghost use Rattle.definitions.specs.Context.{Context};
 ghost use Rattle.definitions.specs.Junctions.{proposals};
 ghost use Rattle.junction_proposals.specs.Lent.{Lent, Shows};
 ghost use Rattle.junction_proposals.specs.Bridges.{is_bridge_at};
-ghost use Rattle.junction_proposals.specs.Rows.{max_proposals, numbers_per_proposal, row_at, rows_of, union_at, is_allowed, RowFits};
+ghost use Rattle.junction_proposals.specs.Rows.{kind_of, max_proposals, row_at, rows_of, union_at, is_allowed, RowFits};
 
-use crate::bridges::{Bridge, bridge_of};
+use crate::bridges::bridge_of;
 use crate::unions::is_union;
 
-pub const NUMBERS_PER_PROPOSAL: usize = 4;
 // 256 unions, and 170 bridges: a pocket has three full pairs, and a full pair names two regions.
 pub const MAX_PROPOSALS: usize = 426;
 
-// Puts a proposal behind the first n.
-fn push_proposal(rows: &mut [u32], n: usize, index: usize, kind: u32, first: u32, second: u32)
-    requires places { (n < max_proposals) × (index < 256) }
-    requires rows_room { numbers_per_proposal * max_proposals ≤ length rows.old }
-    ensures { rows_of rows.new (n + 1)
-        ≡ rows_of rows.old n ++ (record { index = index; kind = kind; first = first; second = second } ∷ []) }
-{
-    let k = NUMBERS_PER_PROPOSAL * n;
-    rows[k] = index as u32;
-    rows[k + 1] = kind;
-    rows[k + 2] = first;
-    rows[k + 3] = second;
+// Whether the boundary between two regions would go, or one of two that lead from a pocket to one region.
+#[derive(Clone, Copy, PartialEq, Eq)]
+pub enum Kind {
+    Union,
+    Bridge,
+}
+
+impl Kind {
+    pub fn is_union(self) -> bool
+        ensures { result ≡ eqb (kind_of self) 0 }
+    {
+        matches!(self, Kind::Union)
+    }
+
+    // Unions go before bridges.
+    pub fn number(self) -> u32
+        ensures { result ≡ kind_of self }
+    {
+        match self {
+            Kind::Union => 0,
+            Kind::Bridge => 1,
+        }
+    }
+}
+
+// What is proposed: the boundary that would go, and the two regions of a union, or the pocket and the region beyond.
+#[derive(Clone, Copy)]
+pub struct Candidate {
+    pub index: usize,
+    pub kind: Kind,
+    pub first: u32,
+    pub second: u32,
 }
 
 // The union at boundary i, if it has the shape of one.
@@ -37,13 +56,13 @@ fn add_union(
     marks: &[u16],
     count: usize,
     regions: usize,
-    rows: &mut [u32],
+    rows: &mut [Candidate],
     n: usize,
     i: usize,
 ) -> usize
     requires lent { Lent boundaries.now smaller.now larger.now counts.now marks.now count regions }
     requires places { (i < count) × (n ≤ i) }
-    requires rows_room { numbers_per_proposal * max_proposals ≤ length rows.old }
+    requires rows_room { max_proposals ≤ length rows.old }
     ensures rows { rows_of rows.new result ≡ rows_of rows.old n
         ++ to_list (union_at boundaries.now smaller.now larger.now counts.now marks.now count i) }
     ensures bound { result ≤ n + 1 }
@@ -51,7 +70,12 @@ fn add_union(
     if is_union(
         boundaries, smaller, larger, counts, marks, count, regions, i,
     ) {
-        push_proposal(rows, n, i, 0, smaller[i], larger[i]);
+        rows[n] = Candidate {
+            index: i,
+            kind: Kind::Union,
+            first: smaller[i],
+            second: larger[i],
+        };
         return n + 1;
     }
     n
@@ -66,10 +90,10 @@ fn find_unions(
     marks: &[u16],
     count: usize,
     regions: usize,
-    rows: &mut [u32],
+    rows: &mut [Candidate],
 ) -> usize
     requires lent { Lent boundaries.now smaller.now larger.now counts.now marks.now count regions }
-    requires rows_room { numbers_per_proposal * max_proposals ≤ length rows.old }
+    requires rows_room { max_proposals ≤ length rows.old }
     ensures rows { rows_of rows.new result
         ≡ collect count (union_at boundaries.now smaller.now larger.now counts.now marks.now count) }
     ensures bound { result ≤ count }
@@ -92,14 +116,14 @@ fn add_bridge(
     marks: &[u16],
     count: usize,
     regions: usize,
-    rows: &mut [u32],
+    rows: &mut [Candidate],
     n: usize,
     r: u32,
 ) -> usize
     requires lent { Lent boundaries.now smaller.now larger.now counts.now marks.now count regions }
     requires r_named { (1 ≤ r) × (r ≤ regions) }
     requires proposals_room { n + length (to_list (is_bridge_at boundaries.now smaller.now larger.now marks.now r counts.now count)) ≤ max_proposals }
-    requires rows_room { numbers_per_proposal * max_proposals ≤ length rows.old }
+    requires rows_room { max_proposals ≤ length rows.old }
     ensures rows { rows_of rows.new result ≡ rows_of rows.old n
         ++ to_list (is_bridge_at boundaries.now smaller.now larger.now marks.now r counts.now count) }
     ensures answer { result ≡ n + length (to_list (is_bridge_at boundaries.now smaller.now larger.now marks.now r
@@ -108,11 +132,16 @@ fn add_bridge(
     match bridge_of(
         boundaries, smaller, larger, counts, marks, count, regions, r,
     ) {
-        Bridge::At(index, exterior) => {
-            push_proposal(rows, n, index, 1, r, exterior);
+        Some(bridge) => {
+            rows[n] = Candidate {
+                index: bridge.index,
+                kind: Kind::Bridge,
+                first: r,
+                second: bridge.exterior,
+            };
             n + 1
         }
-        Bridge::None => n,
+        None => n,
     }
 }
 
@@ -125,12 +154,12 @@ fn find_bridges(
     marks: &[u16],
     count: usize,
     regions: usize,
-    rows: &mut [u32],
+    rows: &mut [Candidate],
     unions: usize,
 ) -> usize
     requires lent { Lent boundaries.now smaller.now larger.now counts.now marks.now count regions }
     requires unions_within { unions ≤ count }
-    requires rows_room { numbers_per_proposal * max_proposals ≤ length rows.old }
+    requires rows_room { max_proposals ≤ length rows.old }
     ensures rows { rows_of rows.new result ≡ rows_of rows.old unions
         ++ collect regions (λ k. is_bridge_at boundaries.now smaller.now larger.now marks.now (suc k)
         counts.now count) }
@@ -163,10 +192,10 @@ pub fn find_proposals(
     marks: &[u16],
     count: usize,
     regions: usize,
-    rows: &mut [u32],
+    rows: &mut [Candidate],
 ) -> usize
     requires lent { Lent boundaries.now smaller.now larger.now counts.now marks.now count regions }
-    requires rows_room { numbers_per_proposal * max_proposals ≤ length rows.old }
+    requires rows_room { max_proposals ≤ length rows.old }
     ensures bound { result ≤ max_proposals }
     ensures rows_fit { (k : ℕ) → k < result → RowFits count regions (row_at rows.new k) }
     ensures allowed { (C : Context) →

@@ -1,9 +1,8 @@
 -- Request 12 over calls. What is assumed, whole: a call of the writer, or of the converter, met its contract (`Writes`, `Converts`) and answered 0; the writer's lists hold
 -- numbers of 64 bits and bytes, as their element types have it. Then the bytes that it wrote read as the map that the writer was given, or as the sheet that was converted,
 -- for any limit of cells.
-use Rattle.std.specs.Prelude.{ℕ, ◌*◌, ◌/◌, ◌%◌, ◌^◌, ◌<◌, ◌≤◌, ◌≡◌, refl, Bool, true, false, not, ◌&&◌, cond, List, [], ◌∷◌, leb, eqb, length, take, drop}
+use Rattle.std.specs.Prelude.{ℕ, ◌*◌, ◌/◌, ◌%◌, ◌^◌, ◌<◌, ◌≤◌, ◌≡◌, refl, Bool, true, false, not, ◌&&◌, cond, List, [], ◌∷◌, leb, eqb, length, take, drop, Option, None, Some}
 use Rattle.std.proofs.Common.{arith, sym, ap, ◌∙◌, leb-true, eqb-true, le-leb, mul-le-mul}
-use Rattle.std.specs.Prelude.{Option, None, Some}
 use Rattle.std.proofs.Math.Seq.{take-append_seam}
 use Rattle.definitions.specs.Limits.{is_side, max_entries, numbers_per_boundary, numbers_per_anchor}
 use Rattle.definitions.specs.Refusals.{Refusal, unless, is_whole, pass_fault, boundaries_fault, anchors_fault, elevations_fault}

@@ -1,31 +1,31 @@
 -- The approach of a mouth, as the code finds it: the one region of the ramp's full pair that the mouth's rows name. Assumes nothing.
-use Prim.Native.Nat.{ℕ, zero, suc, ◌≤◌, ◌<◌}
+use Prim.Native.Nat.{ℕ, ◌≤◌, ◌<◌}
 use native.Mathlib.Omega.{arith}
 use mathlib.Core.Path.{◌≡◌, refl, sym, ap, ◌∙◌, subst}
 use mathlib.Core.Bool.{Bool, true, false, not, ◌&&◌, ◌||◌, cond}
-use Rattle.std.specs.Prelude.{None, Some}
+use Rattle.std.specs.Prelude.{Option, None, Some}
 use mathlib.Core.List.{List, [], ◌∷◌}
 use lib.Dec.{eqb}
 use borrow.Author.Tests.{ne_eqb}
 use Rattle.definitions.specs.Scan.{any, filter, member, add_new, add_all}
 use Rattle.definitions.specs.Grid.{Pair, contains}
 use Rattle.definitions.specs.MouthShapes.{single, distinct_regions, common_regions, star_from, mouth_shape}
-use Rattle.definitions.specs.Context.{Context, full_cut, only_pair, full_pair, is_incident, other_region}
+use Rattle.definitions.specs.Context.{Context, full_cut, only_pair, full_pair, is_incident}
 use Rattle.laws.specs.ListLaws.Lists.{All, more}
-use Rattle.mouth_proposals.specs.Rows.{pair_form, inner_of, shape_form, one_of}
+use Rattle.context.specs.Rows.{pair_form}
+use Rattle.mouth_proposals.specs.Rows.{inner_of, shape_form, one_of}
 use Rattle.mouth_proposals.specs.Candidates.{single_at, star_at, approach_of}
-use Rattle.mouth_proposals.specs.declared.approaches.Approach.TheVariants as approach
-use Rattle.mouth_proposals.specs.declared.shapes.Pair as shape-pair
+use Rattle.context.specs.declared.pairs.Pair as shape-pair
 use Rattle.mouth_proposals.specs.declared.shapes.Shape.{Shape}
 use Rattle.mouth_proposals.specs.declared.shapes.Shape.TheVariants as shape
 use Rattle.mouth_proposals.proofs.Distinct.{member-inner, inner_distinct, which-left}
 
 pub shared_is : (C : Context) (m outer : ℕ) (q : Pair) → q.lo < q.hi → {s t : Bool} → (not (eqb q.lo outer) && is_incident C m q.lo) ≡ s → (not (eqb q.hi outer) && is_incident C m q.hi) ≡ t
-    → cond s (cond t 0 q.lo) (cond t q.hi 0) ≡ one_of (filter (λ r. contains r q) (inner_of outer (C.pairs m)))
+    → cond s (cond t None (Some q.lo)) (cond t (Some q.hi) None) ≡ one_of (filter (λ r. contains r q) (inner_of outer (C.pairs m)))
 unfolding is_incident
 shared_is C m outer q h {s} {t} e f =
     sym (which-left (λ r. contains r q) q.lo q.hi (λ k. omega (arith, k)) (λ r. refl) (inner_distinct outer (C.pairs m))
-    ∙ (λ i. cond (lo i) (cond (hi i) 0 q.lo) (cond (hi i) q.hi 0)))
+    ∙ (λ i. cond (lo i) (cond (hi i) None (Some q.lo)) (cond (hi i) (Some q.hi) None)))
   where
     lo : member q.lo (inner_of outer (C.pairs m)) ≡ s
     lo = member-inner outer q.lo (C.pairs m) ∙ e
@@ -61,14 +61,6 @@ one_inner p outer h e f =
 pub all-inner : (p : Pair) {n : ℕ} → Named n p → inner_of 0 (p ∷ []) ≡ p.lo ∷ p.hi ∷ []
 all-inner p h = one_inner p 0 h (ne_eqb p.lo 0 (λ k. omega (arith, k))) (ne_eqb p.hi 0 (λ k. omega (arith, k)))
 
-pub single-found : (p : Pair) (r : ℕ) → (r ≡ 0 → ⊥) → {x : ℕ} → x ≡ other_region r p → approach.Single x r ≡ single_at p r
-single-found p zero n e = absurd (n refl)
-single-found p (suc r) n e = ap (λ x. approach.Single x (suc r)) e
-
-pub star-found : (outer r : ℕ) → (r ≡ 0 → ⊥) → approach.Star outer r ≡ star_at outer r
-star-found outer zero n = absurd (n refl)
-star-found outer (suc r) n = refl
-
 -- a full pair is the boundary's one pair
 pub full-pairs : (C : Context) (a : ℕ) (q : Pair) → Some q ≡ full_pair C a → C.pairs a ≡ q ∷ []
 unfolding full_pair
@@ -89,24 +81,21 @@ all_of_one {P} {l} {q} e a = head (subst (All P) e a)
 -- ---- by the shape, q being the ramp's full pair
 
 module _ (l : List Pair) (q : Pair) where
-  abbrev shared : ℕ → ℕ
+  abbrev shared : ℕ → Option ℕ
   shared outer = one_of (filter (λ r. contains r q) (inner_of outer l))
 
-  module _ (s : Shape) (e : shape_form l s ≡ mouth_shape true l) where
-    pub from_none : s ≡ shape.None → approach.None ≡ approach_of (Some q) (mouth_shape true l)
-    from_none k = ap (approach_of (Some q)) (sym (ap (shape_form l) k) ∙ e)
-
-    pub from_single : {n : ℕ} → All (Named n) l → {p : shape-pair.Pair} → s ≡ shape.Single p → {r : ℕ} → r ≡ shared 0 → single_at (pair_form p) r ≡ approach_of (Some q) (mouth_shape true l)
+  module _ (s : Shape) (e : shape_form l (Some s) ≡ mouth_shape true l) where
+    pub from_single : {n : ℕ} → All (Named n) l → {p : shape-pair.Pair} → s ≡ shape.Single p → {r : Option ℕ} → r ≡ shared 0 → single_at (pair_form p) r ≡ approach_of (Some q) (mouth_shape true l)
     from_single named {p} k d =
         ap (single_at (pair_form p)) (d ∙ ap (λ l. one_of (filter (λ r. contains r q) l)) (ap (inner_of 0) one ∙ all-inner (pair_form p) (all_of_one one named)))
         ∙ ap (approach_of (Some q)) single_here
       where
         single_here : Some (single (pair_form p)) ≡ mouth_shape true l
-        single_here = sym (ap (shape_form l) k) ∙ e
+        single_here = sym (ap (λ s. shape_form l (Some s)) k) ∙ e
 
         one : l ≡ pair_form p ∷ []
-        one = single-pairs l (pair_form p) (sym (ap (shape_form l) k) ∙ e)
+        one = single-pairs l (pair_form p) (sym (ap (λ s. shape_form l (Some s)) k) ∙ e)
 
-    pub from_star : {outer : ℕ} → s ≡ shape.Star outer → {r : ℕ} → r ≡ shared outer → star_at outer r ≡ approach_of (Some q) (mouth_shape true l)
+    pub from_star : {outer : ℕ} → s ≡ shape.Star outer → {r : Option ℕ} → r ≡ shared outer → star_at outer r ≡ approach_of (Some q) (mouth_shape true l)
     unfolding inner_of
-    from_star {outer} k d = ap (star_at outer) d ∙ ap (approach_of (Some q)) (sym (ap (shape_form l) k) ∙ e)
+    from_star {outer} k d = ap (star_at outer) d ∙ ap (approach_of (Some q)) (sym (ap (λ s. shape_form l (Some s)) k) ∙ e)

@@ -3,6 +3,7 @@ use Prim.Native.Nat.{ℕ, suc}
 use native.Mathlib.Omega.{arith}
 use mathlib.Core.Path.{◌≡◌, refl, sym, ap, ap₂, ◌∙◌}
 use mathlib.Core.Bool.{Bool, true, false, not, ◌&&◌, ◌||◌, cond, or-false, or_comm, false≢true}
+use Rattle.std.specs.Prelude.{None, Some}
 use mathlib.Core.List.{List, [], ◌∷◌, ◌++◌}
 use lib.ListN.{length}
 use lib.Dec.{eqb, leb}
@@ -112,7 +113,7 @@ module _ (g : ℕ → Bool) where
       go (a, b) false e ih = ap (λ t. cond t (z ∷ filter g l) (filter g l)) (h z ∙ ap₂ ◌||◌ a e) ∙ ih b
 
   pub which-left : (x y : ℕ) → (x ≡ y → ⊥) → ((r : ℕ) → g r ≡ (eqb x r || eqb y r)) → {l : List ℕ} → Distinct l
-      → one_of (filter g l) ≡ cond (member x l) (cond (member y l) 0 x) (cond (member y l) y 0)
+      → one_of (filter g l) ≡ cond (member x l) (cond (member y l) None (Some x)) (cond (member y l) (Some y) None)
   unfolding filter member any
   which-left x y n h empty = refl
   which-left x y n h (more {x = z} {l = l} k d) = go (eqb x z) refl (eqb y z) refl (which-left x y n h d)
@@ -123,19 +124,19 @@ module _ (g : ℕ → Bool) where
       gone : (w : ℕ) → eqb w z ≡ true → member w l ≡ false
       gone w e = ap (λ w. member w l) (eqb-true w z e) ∙ k
 
-      go : (s : Bool) → eqb x z ≡ s → (t : Bool) → eqb y z ≡ t → one_of (filter g l) ≡ cond (any (eqb x) l) (cond (any (eqb y) l) 0 x) (cond (any (eqb y) l) y 0)
-          → one_of (cond (g z) (z ∷ filter g l) (filter g l)) ≡ cond (s || any (eqb x) l) (cond (t || any (eqb y) l) 0 x) (cond (t || any (eqb y) l) y 0)
+      go : (s : Bool) → eqb x z ≡ s → (t : Bool) → eqb y z ≡ t → one_of (filter g l) ≡ cond (any (eqb x) l) (cond (any (eqb y) l) None (Some x)) (cond (any (eqb y) l) (Some y) None)
+          → one_of (cond (g z) (z ∷ filter g l) (filter g l)) ≡ cond (s || any (eqb x) l) (cond (t || any (eqb y) l) None (Some x)) (cond (t || any (eqb y) l) (Some y) None)
       go true e true f ih = absurd (n (eqb-true x z e ∙ sym (eqb-true y z f)))
-      go true e false f ih = here e f ∙ ap (λ m. one_of (z ∷ m)) (one_left x y h d (gone x e)) ∙ pick (any (eqb y) l) ∙ ap (λ w. cond (any (eqb y) l) 0 w) (sym (eqb-true x z e))
+      go true e false f ih = here e f ∙ ap (λ m. one_of (z ∷ m)) (one_left x y h d (gone x e)) ∙ pick (any (eqb y) l) ∙ ap (λ w. cond (any (eqb y) l) None (Some w)) (sym (eqb-true x z e))
         where
-          pick : (b : Bool) → one_of (z ∷ cond b (y ∷ []) []) ≡ cond b 0 z
+          pick : (b : Bool) → one_of (z ∷ cond b (y ∷ []) []) ≡ cond b None (Some z)
           pick true = refl
           pick false = refl
       go false e true f ih =
           here e f ∙ ap (λ m. one_of (z ∷ m)) (one_left y x (λ r. h r ∙ or_comm (eqb x r) (eqb y r)) d (gone y f)) ∙ pick (any (eqb x) l)
-          ∙ ap (λ w. cond (any (eqb x) l) 0 w) (sym (eqb-true y z f))
+          ∙ ap (λ w. cond (any (eqb x) l) None (Some w)) (sym (eqb-true y z f))
         where
-          pick : (b : Bool) → one_of (z ∷ cond b (x ∷ []) []) ≡ cond b 0 z
+          pick : (b : Bool) → one_of (z ∷ cond b (x ∷ []) []) ≡ cond b None (Some z)
           pick true = refl
           pick false = refl
       go false e false f ih = here e f ∙ ih

@@ -3,6 +3,7 @@ use Prim.Native.Nat.{ℕ, ◌-◌, ◌≤◌}
 use native.Mathlib.Omega.{arith}
 use mathlib.Core.Path.{◌≡◌, sym, ap, ◌∙◌}
 use mathlib.Core.Bool.{Bool, not, ◌&&◌, ◌||◌, cond}
+use Rattle.std.specs.Prelude.{Some}
 use mathlib.Core.List.{List}
 use lib.ListN.{get_or}
 use lib.Dec.{eqb}
@@ -26,12 +27,12 @@ module _ (C : Context) (m a outer r : ℕ) where
 
   pub single_by : {x z e k : Bool} → C.anchored r ≡ x → (overlay_only C m a && (C.anchored outer || not (eqb (incident_count C r) 2))) ≡ z → other_end_incident C a r ≡ e
       → ((broad_mouth C m a || overlay_only C m a) && eqb (incident_count C r) 2) ≡ k
-      → only_if (not x && (not z && not e)) (proposal_of C m a outer (cond k broad plain)) ≡ approach_mouth C m a (approach.Single outer r)
+      → only_if (not x && (not z && not e)) (proposal_of C m a outer (cond k broad plain)) ≡ approach_mouth C m a (Some (approach.Single outer r))
   unfolding approach_mouth single_fits
   single_by hx hz he hk = sym (λ i. only_if (not (hx i) && (not (hz i) && not (he i))) (proposal_of C m a outer (cond (hk i) broad plain)))
 
   pub star_by : {o t f e w : Bool} → overlay_only C m a ≡ o → eqb (incident_count C r) 2 ≡ t → all fits_in (regions_of (C.pairs m)) ≡ f → other_end_incident C a r ≡ e → broad_mouth C m a ≡ w
-      → only_if (not o && (t && (f && not e))) (proposal_of C m a outer (cond w broad plain)) ≡ approach_mouth C m a (approach.Star outer r)
+      → only_if (not o && (t && (f && not e))) (proposal_of C m a outer (cond w broad plain)) ≡ approach_mouth C m a (Some (approach.Star outer r))
   unfolding approach_mouth star_fits
   star_by ho ht hf he hw = sym (λ i. only_if (not (ho i) && (ht i && (hf i && not (he i)))) (proposal_of C m a outer (cond (hw i) broad plain)))
 

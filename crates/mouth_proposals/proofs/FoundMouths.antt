@@ -14,7 +14,6 @@ use Rattle.definitions.specs.RampMouths.{MouthProposal, broad_mouth, nearby_repr
 use Rattle.laws.specs.ListLaws.Lists.{All}
 use Rattle.mouth_proposals.specs.Candidates.{approach_of, approach_mouth, found_mouth}
 use Rattle.mouth_proposals.specs.declared.approaches.Approach.{Approach}
-use Rattle.mouth_proposals.specs.declared.approaches.Approach.TheVariants as approach
 use Rattle.mouth_proposals.proofs.ApproachLaws.{Named}
 use Rattle.mouth_proposals.proofs.ShapedMouths.{shaped_is}
 
@@ -73,7 +72,7 @@ module _ (C : Context) (a m : ℕ) (ramp : no_ramp C a ≡ false) (cut : full_cu
         both true o h = h
         both false o h = refl
 
-    module _ {n : ℕ} (full : full_cut C m ≡ true) (named : All (Named n) (C.pairs m)) (t : Bool) (three : triangle_representative (C.pairs m) (C.pairs a) ≡ only_if t (distinct_regions (C.pairs m))) (A : Approach) (by : A ≡ approach_of (full_pair C a) (mouth_shape true (C.pairs m))) where
+    module _ {n : ℕ} (full : full_cut C m ≡ true) (named : All (Named n) (C.pairs m)) (t : Bool) (three : triangle_representative (C.pairs m) (C.pairs a) ≡ only_if t (distinct_regions (C.pairs m))) (A : Option Approach) (by : A ≡ approach_of (full_pair C a) (mouth_shape true (C.pairs m))) where
       triangle_by : {b : Bool} → nearby_representative C m a ≡ b → triangle C m a ≡ cond b (only_if t (distinct_regions (C.pairs m))) None
       unfolding triangle
       triangle_by {b} e = (λ i. cond (e i && full i && cut i) (three i) None) ∙ go b
@@ -95,13 +94,13 @@ module _ (C : Context) (a m : ℕ) (ramp : no_ramp C a ≡ false) (cut : full_cu
           go false y = refl
 
       -- neither a triangle nor an approach
-      pub no_shape : t ≡ false → A ≡ approach.None → None ≡ found_mouth C a m
+      pub no_shape : t ≡ false → A ≡ None → None ≡ found_mouth C a m
       no_shape e k =
           sym (found_by {b = nearby_representative C m a} refl {g = near} refl
           ∙ (λ i. cond near (triangle_or C (cond (nearby_representative C m a) (only_if (e i) (distinct_regions (C.pairs m))) None) m a (approach_mouth C m a (k i))) None)
           ∙ go near (nearby_representative C m a))
         where
-          go : (g b : Bool) → cond g (triangle_or C (cond b None None) m a (approach_mouth C m a approach.None)) None ≡ None
+          go : (g b : Bool) → cond g (triangle_or C (cond b None None) m a (approach_mouth C m a None)) None ≡ None
           go true true = unfold triangle_or in (unfold approach_mouth in refl)
           go true false = unfold triangle_or in (unfold approach_mouth in refl)
           go false b = refl

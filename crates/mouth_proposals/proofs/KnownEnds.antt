@@ -1,5 +1,5 @@
 -- The answers on the other end of a ramp are right for the region of every approach: a filter by the ramp's full pair left it, so it is one of the two. Assumes nothing.
-use Prim.Native.Nat.{ℕ, zero, suc}
+use Prim.Native.Nat.{ℕ}
 use native.Mathlib.Omega.{arith}
 use mathlib.Core.Path.{◌≡◌, refl, sym, ap, ◌∙◌, subst}
 use mathlib.Core.Bool.{Bool, true, false, ◌||◌, cond, false≢true}
@@ -32,28 +32,30 @@ module _ (C : Context) (a : ℕ) where
       go r true k h = f ∙ ap (other_end_incident C a) (eqb-true q.lo r k)
       go r false k h = g ∙ ap (other_end_incident C a) (eqb-true q.hi r h)
 
-one_of_lem : {P : ℕ → Type 0} {l : List ℕ} → All P l → (r : ℕ) → one_of l ≡ suc r → P (suc r)
-one_of_lem done r e = absurd (omega arith)
-one_of_lem {P} (more h done) r e = subst P e h
-one_of_lem (more h (more k t)) r e = absurd (omega arith)
+one_of_lem : {P : ℕ → Type 0} {l : List ℕ} → All P l → (r : ℕ) → one_of l ≡ Some r → P r
+one_of_lem done r e = absurd (let z : ◌≡◌ {A = ℕ} 0 1 = cc in omega arith)
+one_of_lem {P} (more {x = x} h done) r e =
+    let same : x ≡ r = cc in
+    subst P same h
+one_of_lem (more h (more k t)) r e = absurd (let z : ◌≡◌ {A = ℕ} 0 1 = cc in omega arith)
 
 module _ (C : Context) (a : ℕ) (ends : OtherEnds) where
   abbrev Right : ℕ → Type 0
   Right r = end_at ends r ≡ other_end_incident C a r
 
-  single-known : (p : Pair) (n : ℕ) → ((r : ℕ) → n ≡ suc r → Right (suc r)) → EndKnown C a ends (single_at p n)
-  single-known p zero h = tt
-  single-known p (suc r) h = h r refl
+  single-known : (p : Pair) (n : Option ℕ) → ((r : ℕ) → n ≡ Some r → Right r) → EndKnown C a ends (single_at p n)
+  single-known p None h = tt
+  single-known p (Some r) h = h r refl
 
-  star-known : (outer n : ℕ) → ((r : ℕ) → n ≡ suc r → Right (suc r)) → EndKnown C a ends (star_at outer n)
-  star-known outer zero h = tt
-  star-known outer (suc r) h = h r refl
+  star-known : (outer : ℕ) (n : Option ℕ) → ((r : ℕ) → n ≡ Some r → Right r) → EndKnown C a ends (star_at outer n)
+  star-known outer None h = tt
+  star-known outer (Some r) h = h r refl
 
-  pub approach_known : EndsOf C a ends → (s : Option MouthShape) {A : Approach} → A ≡ approach_of (full_pair C a) s → EndKnown C a ends A
+  pub approach_known : EndsOf C a ends → (s : Option MouthShape) {A : Option Approach} → A ≡ approach_of (full_pair C a) s → EndKnown C a ends A
   approach_known E s k = subst (EndKnown C a ends) (sym k) (go (full_pair C a) refl s)
     where
-      left : (q : Pair) → full_pair C a ≡ Some q → (l : List ℕ) (r : ℕ) → one_of (filter (λ r. contains r q) l) ≡ suc r → Right (suc r)
-      left q e l r k = E.at (suc r) (ap (λ o. holds o (contains (suc r))) e ∙ one_of_lem (filter_passes (λ r. contains r q) l) r k)
+      left : (q : Pair) → full_pair C a ≡ Some q → (l : List ℕ) (r : ℕ) → one_of (filter (λ r. contains r q) l) ≡ Some r → Right r
+      left q e l r k = E.at r (ap (λ o. holds o (contains r)) e ∙ one_of_lem (filter_passes (λ r. contains r q) l) r k)
 
       go : (o : Option Pair) → full_pair C a ≡ o → (s : Option MouthShape) → EndKnown C a ends (approach_of o s)
       go None e s = tt

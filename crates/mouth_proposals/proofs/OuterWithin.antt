@@ -59,13 +59,13 @@ module _ (C : Context) (a m : ℕ) (named : All (Named C.regions) (C.pairs m)) w
 
   -- what holds of both forms
   module _ {P : MouthProposal → Type 0} (formed : (outer kind : ℕ) → outer ≤ C.regions → P (proposal_of C m a outer kind)) (three : P (triangle_of C a m)) where
-    approach_on : (A : Approach) → Within C.regions A → OnO P (approach_mouth C m a A)
+    approach_on : (A : Option Approach) → Within C.regions A → OnO P (approach_mouth C m a A)
     unfolding approach_mouth
-    approach_on approach.None w = absent
-    approach_on (approach.Single outer r) w =
+    approach_on None w = absent
+    approach_on (Some (approach.Single outer r)) w =
         let kind = cond ((broad_mouth C m a || overlay_only C m a) && eqb (incident_count C r) 2) broad plain in
         on_only (single_fits C m a outer r) (proposal_of C m a outer kind) (formed outer kind w.0.1)
-    approach_on (approach.Star outer r) w =
+    approach_on (Some (approach.Star outer r)) w =
         let kind = cond (broad_mouth C m a) broad plain in
         on_only (star_fits C m a outer r) (proposal_of C m a outer kind) (formed outer kind w.0.1)
 

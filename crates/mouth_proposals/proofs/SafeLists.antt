@@ -48,7 +48,7 @@ module _ {boundaries tallies pairs starts counts marks : List ℕ} {count : ℕ}
       more : {a b : ℕ} → NamedRow pairs a k → a ≤ b → NamedRow pairs b k
       more r g = record { inside = r.inside; lo-pos = r.lo-pos; lo-le = le_trans r.lo-le g; hi-pos = r.hi-pos; hi-le = le_trans r.hi-le g }
 
-  pub named_in : {m : ℕ} → m < count → (o : Option Pair) {A : Approach} → A ≡ approach_of o (mouth_shape true (L.context.pairs m)) → Within (length counts) A × Within (length marks) A
+  pub named_in : {m : ℕ} → m < count → (o : Option Pair) {A : Option Approach} → A ≡ approach_of o (mouth_shape true (L.context.pairs m)) → Within (length counts) A × Within (length marks) A
   named_in {m} h o {A} e =
       let w = approach_within (L.context.pairs m) (L.shows.rows.named m (below L.shows.counted h)) o in
       let v = subst (Within L.context.regions) (sym e) w in
@@ -63,7 +63,7 @@ module _ {C : Context} where
         → triangle_representative (C.pairs m) (C.pairs a) ≡ only_if t (distinct_regions (C.pairs m))
     triangle-shown m a h k t e = ap₂ triangle_representative (P.at m h) (P.at a k) ∙ e ∙ ap (λ l. only_if t (distinct_regions l)) (sym (P.at m h))
 
-    pub approach_named : (m : ℕ) → m < C.count → (o : Option Pair) {A : Approach} → A ≡ approach_of o (mouth_shape true (C.pairs m)) → Within C.regions A
+    pub approach_named : (m : ℕ) → m < C.count → (o : Option Pair) {A : Option Approach} → A ≡ approach_of o (mouth_shape true (C.pairs m)) → Within C.regions A
     approach_named m h o e = subst (Within C.regions) (sym e) (approach_within (C.pairs m) (P.named m h) o)
 
 pub overlay_only_lem : (C : Context) (m a : ℕ) {w n o : Bool} → w ≡ broad_mouth C m a → n ≡ nearby_representative C m a → o ≡ overlay_representative C m a → ((o && not n) && not w) ≡ overlay_only C m a

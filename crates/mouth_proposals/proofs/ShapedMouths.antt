@@ -22,7 +22,7 @@ use Rattle.mouth_proposals.specs.Rows.{inner_of, one_of}
 use Rattle.mouth_proposals.specs.Candidates.{single_at, star_at, approach_of, proposal_of, broad, plain, single_fits, star_fits, approach_mouth}
 use Rattle.mouth_proposals.specs.declared.approaches.Approach.TheVariants as approach
 use Rattle.mouth_proposals.proofs.ShapeTests.{all_distinct}
-use Rattle.mouth_proposals.proofs.ApproachLaws.{Named, single-pairs, one_inner, full-pairs, all_of_one, single-found, star-found}
+use Rattle.mouth_proposals.proofs.ApproachLaws.{Named, single-pairs, one_inner, full-pairs, all_of_one}
 use Rattle.mouth_proposals.proofs.StarShapes.{Star, star_is}
 use Rattle.mouth_proposals.proofs.Fitting.{fits_in}
 
@@ -108,11 +108,11 @@ module _ (C : Context) (m a : ℕ) where
         go true = refl
         go false = refl
 
-    single-made : only_if (approach_fits C m a r (r ∷ []) true (C.anchored p.lo || C.anchored p.hi)) (made (other_region r p ∷ []) (r ∷ []) (two_port_broad C m a r (r ∷ []) true)) ≡ approach_mouth C m a (approach.Single (other_region r p) r)
+    single-made : only_if (approach_fits C m a r (r ∷ []) true (C.anchored p.lo || C.anchored p.hi)) (made (other_region r p ∷ []) (r ∷ []) (two_port_broad C m a r (r ∷ []) true)) ≡ approach_mouth C m a (Some (approach.Single (other_region r p) r))
     unfolding approach_mouth
     single-made =
         ap₂ only_if single_fits_lem (ap (λ o. made (o ∷ []) (r ∷ []) (two_port_broad C m a r (r ∷ []) true)) beyond ∙ made_is o h inner ((broad_mouth C m a || overlay_only C m a) && eqb (incident_count C r) 2) single_two)
-        ∙ ap (λ o. approach_mouth C m a (approach.Single o r)) (sym beyond)
+        ∙ ap (λ o. approach_mouth C m a (Some (approach.Single o r))) (sym beyond)
 
   module _ (p q : Pair) {n : ℕ} (np : Named n p) (one : C.pairs m ≡ p ∷ []) (ramp : C.pairs a ≡ q ∷ []) where
     incident_mouth : (r : ℕ) → contains r p ≡ true → is_incident C m r ≡ true
@@ -129,13 +129,13 @@ module _ (C : Context) (m a : ℕ) where
     apart-hi : eqb p.hi p.lo ≡ false
     apart-hi = ne_eqb p.hi p.lo (λ k. omega (arith, k))
 
-    by_lo : contains p.lo q ≡ true → only_if (approach_fits C m a p.lo (p.lo ∷ []) true (C.anchored p.lo || C.anchored p.hi)) (made (other_region p.lo p ∷ []) (p.lo ∷ []) (two_port_broad C m a p.lo (p.lo ∷ []) true)) ≡ approach_mouth C m a (approach.Single (other_region p.lo p) p.lo)
+    by_lo : contains p.lo q ≡ true → only_if (approach_fits C m a p.lo (p.lo ∷ []) true (C.anchored p.lo || C.anchored p.hi)) (made (other_region p.lo p ∷ []) (p.lo ∷ []) (two_port_broad C m a p.lo (p.lo ∷ []) true)) ≡ approach_mouth C m a (Some (approach.Single (other_region p.lo p) p.lo))
     by_lo e =
         single-made p p.lo p.hi (omega arith) (ap (λ b. cond b p.hi p.lo) (eq-eqb p.lo p.lo refl)) refl
         (ap (inner_of p.hi) one ∙ one_inner p p.hi np apart-lo (eq-eqb p.hi p.hi refl))
         (incident_mouth p.lo (ap (λ b. b || eqb p.hi p.lo) (eq-eqb p.lo p.lo refl))) (incident_ramp p.lo e)
 
-    by_hi : contains p.hi q ≡ true → only_if (approach_fits C m a p.hi (p.hi ∷ []) true (C.anchored p.lo || C.anchored p.hi)) (made (other_region p.hi p ∷ []) (p.hi ∷ []) (two_port_broad C m a p.hi (p.hi ∷ []) true)) ≡ approach_mouth C m a (approach.Single (other_region p.hi p) p.hi)
+    by_hi : contains p.hi q ≡ true → only_if (approach_fits C m a p.hi (p.hi ∷ []) true (C.anchored p.lo || C.anchored p.hi)) (made (other_region p.hi p ∷ []) (p.hi ∷ []) (two_port_broad C m a p.hi (p.hi ∷ []) true)) ≡ approach_mouth C m a (Some (approach.Single (other_region p.hi p) p.hi))
     by_hi e =
         single-made p p.hi p.lo np.0 (ap (λ b. cond b p.hi p.lo) apart-lo) (or_comm (C.anchored p.lo) (C.anchored p.hi))
         (ap (inner_of p.lo) one ∙ one_inner p p.lo np (eq-eqb p.lo p.lo refl) apart-hi)
@@ -146,14 +146,14 @@ module _ (C : Context) (m a : ℕ) where
     unfolding filter single_mouth
     single_case = go (contains p.lo q) refl (contains p.hi q) refl
       where
-        empty : None ≡ approach_mouth C m a approach.None
+        empty : None ≡ approach_mouth C m a None
         empty = unfold approach_mouth in refl
 
         go : (b : Bool) → contains p.lo q ≡ b → (c : Bool) → contains p.hi q ≡ c
             → single_mouth C m a p (cond b (p.lo ∷ cond c (p.hi ∷ []) []) (cond c (p.hi ∷ []) [])) ≡ approach_mouth C m a (single_at p (one_of (cond b (p.lo ∷ cond c (p.hi ∷ []) []) (cond c (p.hi ∷ []) []))))
         go true e true f = empty
-        go true e false f = by_lo e ∙ ap (approach_mouth C m a) (single-found p p.lo (λ k. omega (arith, k)) refl)
-        go false e true f = by_hi f ∙ ap (approach_mouth C m a) (single-found p p.hi (λ k. omega (arith, k)) refl)
+        go true e false f = by_lo e
+        go false e true f = by_hi f
         go false e false f = empty
 
   -- ---- a star
@@ -198,7 +198,7 @@ module _ (C : Context) (m a : ℕ) where
     unfolding two_port_broad
     star_two = ap (λ b. cond b ((broad_mouth C m a || overlay_only C m a) && false && only_incidents C r m a) (broad_mouth C m a)) several
 
-    star-made : only_if (approach_fits C m a r inner false (any C.anchored inner)) (made (outer ∷ []) inner (two_port_broad C m a r inner false)) ≡ approach_mouth C m a (approach.Star outer r)
+    star-made : only_if (approach_fits C m a r inner false (any C.anchored inner)) (made (outer ∷ []) inner (two_port_broad C m a r inner false)) ≡ approach_mouth C m a (Some (approach.Star outer r))
     unfolding approach_mouth
     star-made = ap₂ only_if star_fits_lem (made_is outer h (sym inside) (broad_mouth C m a) star_two)
 
@@ -221,7 +221,7 @@ module _ (C : Context) (m a : ℕ) where
     unfolding is_incident any
     at_ramp r e = ap (any (contains r)) ramp ∙ ap (λ b. b || false) e
 
-    empty-star : None ≡ approach_mouth C m a approach.None
+    empty-star : None ≡ approach_mouth C m a None
     unfolding approach_mouth
     empty-star = refl
 
@@ -230,7 +230,6 @@ module _ (C : Context) (m a : ℕ) where
     star-left done = empty-star
     star-left (more {x = r} h done) =
         star-made outer r inner S.outside.0 S.inside S.several (all_map (λ s k. k.1) mine) h.0.1 (at_ramp r h.1)
-        ∙ ap (approach_mouth C m a) (star-found outer r (λ k. omega (arith, k, h)))
     star-left (more h (more k t)) = empty-star
 
     star_case : star_mouth C m a outer inner (filter (λ r. contains r q) inner) ≡ approach_mouth C m a (star_at outer (one_of (filter (λ r. contains r q) inner)))

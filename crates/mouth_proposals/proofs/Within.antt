@@ -1,5 +1,5 @@
 -- The regions of an approach are numbered: they are regions of the mouth's pairs. Assumes nothing.
-use Prim.Native.Nat.{ℕ, zero, suc, ◌≤◌}
+use Prim.Native.Nat.{ℕ, ◌≤◌}
 use native.Mathlib.Omega.{arith}
 use native.Mathlib.Nat.{le_trans}
 use mathlib.Core.Path.{◌≡◌, refl, sym, subst}
@@ -20,28 +20,33 @@ use Rattle.mouth_proposals.proofs.ApproachLaws.{Named, single-pairs, all_of_one}
 use Rattle.mouth_proposals.proofs.StarShapes.{star_is}
 use Rattle.mouth_proposals.proofs.Fitting.{all-named-regions}
 
-pub within_more : {n k : ℕ} → n ≤ k → (A : Approach) → Within n A → Within k A
-within_more h approach.None w = tt
-within_more h (approach.Single outer r) w = ((w.0.0, le_trans w.0.1 h), (w.1.0, le_trans w.1.1 h))
-within_more h (approach.Star outer r) w = ((w.0.0, le_trans w.0.1 h), (w.1.0, le_trans w.1.1 h))
+pub within_more : {n k : ℕ} → n ≤ k → (A : Option Approach) → Within n A → Within k A
+within_more h None w = tt
+within_more h (Some (approach.Single outer r)) w = ((w.0.0, le_trans w.0.1 h), (w.1.0, le_trans w.1.1 h))
+within_more h (Some (approach.Star outer r)) w = ((w.0.0, le_trans w.0.1 h), (w.1.0, le_trans w.1.1 h))
+
+-- a number that is there is from 1 to n
+abbrev Numbered : ℕ → Option ℕ → Type 0
+Numbered n None = Unit {0}
+Numbered n (Some r) = (1 ≤ r) × (r ≤ n)
 
 module _ {n : ℕ} where
-  single-within : (p : Pair) → Named n p → (r : ℕ) → r ≤ n → Within n (single_at p r)
-  single-within p h zero l = tt
-  single-within p h (suc r) l = (go (eqb p.lo (suc r)), (omega arith, l))
+  single-within : (p : Pair) → Named n p → (o : Option ℕ) → Numbered n o → Within n (single_at p o)
+  single-within p h None l = tt
+  single-within p h (Some r) l = (go (eqb p.lo r), l)
     where
       go : (b : Bool) → (1 ≤ cond b p.hi p.lo) × (cond b p.hi p.lo ≤ n)
       go true = (omega arith, h.1.1)
       go false = (h.0, omega arith)
 
-  star-within : (outer : ℕ) → (1 ≤ outer) × (outer ≤ n) → (r : ℕ) → r ≤ n → Within n (star_at outer r)
-  star-within outer h zero l = tt
-  star-within outer h (suc r) l = (h, (omega arith, l))
+  star-within : (outer : ℕ) → (1 ≤ outer) × (outer ≤ n) → (o : Option ℕ) → Numbered n o → Within n (star_at outer o)
+  star-within outer h None l = tt
+  star-within outer h (Some r) l = (h, l)
 
-  one_le : {l : List ℕ} → All (λ s. (1 ≤ s) × (s ≤ n)) l → one_of l ≤ n
-  one_le done = omega arith
-  one_le (more h done) = h.1
-  one_le (more h (more k t)) = omega arith
+  one_numbered : {l : List ℕ} → All (λ s. (1 ≤ s) × (s ≤ n)) l → Numbered n (one_of l)
+  one_numbered done = tt
+  one_numbered (more h done) = h
+  one_numbered (more h (more k t)) = tt
 
   inner-named : (outer : ℕ) (l : List Pair) → All (Named n) l → All (λ s. (1 ≤ s) × (s ≤ n)) (inner_of outer l)
   unfolding inner_of distinct_regions
@@ -58,7 +63,7 @@ module _ {n : ℕ} where
       go None e = tt
       go (Some (single p)) e =
           let h = all_of_one (single-pairs l p (sym e)) named in
-          single-within p h (one_of (filter (λ r. contains r q) (p.lo ∷ p.hi ∷ []))) (one_le (all_filter (λ r. contains r q) (two p h)))
+          single-within p h (one_of (filter (λ r. contains r q) (p.lo ∷ p.hi ∷ []))) (one_numbered (all_filter (λ r. contains r q) (two p h)))
       go (Some (star outer inner)) e =
           let S = star_is l named outer inner e in
-          star-within outer S.outside (one_of (filter (λ r. contains r q) inner)) (one_le (all_filter (λ r. contains r q) (subst (All (λ s. (1 ≤ s) × (s ≤ n))) (sym S.inside) (inner-named outer l named))))
+          star-within outer S.outside (one_of (filter (λ r. contains r q) inner)) (one_numbered (all_filter (λ r. contains r q) (subst (All (λ s. (1 ≤ s) × (s ≤ n))) (sym S.inside) (inner-named outer l named))))

@@ -1,5 +1,5 @@
 -- What a mouth and a ramp propose before the records of regions are looked at, as the code has it: the region outside, and a kind. Definitions only; assumes nothing.
-use Rattle.std.specs.Prelude.{ℕ, zero, suc, ◌≤◌, Bool, ◌&&◌, ◌||◌, [], ◌∷◌}
+use Rattle.std.specs.Prelude.{ℕ, ◌≤◌, Bool, ◌&&◌, ◌||◌, [], ◌∷◌}
 use Rattle.std.proofs.Math.Bool.{not, cond}
 use Rattle.std.specs.Prelude.{Option, None, Some}
 use Rattle.std.proofs.Math.Dec.{eqb}
@@ -12,31 +12,30 @@ use Rattle.definitions.specs.RampMouths.{MouthProposal, max_mouth_distance, reta
 use Rattle.mouth_proposals.specs.Rows.{inner_of, one_of}
 use Rattle.mouth_proposals.specs.declared.approaches.Approach.{Approach}
 use Rattle.mouth_proposals.specs.declared.approaches.Approach.TheVariants as approach
-use Rattle.mouth_proposals.specs.declared.mouths.Candidate.{Candidate}
-use Rattle.mouth_proposals.specs.declared.mouths.Candidate.TheVariants as candidate
+use Rattle.mouth_proposals.specs.declared.mouths.Mouth.{Mouth}
 
--- ---- approaches: the one region of the mouth that the ramp's own pair names, 0 for none
+-- ---- approaches: the one region of the mouth that the ramp's own pair names
 
-abbrev pub single_at : Pair → ℕ → Approach
-single_at p zero = approach.None
-single_at p (suc r) = approach.Single (other_region (suc r) p) (suc r)
+abbrev pub single_at : Pair → Option ℕ → Option Approach
+single_at p None = None
+single_at p (Some r) = Some (approach.Single (other_region r p) r)
 
-abbrev pub star_at : ℕ → ℕ → Approach
-star_at outer zero = approach.None
-star_at outer (suc r) = approach.Star outer (suc r)
+abbrev pub star_at : ℕ → Option ℕ → Option Approach
+star_at outer None = None
+star_at outer (Some r) = Some (approach.Star outer r)
 
 -- from the ramp's full pair and the mouth's shape
-abbrev pub approach_of : Option Pair → Option MouthShape → Approach
-approach_of None s = approach.None
-approach_of (Some q) None = approach.None
+abbrev pub approach_of : Option Pair → Option MouthShape → Option Approach
+approach_of None s = None
+approach_of (Some q) None = None
 approach_of (Some q) (Some (single p)) = single_at p (one_of (filter (λ r. contains r q) (p.lo ∷ p.hi ∷ [])))
 approach_of (Some q) (Some (star outer inner)) = star_at outer (one_of (filter (λ r. contains r q) inner))
 
 -- both regions are numbered from 1 to n
-abbrev pub Within : ℕ → Approach → Type 0
-Within n approach.None = Unit {0}
-Within n (approach.Single outer r) = ((1 ≤ outer) × (outer ≤ n)) × ((1 ≤ r) × (r ≤ n))
-Within n (approach.Star outer r) = ((1 ≤ outer) × (outer ≤ n)) × ((1 ≤ r) × (r ≤ n))
+abbrev pub Within : ℕ → Option Approach → Type 0
+Within n None = Unit {0}
+Within n (Some (approach.Single outer r)) = ((1 ≤ outer) × (outer ≤ n)) × ((1 ≤ r) × (r ≤ n))
+Within n (Some (approach.Star outer r)) = ((1 ≤ outer) × (outer ≤ n)) × ((1 ≤ r) × (r ≤ n))
 
 -- ---- proposals
 
@@ -64,9 +63,9 @@ module _ (C : Context) where
         separation = separation_of C m a;
       }
 
-  abbrev pub candidate_form : ℕ → ℕ → Candidate → Option MouthProposal
-  candidate_form m a candidate.None = None
-  candidate_form m a (candidate.Mouth outer kind) = Some (proposal_of m a outer kind)
+  abbrev pub candidate_form : ℕ → ℕ → Option Mouth → Option MouthProposal
+  candidate_form m a None = None
+  candidate_form m a (Some p) = Some (proposal_of m a p.outer p.kind)
 
   -- `mouth_proposal` of RampMouths.antt, but for `is_local`
   unfoldable pub found_mouth : ℕ → ℕ → Option MouthProposal
@@ -93,9 +92,9 @@ module _ (C : Context) where
       && (eqb (incident_count C r) 2
       && (all (λ s. eqb s outer || not (C.anchored s) && (eqb s r || eqb (incident_count C s) 1)) (regions_of (C.pairs m)) && not (other_end_incident C a r)))
 
-  unfoldable pub approach_mouth : ℕ → ℕ → Approach → Option MouthProposal
+  unfoldable pub approach_mouth : ℕ → ℕ → Option Approach → Option MouthProposal
   unfolding single_fits star_fits proposal_of
-  approach_mouth m a approach.None = None
-  approach_mouth m a (approach.Single outer r) =
+  approach_mouth m a None = None
+  approach_mouth m a (Some (approach.Single outer r)) =
       only_if (single_fits m a outer r) (proposal_of m a outer (cond ((broad_mouth C m a || overlay_only C m a) && eqb (incident_count C r) 2) broad plain))
-  approach_mouth m a (approach.Star outer r) = only_if (star_fits m a outer r) (proposal_of m a outer (cond (broad_mouth C m a) broad plain))
+  approach_mouth m a (Some (approach.Star outer r)) = only_if (star_fits m a outer r) (proposal_of m a outer (cond (broad_mouth C m a) broad plain))

@@ -1,5 +1,6 @@
 -- What is known of the other end of a ramp once it is looked for: an answer for each region of the ramp's full pair. Definitions only; assumes nothing.
 use Rattle.std.specs.Prelude.{ℕ, ◌≡◌, Bool, true, cond, eqb}
+use Rattle.std.specs.Prelude.{Option, None, Some}
 use Rattle.definitions.specs.Grid.{contains}
 use Rattle.definitions.specs.Context.{Context, full_pair, holds}
 use Rattle.definitions.specs.RampMouths.{other_end_incident}
@@ -16,7 +17,7 @@ pub record EndsOf (C : Context) (a : ℕ) (ends : OtherEnds) : Type 0 where
   pub at : (r : ℕ) → holds (full_pair C a) (contains r) ≡ true → end_at ends r ≡ other_end_incident C a r
 
 -- and for the region of an approach, which is one of them
-abbrev pub EndKnown : Context → ℕ → OtherEnds → Approach → Type 0
-EndKnown C a ends approach.None = Unit {0}
-EndKnown C a ends (approach.Single outer r) = end_at ends r ≡ other_end_incident C a r
-EndKnown C a ends (approach.Star outer r) = end_at ends r ≡ other_end_incident C a r
+abbrev pub EndKnown : Context → ℕ → OtherEnds → Option Approach → Type 0
+EndKnown C a ends None = Unit {0}
+EndKnown C a ends (Some (approach.Single outer r)) = end_at ends r ≡ other_end_incident C a r
+EndKnown C a ends (Some (approach.Star outer r)) = end_at ends r ≡ other_end_incident C a r

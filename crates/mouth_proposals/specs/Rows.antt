@@ -5,12 +5,9 @@ use Rattle.definitions.specs.Scan.{filter}
 use Rattle.definitions.specs.Grid as grid
 use Rattle.definitions.specs.MouthShapes.{MouthShape, single, star, distinct_regions}
 use Rattle.context.specs.Shown.{pairs_between}
-use Rattle.mouth_proposals.specs.declared.shapes.Pair.{Pair}
+use Rattle.context.specs.Rows.{pair_form}
 use Rattle.mouth_proposals.specs.declared.shapes.Shape.{Shape}
 use Rattle.mouth_proposals.specs.declared.shapes.Shape.TheVariants as shape
-
-abbrev pub pair_form : Pair → grid.Pair
-pair_form p = record { lo = p.lo; hi = p.hi }
 
 -- the pairs of boundary i
 abbrev pub rows_of : List ℕ → List ℕ → ℕ → List grid.Pair
@@ -22,13 +19,13 @@ unfolding filter distinct_regions
 inner_of outer l = filter (λ r. not (eqb r outer)) (distinct_regions l)
 
 -- l are the pairs of the mouth
-abbrev pub shape_form : List grid.Pair → Shape → Option MouthShape
-shape_form l shape.None = None
-shape_form l (shape.Single p) = Some (single (pair_form p))
-shape_form l (shape.Star outer) = Some (star outer (filter (λ r. not (eqb r outer)) (distinct_regions l)))
+abbrev pub shape_form : List grid.Pair → Option Shape → Option MouthShape
+shape_form l None = None
+shape_form l (Some (shape.Single p)) = Some (single (pair_form p))
+shape_form l (Some (shape.Star outer)) = Some (star outer (filter (λ r. not (eqb r outer)) (distinct_regions l)))
 
--- the one number of a list, 0 where there are none or several
-abbrev pub one_of : List ℕ → ℕ
-one_of [] = 0
-one_of (r ∷ []) = r
-one_of (r ∷ s ∷ l) = 0
+-- the one number of a list, where there is just one
+abbrev pub one_of : List ℕ → Option ℕ
+one_of [] = None
+one_of (r ∷ []) = Some r
+one_of (r ∷ s ∷ l) = None

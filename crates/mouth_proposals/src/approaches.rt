@@ -7,18 +7,17 @@ ghost use Rattle.definitions.specs.Grid.{contains};
 ghost use Rattle.definitions.specs.MouthShapes.{mouth_shape};
 ghost use Rattle.definitions.specs.Context.{Context, full_pair, other_region};
 ghost use Rattle.context.specs.Shown.{ShownTallies, ShownPairs};
-ghost use Rattle.context.specs.Rows.{Stretch};
-ghost use Rattle.mouth_proposals.specs.Rows.{pair_form, inner_of, shape_form, one_of};
+ghost use Rattle.context.specs.Rows.{Stretch, pair_form};
+ghost use Rattle.mouth_proposals.specs.Rows.{inner_of, shape_form, one_of};
 ghost use Rattle.mouth_proposals.specs.Candidates.{approach_of};
 
-use crate::shapes::{Pair, Shape, star};
+use crate::shapes::{Shape, star};
 use context::incidents::is_incident;
-use context::pairs::{FullPair, full_pair};
+use context::pairs::{Pair, full_pair};
 
 // The region outside and the approach, of a mouth of one pair or of a star.
-#[derive(Clone, Copy)]
+#[derive(Clone, Copy, PartialEq, Eq)]
 pub enum Approach {
-    None,
     Single(u32, u32),
     Star(u32, u32),
 }
@@ -29,8 +28,8 @@ fn other_region(r: u32, p: Pair) -> u32
     if p.lo == r { p.hi } else { p.lo }
 }
 
-// The one region of q that a row of mouth m names, but for `outer`; 0 where there are none or two.
-fn shared_region(pairs: &[u32], starts: &[usize; 257], m: usize, outer: u32, q: Pair) -> u32
+// The one region of q that a row of mouth m names, but for `outer`; none where there are none or two.
+fn shared_region(pairs: &[u32], starts: &[usize; 257], m: usize, outer: u32, q: Pair) -> Option<u32>
     requires { Stretch pairs.now starts.now m }
     ensures { (C : Context) →
         ShownPairs C pairs.now starts.now →
@@ -42,40 +41,37 @@ fn shared_region(pairs: &[u32], starts: &[usize; 257], m: usize, outer: u32, q: 
     let hi = (q.hi != outer) & is_incident(pairs, starts, m, q.hi);
     if lo {
         if hi {
-            return 0;
+            return None;
         }
-        return q.lo;
+        return Some(q.lo);
     }
-    if hi { q.hi } else { 0 }
+    if hi { Some(q.hi) } else { None }
 }
 
 // The approach of mouth m, whose shape is s, from the ramp's full pair q.
-fn approach_from(pairs: &[u32], starts: &[usize; 257], m: usize, s: Shape, q: Pair) -> Approach
+fn approach_from(
+    pairs: &[u32],
+    starts: &[usize; 257],
+    m: usize,
+    s: Shape,
+    q: Pair,
+) -> Option<Approach>
     requires { Stretch pairs.now starts.now m }
     ensures { (C : Context) →
         ShownPairs C pairs.now starts.now →
         m < C.count →
         q.lo < q.hi →
-        shape_form (C.pairs m) s ≡ mouth_shape true (C.pairs m) →
+        shape_form (C.pairs m) (Some s) ≡ mouth_shape true (C.pairs m) →
         result ≡ approach_of (Some (pair_form q)) (mouth_shape true (C.pairs m)) }
 {
     match s {
-        Shape::None => Approach::None,
         Shape::Single(p) => {
-            let r = shared_region(pairs, starts, m, 0, q);
-            if r == 0 {
-                Approach::None
-            } else {
-                Approach::Single(other_region(r, p), r)
-            }
+            let r = shared_region(pairs, starts, m, 0, q)?;
+            Some(Approach::Single(other_region(r, p), r))
         }
         Shape::Star(outer) => {
-            let r = shared_region(pairs, starts, m, outer, q);
-            if r == 0 {
-                Approach::None
-            } else {
-                Approach::Star(outer, r)
-            }
+            let r = shared_region(pairs, starts, m, outer, q)?;
+            Some(Approach::Star(outer, r))
         }
     }
 }
@@ -87,7 +83,7 @@ pub fn approach_of(
     starts: &[usize; 257],
     m: usize,
     a: usize,
-) -> Approach
+) -> Option<Approach>
     requires tallies_room { tallies_per_span * a + 1 < length tallies.now }
     requires stretch { Stretch pairs.now starts.now m × Stretch pairs.now starts.now a }
     ensures { (C : Context) →
@@ -97,11 +93,7 @@ pub fn approach_of(
         a < C.count →
         result ≡ approach_of (full_pair C a) (mouth_shape true (C.pairs m)) }
 {
-    match full_pair(tallies, pairs, starts, a) {
-        FullPair::None => Approach::None,
-        FullPair::Pair(lo, hi) => {
-            let s = star(pairs, starts, m);
-            approach_from(pairs, starts, m, s, Pair { lo, hi })
-        }
-    }
+    let q = full_pair(tallies, pairs, starts, a)?;
+    let s = star(pairs, starts, m)?;
+    approach_from(pairs, starts, m, s, q)
 }

@@ -13,7 +13,7 @@ ghost use Rattle.mouth_proposals.specs.Listed.{max_candidates, Filled, Roomy, Pu
 
 use crate::ends::{OtherEnds, find_other_ends};
 use crate::measures::{is_close, separation_of};
-use crate::mouths::{Candidate, mouth_candidate};
+use crate::mouths::{Mouth, mouth_candidate};
 use context::pairs::full_cut;
 use geometry::boundaries::kind_at;
 
@@ -87,8 +87,8 @@ fn push_mouth(
     match mouth_candidate(
         boundaries, tallies, pairs, starts, counts, marks, count, m, a, ends,
     ) {
-        Candidate::None => n,
-        Candidate::Mouth(outer, kind) => {
+        None => n,
+        Some(Mouth { outer, kind }) => {
             let separation = separation_of(boundaries, m, a);
             if is_close(separation) {
                 put_candidate(

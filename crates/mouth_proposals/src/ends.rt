@@ -8,7 +8,7 @@ ghost use Rattle.context.specs.Rows.{Stretch};
 ghost use Rattle.mouth_proposals.specs.Ends.{end_at, EndsOf};
 
 use context::incidents::is_incident;
-use context::pairs::{FullPair, full_pair};
+use context::pairs::{Pair, full_pair};
 use geometry::boundaries::{kind_at, ramp_at};
 
 // The smaller region of the ramp's full pair, and the answers for it and for the larger one.
@@ -78,12 +78,12 @@ pub fn find_other_ends(
         EndsOf C a result }
 {
     match full_pair(tallies, pairs, starts, a) {
-        FullPair::None => OtherEnds {
+        None => OtherEnds {
             lo: 0,
             at_lo: false,
             at_hi: false,
         },
-        FullPair::Pair(lo, hi) => {
+        Some(Pair { lo, hi }) => {
             let at_lo = other_end_incident(boundaries, pairs, starts, count, a, lo);
             let at_hi = other_end_incident(boundaries, pairs, starts, count, a, hi);
             OtherEnds { lo, at_lo, at_hi }

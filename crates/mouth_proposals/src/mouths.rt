@@ -1,5 +1,5 @@
 // What a mouth and a ramp propose, before the records of regions are looked at.
-ghost use Rattle.std.specs.Prelude.{◌≡◌, true, false, cond, ℕ, ◌+◌, ◌-◌, ◌≤◌, ◌<◌, length, get_or};
+ghost use Rattle.std.specs.Prelude.{◌≡◌, Some, true, false, cond, ℕ, ◌+◌, ◌-◌, ◌≤◌, ◌<◌, length, get_or};
 ghost use Rattle.definitions.specs.Scan.{all};
 ghost use Rattle.definitions.specs.MouthShapes.{regions_of, distinct_regions};
 ghost use Rattle.definitions.specs.Context.{Context, full_cut, no_ramp};
@@ -14,8 +14,8 @@ ghost use Rattle.mouth_proposals.specs.Ends.{EndsOf, EndKnown};
 use crate::approaches::{Approach, approach_of};
 use crate::ends::{OtherEnds, other_end_at};
 use crate::measures::{broad_mouth, nearby_representative, overlay_representative};
-use crate::shapes::{row_at, triangle_representative};
-use context::pairs::full_cut;
+use crate::shapes::triangle_representative;
+use context::pairs::{full_cut, row_at};
 use geometry::boundaries::kind_at;
 
 pub const PLAIN: u8 = 0;
@@ -25,14 +25,14 @@ pub const TRIANGULAR: u8 = 1;
 pub const BROAD: u8 = 2;
 
 // The region outside, 0 for none, and the kind; `candidate_form` of specs/Candidates.antt gives the proposal.
-#[derive(Clone, Copy)]
-pub enum Candidate {
-    None,
-    Mouth(u32, u8),
+#[derive(Clone, Copy, PartialEq, Eq)]
+pub struct Mouth {
+    pub outer: u32,
+    pub kind: u8,
 }
 
 // The anchored regions of a triangle.
-#[derive(Clone, Copy)]
+#[derive(Clone, Copy, PartialEq, Eq)]
 pub enum Outers {
     None,
     One(u32),
@@ -95,7 +95,7 @@ fn single_mouth(
     blocked: bool,
     wide: bool,
     overlay: bool,
-) -> Candidate
+) -> Option<Mouth>
     requires outer_named { (1 ≤ outer) × (outer ≤ length marks.now) }
     requires r_named { (1 ≤ r) × ((r ≤ length marks.now) × (r ≤ length counts.now)) }
     ensures { (C : Context) (m a : ℕ) →
@@ -105,22 +105,22 @@ fn single_mouth(
         blocked ≡ other_end_incident C a r →
         wide ≡ broad_mouth C m a →
         overlay ≡ overlay_only C m a →
-        candidate_form C m a result ≡ approach_mouth C m a (Approach.Single outer r) }
+        candidate_form C m a result ≡ approach_mouth C m a (Some (Approach.Single outer r)) }
 {
     if is_anchored(marks, r) {
-        return Candidate::None;
+        return None;
     }
     let two = incident_count(counts, r) == 2;
     if overlay & (is_anchored(marks, outer) | !two) {
-        return Candidate::None;
+        return None;
     }
     if blocked {
-        return Candidate::None;
+        return None;
     }
     if (wide | overlay) & two {
-        Candidate::Mouth(outer, BROAD)
+        Some(Mouth { outer, kind: BROAD })
     } else {
-        Candidate::Mouth(outer, PLAIN)
+        Some(Mouth { outer, kind: PLAIN })
     }
 }
 
@@ -136,7 +136,7 @@ fn star_mouth(
     blocked: bool,
     wide: bool,
     overlay: bool,
-) -> Candidate
+) -> Option<Mouth>
     requires stretch { Stretch pairs.now starts.now m }
     requires named_rows { (k : ℕ) →
         get_or starts.now m 0 ≤ k →
@@ -152,26 +152,26 @@ fn star_mouth(
         blocked ≡ other_end_incident C a r →
         wide ≡ broad_mouth C m a →
         overlay ≡ overlay_only C m a →
-        candidate_form C m a result ≡ approach_mouth C m a (Approach.Star outer r) }
+        candidate_form C m a result ≡ approach_mouth C m a (Some (Approach.Star outer r)) }
 {
     if overlay {
-        return Candidate::None;
+        return None;
     }
     if incident_count(counts, r) != 2 {
-        return Candidate::None;
+        return None;
     }
     let first = starts[m];
     let end = starts[m + 1];
     if !inner_fit(pairs, counts, marks, first, end, outer, r) {
-        return Candidate::None;
+        return None;
     }
     if blocked {
-        return Candidate::None;
+        return None;
     }
     if wide {
-        Candidate::Mouth(outer, BROAD)
+        Some(Mouth { outer, kind: BROAD })
     } else {
-        Candidate::Mouth(outer, PLAIN)
+        Some(Mouth { outer, kind: PLAIN })
     }
 }
 
@@ -197,7 +197,7 @@ fn with_region(marks: &[u16], found: Outers, r: u32) -> Outers
 }
 
 // The proposal of a triangle, whose regions two rows of mouth m name: one of them at most is anchored, and that one is outside.
-fn triangle_mouth(pairs: &[u32], starts: &[usize; 257], marks: &[u16], m: usize) -> Candidate
+fn triangle_mouth(pairs: &[u32], starts: &[usize; 257], marks: &[u16], m: usize) -> Option<Mouth>
     requires places { (m < 256) × (get_or starts.now (m + 1) 0 - get_or starts.now m 0 ≡ 2) }
     requires named_rows { (k : ℕ) → get_or starts.now m 0 ≤ k → k < get_or starts.now (m + 1) 0 → NamedRow pairs.now (length marks.now) k }
     ensures { (C : Context) (a : ℕ) →
@@ -213,9 +213,15 @@ fn triangle_mouth(pairs: &[u32], starts: &[usize; 257], marks: &[u16], m: usize)
     let two = with_region(marks, one, p.hi);
     let three = with_region(marks, two, q.lo);
     match with_region(marks, three, q.hi) {
-        Outers::None => Candidate::Mouth(0, TRIANGULAR),
-        Outers::One(r) => Candidate::Mouth(r, TRIANGULAR),
-        Outers::Several => Candidate::None,
+        Outers::None => Some(Mouth {
+            outer: 0,
+            kind: TRIANGULAR,
+        }),
+        Outers::One(r) => Some(Mouth {
+            outer: r,
+            kind: TRIANGULAR,
+        }),
+        Outers::Several => None,
     }
 }
 
@@ -227,10 +233,10 @@ fn approach_mouth(
     marks: &[u16],
     m: usize,
     ends: OtherEnds,
-    approach: Approach,
+    approach: Option<Approach>,
     wide: bool,
     overlay: bool,
-) -> Candidate
+) -> Option<Mouth>
     requires stretch { Stretch pairs.now starts.now m }
     requires named_rows { (k : ℕ) →
         get_or starts.now m 0 ≤ k →
@@ -248,8 +254,7 @@ fn approach_mouth(
         overlay ≡ overlay_only C m a →
         candidate_form C m a result ≡ approach_mouth C m a approach }
 {
-    match approach {
-        Approach::None => Candidate::None,
+    match approach? {
         Approach::Single(outer, r) => {
             let blocked = other_end_at(ends, r);
             single_mouth(counts, marks, outer, r, blocked, wide, overlay)
@@ -260,16 +265,6 @@ fn approach_mouth(
                 pairs, starts, counts, marks, m, outer, r, blocked, wide, overlay,
             )
         }
-    }
-}
-
-fn is_none(approach: Approach) -> bool
-    ensures { result ≡ true → approach ≡ Approach.None }
-{
-    match approach {
-        Approach::None => true,
-        Approach::Single(_, _) => false,
-        Approach::Star(_, _) => false,
     }
 }
 
@@ -285,7 +280,7 @@ pub fn mouth_candidate(
     m: usize,
     a: usize,
     ends: OtherEnds,
-) -> Candidate
+) -> Option<Mouth>
     requires shown { Shown boundaries.now tallies.now pairs.now starts.now counts.now marks.now count }
     requires places { (m < count) × (a < count) }
     ensures { (C : Context) →
@@ -297,21 +292,21 @@ pub fn mouth_candidate(
         candidate_form C m a result ≡ found_mouth C a m }
 {
     if kind_at(boundaries, m) != 0 {
-        return Candidate::None;
+        return None;
     }
     if !full_cut(tallies, m) {
-        return Candidate::None;
+        return None;
     }
     let triangle = triangle_representative(pairs, starts, m, a);
     let approach = approach_of(tallies, pairs, starts, m, a);
-    if !triangle & is_none(approach) {
-        return Candidate::None;
+    if !triangle & approach.is_none() {
+        return None;
     }
     let wide = broad_mouth(boundaries, m, a);
     let nearby = nearby_representative(boundaries, m, a);
     let overlay = overlay_representative(boundaries, m, a);
     if !(wide | nearby | overlay) {
-        return Candidate::None;
+        return None;
     }
     if nearby & triangle {
         return triangle_mouth(pairs, starts, marks, m);

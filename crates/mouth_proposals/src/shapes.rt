@@ -5,46 +5,16 @@ ghost use Rattle.definitions.specs.Scan.{any, all, filter, only_if};
 ghost use Rattle.definitions.specs.Grid.{contains, pair_eq};
 ghost use Rattle.definitions.specs.MouthShapes.{mouth_shape, distinct_regions, triangle_representative};
 ghost use Rattle.context.specs.Shown.{pair_at, pairs_between};
-ghost use Rattle.context.specs.Rows.{Stretch};
-ghost use Rattle.mouth_proposals.specs.Rows.{pair_form, rows_of, shape_form};
+ghost use Rattle.context.specs.Rows.{Stretch, pair_form};
+ghost use Rattle.mouth_proposals.specs.Rows.{rows_of, shape_form};
 
-const NUMBERS_PER_PAIR: usize = 3;
-
-// Two regions, the smaller first.
-#[derive(Clone, Copy)]
-pub struct Pair {
-    pub lo: u32,
-    pub hi: u32,
-}
+use context::pairs::{Pair, row_at};
 
 // MouthShape of ramp_boundaries.rs: of one pair, or a star about an outer region; `shape_form` of specs/Rows.antt gives the inner ones.
-#[derive(Clone, Copy)]
+#[derive(Clone, Copy, PartialEq, Eq)]
 pub enum Shape {
-    None,
     Single(Pair),
     Star(u32),
-}
-
-pub fn row_at(pairs: &[u32], k: usize) -> Pair
-    requires { numbers_per_pair * k + 2 < length pairs.now }
-    ensures { pair_form result ≡ pair_at pairs.now k }
-{
-    Pair {
-        lo: pairs[NUMBERS_PER_PAIR * k + 1],
-        hi: pairs[NUMBERS_PER_PAIR * k + 2],
-    }
-}
-
-pub fn contains(r: u32, p: Pair) -> bool
-    ensures { result ≡ contains r (pair_form p) }
-{
-    (p.lo == r) | (p.hi == r)
-}
-
-fn pair_eq(p: Pair, q: Pair) -> bool
-    ensures { result ≡ pair_eq (pair_form p) (pair_form q) }
-{
-    (p.lo == q.lo) & (p.hi == q.hi)
 }
 
 // Whether every row from `first` on, before `end`, names region r.
@@ -52,16 +22,11 @@ fn in_all(pairs: &[u32], first: usize, end: usize, r: u32) -> bool
     requires { (first ≤ end) × (numbers_per_pair * end ≤ length pairs.now) }
     ensures { result ≡ all (contains r) (pairs_between pairs.now first end) }
 {
-    for k in first..end {
-        if !contains(r, row_at(pairs, k)) {
-            return false;
-        }
-    }
-    true
+    (first..end).all(|k| row_at(pairs, k).contains(r))
 }
 
 // The star of two rows or more: exactly one region stands in all of them.
-fn star_of(pairs: &[u32], first: usize, end: usize) -> Shape
+fn star_of(pairs: &[u32], first: usize, end: usize) -> Option<Shape>
     requires { (first + 2 ≤ end) × (numbers_per_pair * end ≤ length pairs.now) }
     ensures { shape_form (pairs_between pairs.now first end) result ≡ mouth_shape true (pairs_between pairs.now first end) }
 {
@@ -70,15 +35,15 @@ fn star_of(pairs: &[u32], first: usize, end: usize) -> Shape
     let hi = in_all(pairs, first, end, p.hi);
     if lo {
         if hi {
-            return Shape::None;
+            return None;
         }
-        return Shape::Star(p.lo);
+        return Some(Shape::Star(p.lo));
     }
-    if hi { Shape::Star(p.hi) } else { Shape::None }
+    if hi { Some(Shape::Star(p.hi)) } else { None }
 }
 
 // The shape of mouth m, which is a full cut.
-pub fn star(pairs: &[u32], starts: &[usize; 257], m: usize) -> Shape
+pub fn star(pairs: &[u32], starts: &[usize; 257], m: usize) -> Option<Shape>
     requires { Stretch pairs.now starts.now m }
     ensures { shape_form (rows_of pairs.now starts.now m) result
         ≡ mouth_shape true (rows_of pairs.now starts.now m) }
@@ -86,10 +51,10 @@ pub fn star(pairs: &[u32], starts: &[usize; 257], m: usize) -> Shape
     let first = starts[m];
     let end = starts[m + 1];
     if end - first == 0 {
-        return Shape::None;
+        return None;
     }
     if end - first == 1 {
-        return Shape::Single(row_at(pairs, first));
+        return Some(Shape::Single(row_at(pairs, first)));
     }
     star_of(pairs, first, end)
 }
@@ -99,8 +64,8 @@ fn has_three(p: Pair, q: Pair) -> bool
     ensures { result ≡ eqb (length (distinct_regions (pair_form p ∷ pair_form q ∷ []))) 3 }
 {
     let second = p.hi != p.lo;
-    let third = !contains(q.lo, p);
-    let fourth = !contains(q.hi, p) & (q.hi != q.lo);
+    let third = !p.contains(q.lo);
+    let fourth = !p.contains(q.hi) & (q.hi != q.lo);
     (second & third & !fourth) | (second & !third & fourth) | (!second & third & fourth)
 }
 
@@ -108,18 +73,18 @@ fn has_three(p: Pair, q: Pair) -> bool
 fn all_named(p: Pair, q: Pair, s: Pair, t: Pair) -> bool
     ensures { result ≡ all (λ x. any (contains x) (pair_form s ∷ pair_form t ∷ [])) (distinct_regions (pair_form p ∷ pair_form q ∷ [])) }
 {
-    (contains(p.lo, s) | contains(p.lo, t))
-        & (contains(p.hi, s) | contains(p.hi, t))
-        & (contains(q.lo, s) | contains(q.lo, t))
-        & (contains(q.hi, s) | contains(q.hi, t))
+    (s.contains(p.lo) | t.contains(p.lo))
+        & (s.contains(p.hi) | t.contains(p.hi))
+        & (s.contains(q.lo) | t.contains(q.lo))
+        & (s.contains(q.hi) | t.contains(q.hi))
 }
 
 // Whether exactly one of the rows p and q is s or t.
 fn one_edge(p: Pair, q: Pair, s: Pair, t: Pair) -> bool
     ensures { result ≡ eqb (length (filter (λ e. any (pair_eq e) (pair_form s ∷ pair_form t ∷ [])) (pair_form p ∷ pair_form q ∷ []))) 1 }
 {
-    let first = pair_eq(p, s) | pair_eq(p, t);
-    let second = pair_eq(q, s) | pair_eq(q, t);
+    let first = (p == s) | (p == t);
+    let second = (q == s) | (q == t);
     (first & !second) | (!first & second)
 }
 

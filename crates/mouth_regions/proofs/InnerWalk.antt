@@ -3,10 +3,10 @@ use Prim.Native.Nat.{ℕ, zero, suc, ◌+◌, ◌-◌, ◌*◌, ◌/◌, ◌%◌
 use native.Mathlib.Omega.{arith}
 use mathlib.Core.Path.{◌≡◌, refl, sym, ap, ap₂, ◌∙◌}
 use mathlib.Core.Bool.{Bool, true, false, ◌&&◌, ◌||◌, cond}
+use Rattle.std.specs.Prelude.{Option, None, Some}
 use mathlib.Core.List.{List, [], ◌∷◌}
 use lib.ListN.{get_or}
 use lib.Dec.{eqb}
-use borrow.Author.Tests.{ne_eqb}
 use Rattle.definitions.specs.Scan.{all_below, all}
 use Rattle.definitions.specs.Grid.{Pair}
 use Rattle.definitions.specs.MouthShapes.{distinct_regions}
@@ -14,11 +14,9 @@ use Rattle.definitions.specs.Context.{Context}
 use Rattle.definitions.specs.RampMouths.{corners_near_lem}
 use Rattle.laws.specs.ListLaws.ScansOfAll.{all_append-test, all_ext}
 use Rattle.context.specs.Shown.{pair_at, pairs_between, ShownPairs}
-use Rattle.context.specs.Rows.{NamedRow}
-use Rattle.context.proofs.ShownLaws.{shown-rows}
 use Rattle.context.proofs.Counting.{between_none, between_more}
 use Rattle.mouth_proposals.specs.Rows.{inner_of}
-use Rattle.mouth_regions.specs.Inner.{places_of, region_at, inner_at}
+use Rattle.mouth_regions.specs.Inner.{places_of, region_at, inner_at, passes}
 use Rattle.mouth_regions.specs.Near.{corner_near, region_near}
 use Rattle.mouth_proposals.specs.Candidates.{proposal_of, broad}
 use Rattle.mouth_proposals.proofs.RowLists.{all-regions}
@@ -77,37 +75,29 @@ module _ (g : ℕ → Bool) (rows : List ℕ) (first : ℕ) where
 -- ---- the inner regions
 
 module _ {C : Context} {pairs starts : List ℕ} (P : ShownPairs C pairs starts) (m : ℕ) (l : m < C.count) (outer : ℕ) where
-  abbrev at : ℕ → ℕ
+  abbrev at : ℕ → Option ℕ
   at k = inner_at pairs starts m outer k
 
-  -- a place names a region, from 1 on
-  place-named : (k : ℕ) → k < places_of starts m → 1 ≤ region_at pairs (get_or starts m 0) k
-  place-named k h = go (eqb (k % 2) 0) ((shown-rows P).named m l (get_or starts m 0 + k / 2) (omega arith) (omega (arith, h, P.rising m l)))
+  passed : (f : ℕ → Bool) (r : ℕ) → (eqb r outer || f r) ≡ passes f (cond (eqb r outer) None (Some r))
+  passed f r = go (eqb r outer)
     where
-      go : (b : Bool) → NamedRow pairs C.regions (get_or starts m 0 + k / 2) → 1 ≤ cond b (pair_at pairs (get_or starts m 0 + k / 2)).lo (pair_at pairs (get_or starts m 0 + k / 2)).hi
-      go true n = n.lo-pos
-      go false n = n.hi-pos
-
-  passes : (f : ℕ → Bool) (r : ℕ) → 1 ≤ r → (eqb r outer || f r) ≡ (eqb (cond (eqb r outer) 0 r) 0 || f (cond (eqb r outer) 0 r))
-  passes f r h = go (eqb r outer)
-    where
-      go : (b : Bool) → (b || f r) ≡ (eqb (cond b 0 r) 0 || f (cond b 0 r))
+      go : (b : Bool) → (b || f r) ≡ passes f (cond b None (Some r))
       go true = refl
-      go false = sym (ap (λ b. b || f r) (ne_eqb r 0 (λ k. omega (arith, k))))
+      go false = refl
 
-  pub inner-all : (f : ℕ → Bool) → all f (inner_of outer (C.pairs m)) ≡ all_below (places_of starts m) (λ k. eqb (at k) 0 || f (at k))
+  pub inner-all : (f : ℕ → Bool) → all f (inner_of outer (C.pairs m)) ≡ all_below (places_of starts m) (λ k. passes f (at k))
   unfolding inner_of
   inner-all f =
       all_of-filter (λ s. eqb s outer) f (distinct_regions (C.pairs m)) ∙ all_distinct (λ s. eqb s outer || f s) (C.pairs m) ∙ all-regions (λ s. eqb s outer || f s) (C.pairs m)
       ∙ ap (all (row (λ s. eqb s outer || f s) pairs (get_or starts m 0))) (P.at m l)
       ∙ ap (λ n. all (row (λ s. eqb s outer || f s) pairs (get_or starts m 0)) (pairs_between pairs (get_or starts m 0) n)) (spread (get_or starts m 0) (get_or starts (m + 1) 0) (P.rising m l))
       ∙ walked (λ s. eqb s outer || f s) pairs (get_or starts m 0) (get_or starts (m + 1) 0 - get_or starts m 0)
-      ∙ all_ext _ _ (places_of starts m) (λ k h. passes f (region_at pairs (get_or starts m 0) k) (place-named k h))
+      ∙ all_ext _ _ (places_of starts m) (λ k h. passed f (region_at pairs (get_or starts m 0) k))
     where
       spread : (a b : ℕ) → a ≤ b → b ≡ a + (b - a)
       spread a b h = omega arith
 
   -- the second half of `is_local`, place by place
-  pub corners-near : (a kind : ℕ) → corners_near_lem C (proposal_of C m a outer kind) ≡ all_below (places_of starts m) (λ k. eqb (at k) 0 || region_near C m a (eqb kind broad) (C.region (at k)))
+  pub corners-near : (a kind : ℕ) → corners_near_lem C (proposal_of C m a outer kind) ≡ all_below (places_of starts m) (λ k. passes (λ r. region_near C m a (eqb kind broad) (C.region r)) (at k))
   unfolding corners_near_lem proposal_of region_near corner_near
   corners-near a kind = inner-all (λ r. region_near C m a (eqb kind broad) (C.region r))

@@ -1,5 +1,5 @@
 -- The inner regions of a proposal by the places of the mouth's rows. Definitions only; assumes nothing.
-use Rattle.std.specs.Prelude.{ℕ, ◌+◌, ◌-◌, ◌*◌, ◌/◌, ◌%◌, cond, List, get_or, eqb}
+use Rattle.std.specs.Prelude.{ℕ, ◌+◌, ◌-◌, ◌*◌, ◌/◌, ◌%◌, Bool, true, cond, List, get_or, eqb, Option, None, Some}
 use Rattle.context.specs.Shown.{pair_at}
 
 -- two places a row
@@ -10,6 +10,12 @@ places_of starts m = 2 * (get_or starts (m + 1) 0 - get_or starts m 0)
 abbrev pub region_at : List ℕ → ℕ → ℕ → ℕ
 region_at pairs first k = cond (eqb (k % 2) 0) (pair_at pairs (first + k / 2)).lo (pair_at pairs (first + k / 2)).hi
 
--- 0 for the region outside
-abbrev pub inner_at : List ℕ → List ℕ → ℕ → ℕ → ℕ → ℕ
-inner_at pairs starts m outer k = cond (eqb (region_at pairs (get_or starts m 0) k) outer) 0 (region_at pairs (get_or starts m 0) k)
+-- none for the region outside
+abbrev pub inner_at : List ℕ → List ℕ → ℕ → ℕ → ℕ → Option ℕ
+inner_at pairs starts m outer k =
+    cond (eqb (region_at pairs (get_or starts m 0) k) outer) None (Some (region_at pairs (get_or starts m 0) k))
+
+-- f holds of the region, if there is one
+abbrev pub passes : (ℕ → Bool) → Option ℕ → Bool
+passes f None = true
+passes f (Some r) = f r

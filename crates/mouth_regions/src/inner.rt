@@ -3,7 +3,7 @@ ghost use Rattle.std.specs.Prelude.{◌≡◌, cond, ◌%◌, ◌<◌, eqb};
 ghost use Rattle.context.specs.Rows.{Stretch};
 ghost use Rattle.mouth_regions.specs.Inner.{places_of, inner_at};
 
-use mouth_proposals::shapes::{Pair, row_at};
+use context::pairs::{Pair, row_at};
 
 // How many regions the rows of mouth m name, each as often as it is named.
 pub fn places(pairs: &[u32], starts: &[usize; 257], m: usize) -> usize
@@ -20,8 +20,14 @@ fn side_of(p: Pair, k: usize) -> u32
     if k % 2 == 0 { p.lo } else { p.hi }
 }
 
-// The region at place k of the rows of mouth m; 0 for the region outside.
-pub fn inner_region(pairs: &[u32], starts: &[usize; 257], m: usize, outer: u32, k: usize) -> u32
+// The region at place k of the rows of mouth m, if it is not the region outside.
+pub fn inner_region(
+    pairs: &[u32],
+    starts: &[usize; 257],
+    m: usize,
+    outer: u32,
+    k: usize,
+) -> Option<u32>
     requires stretch { Stretch pairs.now starts.now m }
     requires k_within { k < places_of starts.now m }
     ensures { result ≡ inner_at pairs.now starts.now m outer k }
@@ -29,5 +35,5 @@ pub fn inner_region(pairs: &[u32], starts: &[usize; 257], m: usize, outer: u32, 
     let first = starts[m];
     let p = row_at(pairs, first + k / 2);
     let r = side_of(p, k);
-    if r == outer { 0 } else { r }
+    if r == outer { None } else { Some(r) }
 }

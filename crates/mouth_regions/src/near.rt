@@ -21,14 +21,8 @@ fn corner_near(ramp: Point, mouth: Point, broad: bool, corner: Point) -> bool
         DistanceInRange (point_form corner) (point_form mouth) →
         result ≡ corner_near (point_form ramp) (point_form mouth) broad (point_form corner) }
 {
-    if distance(corner, ramp) <= MAX_APPROACH_RADIUS {
-        return true;
-    }
-    if broad {
-        distance(corner, mouth) <= MAX_APPROACH_RADIUS
-    } else {
-        false
-    }
+    distance(corner, ramp) <= MAX_APPROACH_RADIUS
+        || (broad && distance(corner, mouth) <= MAX_APPROACH_RADIUS)
 }
 
 // Whether each corner of the region is near the ramp's centre or, for a broad two-port approach, the mouth's.

@@ -15,9 +15,9 @@ ghost use Rattle.mouth_selection.specs.Selecting.{Gone, Lists, Room, Renewed, Be
 
 use crate::held::region_full;
 use crate::selection::{entry_left, least_marked, mark_left, take_entry};
+use context::pairs::row_at;
 use geometry::boundaries::kind_at;
 use mouth_proposals::candidates::push_ramp;
-use mouth_proposals::shapes::row_at;
 
 // Lists the candidates of ramp a, and marks those that conflict with none taken. Gives the number of candidates.
 pub fn list_ramp(

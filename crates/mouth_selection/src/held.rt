@@ -11,8 +11,8 @@ ghost use Rattle.mouth_proposals.specs.Rows.{rows_of};
 ghost use Rattle.mouth_proposals.specs.Candidates.{triangular, proposal_of};
 ghost use Rattle.mouth_selection.specs.Held.{hold_at_lem, HeldMarks, is_held, mark_held, mark_inner};
 
+use context::pairs::{Pair, row_at};
 use mouth_proposals::mouths::TRIANGULAR;
-use mouth_proposals::shapes::{Pair, row_at};
 
 // How a proposal of this kind holds the region outside.
 fn outer_hold(kind: u8) -> u16

@@ -1,1 +1,1 @@
-pub mod Rearranging
+pub mod Ordered

@@ -4,7 +4,7 @@ use Prim.Native.Nat.{ℕ, zero, suc, ◌*◌, ◌/◌, ◌%◌, ◌≤◌, ◌<�
 use native.Mathlib.Omega.{arith}
 use mathlib.Core.Path.{◌≡◌, refl, sym, ap, ◌∙◌}
 use mathlib.Core.Bool.{◌&&◌}
-use Rattle.std.specs.Prelude.{Option, None, Some}
+use Rattle.std.specs.Prelude.{Option, None, Some, Ok, Err}
 use mathlib.Core.List.{List, [], ◌∷◌}
 use lib.ListN.{length}
 use lib.Dec.{ltb, leb}
@@ -23,7 +23,7 @@ use Rattle.catalogue.proofs.PoolLaws.{pool_rising}
 use Rattle.pool_entries.specs.Steps.{blank, RecordsShown}
 use Rattle.pool_entries.proofs.Spreading.{entries-length}
 use Rattle.pool_entries.proofs.Showing.{entries_of-length}
-use Rattle.pool.specs.declared.Pool.TheVariants.{Maps, Refused}
+use Rattle.refusals.specs.declared.Cause.TheVariants as cause
 use Rattle.pool.specs.Contract.{lists_refusal, output_by, Listed}
 
 -- ---- the lists
@@ -154,13 +154,13 @@ module _ (terms records : List ℕ) (day : ℕ) (old : List ℕ) {maps : ℕ} (m
   unfolding maps_of_day
   maps-listed = length-sort ltb (maps_in terms day) ∙ sym m
 
-  pub no_room : length old / 4 < maps → Listed terms records day old (Refused 10 0) old
+  pub no_room : length old / 4 < maps → Listed terms records day old (Err (record { cause = cause.Room; place = 0 })) old
   no_room h =
       let short : length old < length (entries_on terms records (Some day)) = omega (arith, need) in
       record { answer = rw (lt-leb (length (entries_on terms records (Some day))) (length old) short) refl; output = refl }
 
   pub room-enough : {new : List ℕ} → maps ≤ length old / 4 → new ≡ overwrite (entries_of records day (accession_count records) (maps_of_day terms day)) old
-      → Listed terms records day old (Maps maps) new
+      → Listed terms records day old (Ok maps) new
   room-enough h e =
       let fits : length (entries_on terms records (Some day)) ≤ length old = omega (arith, need) in
       let count : maps ≡ length (entries_on terms records (Some day)) / 4 = omega (arith, need) in

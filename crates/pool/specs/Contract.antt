@@ -1,6 +1,6 @@
 -- What the answers of this crate say, by cases, and what its steps promise. Definitions only; assumes nothing.
 use Rattle.std.specs.Prelude.{ℕ, zero, suc, ◌/◌, ◌≡◌, ◌&&◌, List, [], ◌∷◌, length, leb}
-use Rattle.std.specs.Prelude.{Option, None, Some}
+use Rattle.std.specs.Prelude.{Option, Some, Result}
 use Rattle.definitions.specs.Refusals.{Refusal, or_else, unless}
 use Rattle.definitions.specs.Verdict.{Answer, refusal, first_refusal}
 use Rattle.catalogue.specs.Dates.{Date}
@@ -9,28 +9,15 @@ use Rattle.catalogue.specs.Accession.{accessions_fault}
 use Rattle.catalogue.specs.Accession as accession
 use Rattle.catalogue.specs.Pool.{numbers_per_entry, entries_on}
 use Rattle.definitions.specs.Lists.{overwrite}
-use Rattle.pool.specs.declared.Pool.{Pool}
-use Rattle.pool.specs.declared.Pool.TheVariants as pool
-use Rattle.pool.specs.declared.Checked.{Checked}
-use Rattle.pool.specs.declared.Checked.TheVariants as checked
+use Rattle.accession.specs.Contract.{answer_of}
+use Rattle.refusals.specs.declared.Refusal as refusals
 use Rattle.pool.specs.declared.PoolAnswer.{PoolAnswer}
 
 abbrev pub date : ℕ → ℕ → ℕ → Date
 date year month day = record { year = year; month = month; day = day }
 
-abbrev pub answer_of : Pool → Answer
-answer_of (pool.Maps count) = record { number = 0; value = count }
-answer_of (pool.Refused number place) = record { number = number; value = place }
-
 abbrev pub exported : PoolAnswer → Answer
 exported r = record { number = r.number; value = r.value }
-
-abbrev pub refusal_of : Checked → Option Refusal
-refusal_of checked.Fine = None
-refusal_of checked.Unfinished = Some (record { number = 3; place = 0 })
-refusal_of (checked.BrokenRecord i) = Some (record { number = 17; place = i })
-refusal_of (checked.BadDate i) = Some (record { number = 18; place = i })
-refusal_of (checked.EmptyOrOverlapping i) = Some (record { number = 19; place = i })
 
 -- the first refusal over the two lists: 3, 17, 18 and 19
 unfoldable pub lists_refusal : List ℕ → List ℕ → Option Refusal
@@ -44,6 +31,6 @@ output_by zero entries old = overwrite entries old
 output_by (suc number) entries old = old
 
 -- the last check, 10, and the entries of a day
-pub record Listed (terms records : List ℕ) (day : ℕ) (old : List ℕ) (r : Pool) (new : List ℕ) : Type 0 where
+pub record Listed (terms records : List ℕ) (day : ℕ) (old : List ℕ) (r : Result ℕ refusals.Refusal) (new : List ℕ) : Type 0 where
   pub answer : answer_of r ≡ first_refusal (refusal 10 (unless (leb (length (entries_on terms records (Some day))) (length old))) ∷ []) (length (entries_on terms records (Some day)) / numbers_per_entry)
   pub output : new ≡ output_by (answer_of r).number (entries_on terms records (Some day)) old

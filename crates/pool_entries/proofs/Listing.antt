@@ -3,9 +3,11 @@ use Prim.Native.Nat.{ℕ, zero, suc, ◌+◌, ◌≤◌, ◌<◌}
 use native.Mathlib.Omega.{arith}
 use native.Mathlib.Nat.{le_antisymm}
 use mathlib.Core.Path.{◌≡◌, refl, sym, ap, ap₂, ◌∙◌}
-use mathlib.Core.Bool.{Bool, true, false}
+use mathlib.Core.Bool.{Bool, true, false, cond}
 use Rattle.std.specs.Prelude.{Option}
-use mathlib.Core.List.{List, ◌++◌}
+use Rattle.std.specs.List.{filter, range_with_len}
+use Rattle.std.proofs.Common.{add-zero, zero-add}
+use mathlib.Core.List.{List, ◌∷◌, ◌++◌}
 use lib.ListN.{length, length-append}
 use lib.Seq.{sets, length-sets}
 use lib.Dec.{ltb}
@@ -40,18 +42,26 @@ module _ {A : Type 0} (f : ℕ → Option A) where
 pub on_day : (terms : List ℕ) (day i : ℕ) {r : Bool} → r ≡ contains day (days_of (term_at terms i)) → r ≡ true → length (to_list (map_at_lem terms day i)) ≡ 1
 on_day terms day i e t = ap (λ b. length (to_list (only_if b (term_at terms i).on_map))) (sym e ∙ t)
 
-module _ (terms : List ℕ) (day i : ℕ) {maps : ℕ} where
-  pub counted_in : {r : Bool} → r ≡ contains day (days_of (term_at terms i)) → r ≡ true → maps ≡ length (collect i (map_at_lem terms day))
-      → maps + 1 ≡ length (collect (i + 1) (map_at_lem terms day))
-  counted_in e t h = omega (arith, length_next (map_at_lem terms day) i, ap (λ b. length (to_list (only_if b (term_at terms i).on_map))) (sym e ∙ t))
+module _ {A : Type 0} (f : ℕ → Bool) (g : ℕ → A) where
+  counted_from : (a n : ℕ) → length (collect (a + n) (λ i. only_if (f i) (g i))) ≡ length (collect a (λ i. only_if (f i) (g i))) + length (filter f (range_with_len a n))
+  counted_from a zero = ap (λ m. length (collect m (λ i. only_if (f i) (g i)))) (add-zero a) ∙ sym (add-zero _)
+  counted_from a (suc n) =
+      let e : a + suc n ≡ a + 1 + n = omega arith in
+      ap (λ m. length (collect m (λ i. only_if (f i) (g i)))) e ∙ counted_from (a + 1) n ∙ next (f a) (length_next (λ i. only_if (f i) (g i)) a)
+    where
+      next : (b : Bool) → length (collect (a + 1) (λ i. only_if (f i) (g i))) ≡ length (collect a (λ i. only_if (f i) (g i))) + length (to_list (only_if b (g a)))
+          → length (collect (a + 1) (λ i. only_if (f i) (g i))) + length (filter f (range_with_len (a + 1) n))
+          ≡ length (collect a (λ i. only_if (f i) (g i))) + length (cond b (a ∷ filter f (range_with_len (a + 1) n)) (filter f (range_with_len (a + 1) n)))
+      next true h = omega arith
+      next false h = omega arith
 
-  pub counted-out : {r : Bool} → r ≡ contains day (days_of (term_at terms i)) → r ≡ false → maps ≡ length (collect i (map_at_lem terms day))
-      → maps ≡ length (collect (i + 1) (map_at_lem terms day))
-  counted-out e t h = omega (arith, length_next (map_at_lem terms day) i, ap (λ b. length (to_list (only_if b (term_at terms i).on_map))) (sym e ∙ t))
+  counted_range : (n : ℕ) → length (filter f (range_with_len 0 n)) ≡ length (collect n (λ i. only_if (f i) (g i)))
+  unfolding collect
+  counted_range n = sym (ap (λ m. length (collect m (λ i. only_if (f i) (g i)))) (sym (zero-add n)) ∙ counted_from 0 n ∙ zero-add _)
 
-pub all-counted : (terms : List ℕ) (day i : ℕ) {maps : ℕ} → i ≤ term_count terms → term_count terms ≤ i → maps ≡ length (collect i (map_at_lem terms day)) → maps ≡ length (maps_in terms day)
+pub all-counted : (terms : List ℕ) (day : ℕ) → length (filter (λ i. contains day (days_of (term_at terms i))) (range_with_len 0 (term_count terms))) ≡ length (maps_in terms day)
 unfolding maps_in
-all-counted terms day i l m h = h ∙ ap (λ n. length (collect n (map_at_lem terms day))) (le_antisymm l m)
+all-counted terms day = counted_range (λ i. contains day (days_of (term_at terms i))) (λ i. (term_at terms i).on_map) (term_count terms)
 
 -- ---- putting
 

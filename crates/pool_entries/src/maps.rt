@@ -17,14 +17,9 @@ const ENTRY_SIZE: usize = 4;
 pub fn count_maps(terms: &[u64], day: u64) -> usize
     ensures { result ≡ length (maps_in terms.now day) }
 {
-    let count = terms.len() / TERM_SIZE;
-    let mut maps = 0;
-    for i in 0..count {
-        if has_day(terms, i, day) {
-            maps += 1;
-        }
-    }
-    maps
+    (0..terms.len() / TERM_SIZE)
+        .filter(|&i| has_day(terms, i, day))
+        .count()
 }
 
 // Puts the map of term i behind the maps that stand in the output, if the term has the day, and gives how many there are then.
@@ -69,9 +64,7 @@ fn spread_maps(output: &mut [u64], maps: usize)
     requires { numbers_per_entry * maps ≤ length output.old }
     ensures { output.new ≡ overwrite (blank (take maps output.old)) output.old }
 {
-    let mut k = maps;
-    while 0 < k {
-        k -= 1;
+    for k in (0..maps).rev() {
         let map = output[k];
         put_entry(&mut *output, k, map);
     }

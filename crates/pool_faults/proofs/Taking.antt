@@ -11,8 +11,8 @@ use lib.Dec.{eqb, ltb}
 use borrow.Author.Tests.{eqb-true, ltb-true, ltb-false}
 use Rattle.catalogue.specs.Terms.{term_at, days_of, overlap}
 use Rattle.pool_faults.specs.Apart.{Apart, ApartTo, ApartBetween, Between, position_in, Positions, AllApart, Fits, Keys, Keyed}
-use Rattle.pool_faults.specs.declared.apart.Taken.{Taken}
-use Rattle.pool_faults.specs.declared.apart.Taken.TheVariants as taken
+use Rattle.pool_faults.specs.declared.apart.NoRoom.{NoRoom}
+use Rattle.std.specs.Prelude.{Result, Ok, Err}
 
 module _ (l : List ℕ) (low high : ℕ) where
   pub keys-start : (keys : List ℕ) → Keys l 0 low high keys 0
@@ -84,18 +84,18 @@ module _ (l : List ℕ) (low high : ℕ) where
 
 -- ---- what was taken, known by its case
 
-module _ (until room : ℕ) {t : Taken} (F : Fits until room t) where
-  pub maps-fit : {n : ℕ} → t ≡ taken.All n → n ≤ room
+module _ (until room : ℕ) {t : Result ℕ NoRoom} (F : Fits until room t) where
+  pub maps-fit : {n : ℕ} → t ≡ Ok n → n ≤ room
   maps-fit e = subst (Fits until room) e F
 
-  pub maps-stop : {stop : ℕ} → t ≡ taken.TooMany stop → stop < until
+  pub maps-stop : {stop : NoRoom} → t ≡ Err stop → stop.at < until
   maps-stop e = subst (Fits until room) e F
 
-module _ (l : List ℕ) (until low high : ℕ) (keys : List ℕ) {t : Taken} (K : Keyed l until low high keys t) where
-  pub keys-known : {n : ℕ} → t ≡ taken.All n → Keys l until low high keys n
+module _ (l : List ℕ) (until low high : ℕ) (keys : List ℕ) {t : Result ℕ NoRoom} (K : Keyed l until low high keys t) where
+  pub keys-known : {n : ℕ} → t ≡ Ok n → Keys l until low high keys n
   keys-known e = subst (Keyed l until low high keys) e K
 
-  pub keys-stop : {stop : ℕ} → t ≡ taken.TooMany stop → stop < until
+  pub keys-stop : {stop : NoRoom} → t ≡ Err stop → stop.at < until
   keys-stop e = subst (Keyed l until low high keys) e K
 
 -- a position below `until` says nothing

@@ -10,6 +10,8 @@ use lib.ListN.{length, get_or, set, length-set}
 use lib.Seq.{get_or-set_same, get_or-set_other}
 use lib.Dec.{eqb, ltb}
 use borrow.Author.Tests.{eqb-true, eqb-false, ltb-true, ltb-false, le-ltb, lt-leb, leb-false}
+use Rattle.std.specs.Bool.{⊤}
+use Rattle.std.specs.Option.{MatchOption, unwrap_or}
 use Rattle.definitions.specs.Scan.{only_if}
 use Rattle.definitions.specs.Refusals.{Refusal, first_below_lem}
 use Rattle.laws.specs.ListLaws.Below.{below_none}
@@ -45,14 +47,14 @@ module _ (terms : List ℕ) (i : ℕ) (ends : List ℕ) (L : Latest terms i ends
   pub latest-kept : end_in (days_of (term_at terms i)) ≤ get_or ends ((term_at terms i).on_map % 4096) 0 → Latest terms (i + 1) ends
   latest-kept h = latest_more ends L.slots h (λ k. omega arith)
 
-  pub latest-set : (v : ℕ) → v ≡ end_in (days_of (term_at terms i)) → get_or ends ((term_at terms i).on_map % 4096) 0 < v → Latest terms (i + 1) (set ends ((term_at terms i).on_map % 4096) v)
+  pub latest-set : (v : ℕ) → end_in (days_of (term_at terms i)) ≤ v → get_or ends ((term_at terms i).on_map % 4096) 0 ≤ v → Latest terms (i + 1) (set ends ((term_at terms i).on_map % 4096) v)
   latest-set v e h =
       let s = (term_at terms i).on_map % 4096 in
       let inside : s < length ends = omega (arith, L.slots) in
-      latest_more (set ends s v) (length-set ends s v ∙ L.slots) (rw (get_or-set_same ends s v 0 inside) (omega arith)) (λ k. go k s inside h (eqb k s) refl)
+      latest_more (set ends s v) (length-set ends s v ∙ L.slots) (rw (get_or-set_same ends s v 0 inside) e) (λ k. go k s inside h (eqb k s) refl)
     where
-      go : (k s : ℕ) → s < length ends → get_or ends s 0 < v → (t : Bool) → eqb k s ≡ t → get_or ends k 0 ≤ get_or (set ends s v) k 0
-      go k s inside h true t = rw (eqb-true k s t, get_or-set_same ends s v 0 inside) (omega arith)
+      go : (k s : ℕ) → s < length ends → get_or ends s 0 ≤ v → (t : Bool) → eqb k s ≡ t → get_or ends k 0 ≤ get_or (set ends s v) k 0
+      go k s inside h true t = rw (eqb-true k s t, get_or-set_same ends s v 0 inside) h
       go k s inside h false t = rw (get_or-set_other ends s k v 0 (eqb-false k s t)) (omega arith)
 
 -- the same by a slot that is known to be the map's
@@ -60,11 +62,11 @@ module _ (terms : List ℕ) (i : ℕ) (ends : List ℕ) (L : Latest terms i ends
   free-after : (d : Days) → get_or ends s 0 ≤ d.from → overlaps_earlier terms i d ≡ false
   free-after d h = none_earlier terms i ends L d (omega (arith, ap (λ n. get_or ends n 0) q))
 
-  pub end_kept : {v : ℕ} → v ≡ end_in (days_of (term_at terms i)) → v ≤ get_or ends s 0 → Latest terms (i + 1) ends
-  end_kept e h = latest-kept terms i ends L (omega (arith, ap (λ n. get_or ends n 0) q))
+  pub end-none : days_of (term_at terms i) ≡ None → Latest terms (i + 1) ends
+  end-none e = latest-kept terms i ends L (omega (arith, ap end_in e))
 
-  pub end-stored : {v : ℕ} → v ≡ end_in (days_of (term_at terms i)) → get_or ends s 0 < v → Latest terms (i + 1) (set ends s v)
-  end-stored {v} e h = subst (λ n. Latest terms (i + 1) (set ends n v)) (sym q) (latest-set terms i ends L v e (omega (arith, ap (λ n. get_or ends n 0) q)))
+  pub end-stored : (v : ℕ) → end_in (days_of (term_at terms i)) ≤ v → get_or ends s 0 ≤ v → Latest terms (i + 1) (set ends s v)
+  end-stored v e h = subst (λ n. Latest terms (i + 1) (set ends n v)) (sym q) (latest-set terms i ends L v e (omega (arith, h, ap (λ n. get_or ends n 0) q)))
 
   -- a term that is not empty, and starts no earlier, breaks no rule
   pub free_of_fault : (d : Days) → d.from < d.to → get_or ends s 0 ≤ d.from → term_fault terms i (Some d) ≡ None
@@ -75,12 +77,25 @@ latest-starts terms ends n = record { slots = n; latest = λ j b. absurd (omega 
 
 -- ---- sound terms
 
-pub sound_more : (l : List ℕ) (i : ℕ) → Sound l i → first_in (days_of (term_at l i)) < end_in (days_of (term_at l i)) → Sound l (i + 1)
-sound_more l i S h k b = go (ltb k i) refl
+-- up to the first that is not, from known on
+pub sound_found : (l : List ℕ) (known count : ℕ) (r : Option ℕ) {n : ℕ} → n ≡ unwrap_or r count → known ≤ count → Sound l known
+    → MatchOption r ((k : ℕ) → known ≤ k → k < count → first_in (days_of (term_at l k)) < end_in (days_of (term_at l k)))
+    (λ i. (known ≤ i) × (i < count) × ⊤ × ((k : ℕ) → known ≤ k → k < i → first_in (days_of (term_at l k)) < end_in (days_of (term_at l k))))
+    → (known ≤ n) × (n ≤ count) × Sound l n
+sound_found l known count r e h S m = rw e (go r m)
   where
-    go : (t : Bool) → ltb k i ≡ t → first_in (days_of (term_at l k)) < end_in (days_of (term_at l k))
-    go true e = S k (ltb-true k i e)
-    go false e = let same : k ≡ i = omega (arith, ltb-false k i e) in rw same h
+    join : (n : ℕ) → ((k : ℕ) → known ≤ k → k < n → first_in (days_of (term_at l k)) < end_in (days_of (term_at l k))) → Sound l n
+    join n more k b = side (ltb k known) refl
+      where
+        side : (t : Bool) → ltb k known ≡ t → first_in (days_of (term_at l k)) < end_in (days_of (term_at l k))
+        side true e = S k (ltb-true k known e)
+        side false e = more k (ltb-false k known e) b
+
+    go : (r : Option ℕ) → MatchOption r ((k : ℕ) → known ≤ k → k < count → first_in (days_of (term_at l k)) < end_in (days_of (term_at l k)))
+        (λ i. (known ≤ i) × (i < count) × ⊤ × ((k : ℕ) → known ≤ k → k < i → first_in (days_of (term_at l k)) < end_in (days_of (term_at l k))))
+        → (known ≤ unwrap_or r count) × (unwrap_or r count ≤ count) × Sound l (unwrap_or r count)
+    go None m = (h, omega arith, join count m)
+    go (Some i) m = (m.0, omega (arith, m.1), join i m.3)
 
 -- a term that breaks no rule has good dates and is not empty
 pub faultless_sound : (l : List ℕ) (n : ℕ) → Faultless l n → Sound l n

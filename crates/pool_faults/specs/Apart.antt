@@ -1,12 +1,11 @@
 -- Terms of one map that are apart, that is have no day in common, and the keys by which terms are sorted so that neighbours tell it. Definitions only; assumes
 -- nothing.
 use Rattle.std.specs.Prelude.{ℕ, suc, ◌%◌, ◌≤◌, ◌<◌, ◌≡◌, false, List, length, get_or}
-use Rattle.std.specs.Prelude.{None, Some}
+use Rattle.std.specs.Prelude.{None, Some, Result, Ok, Err}
 use Rattle.definitions.specs.Refusals.{first_below_lem}
 use Rattle.catalogue.specs.Terms.{Days, term_at, days_of, term_fault}
 use Rattle.pool_terms.specs.Contract.{sharing, first_in, end_in}
-use Rattle.pool_faults.specs.declared.apart.Taken.{Taken}
-use Rattle.pool_faults.specs.declared.apart.Taken.TheVariants as taken
+use Rattle.pool_faults.specs.declared.apart.NoRoom.{NoRoom}
 
 -- term j is of another map than term i, or has no day in common with it
 abbrev pub Apart : List ℕ → ℕ → ℕ → Type 0
@@ -59,9 +58,9 @@ AllApart l keys = (p q : ℕ) → p < length keys → q < length keys → (posit
 -- ---- terms taken
 
 -- as many as there was room for, or a place below `until`
-abbrev pub Fits : ℕ → ℕ → Taken → Type 0
-Fits until room (taken.All n) = n ≤ room
-Fits until room (taken.TooMany stop) = stop < until
+abbrev pub Fits : ℕ → ℕ → Result ℕ NoRoom → Type 0
+Fits until room (Ok n) = n ≤ room
+Fits until room (Err no_room) = no_room.at < until
 
 -- the first n keys are of terms below `until`, and of all of them whose maps are from low to high
 pub record Keys (l : List ℕ) (until low high : ℕ) (keys : List ℕ) (n : ℕ) : Type 0 where
@@ -69,6 +68,6 @@ pub record Keys (l : List ℕ) (until low high : ℕ) (keys : List ℕ) (n : ℕ
   pub placed : (k : ℕ) → k < n → position_in (get_or keys k 0) < until
   pub found : (i : ℕ) → i < until → Between low high (term_at l i).on_map → (k : ℕ) × (k < n) × (position_in (get_or keys k 0) ≡ i)
 
-abbrev pub Keyed : List ℕ → ℕ → ℕ → ℕ → List ℕ → Taken → Type 0
-Keyed l until low high keys (taken.All n) = Keys l until low high keys n
-Keyed l until low high keys (taken.TooMany stop) = stop < until
+abbrev pub Keyed : List ℕ → ℕ → ℕ → ℕ → List ℕ → Result ℕ NoRoom → Type 0
+Keyed l until low high keys (Ok n) = Keys l until low high keys n
+Keyed l until low high keys (Err no_room) = no_room.at < until

@@ -5,8 +5,7 @@ ghost use Rattle.catalogue.specs.Terms.{numbers_per_term};
 ghost use Rattle.pool_faults.specs.Apart.{Precedes, position_in, Positions, Following, AllApart, Fits, Keys, Keyed, Between, ApartBetween, ApartTo};
 
 use number_sort::sort_numbers;
-use plain_numbers::{least, most};
-use pool_terms::terms::{end_in, first_in};
+use pool_terms::terms::term_days;
 
 const TERM_SIZE: usize = 7;
 
@@ -23,11 +22,10 @@ const FEW_TERMS: usize = 1024;
 
 const MANY_TERMS: usize = 40_960;
 
-// How many terms were taken, or where the first one stands for which there was no room.
+// There was no room for the term at this position.
 #[derive(Clone, Copy)]
-pub enum Taken {
-    All(usize),
-    TooMany(usize),
+pub struct NoRoom {
+    pub at: usize,
 }
 
 // Whether term i is of a lower map than term j, or of the same and over when j begins.
@@ -41,11 +39,10 @@ fn precedes(terms: &[u64], i: usize, j: usize) -> bool
     if terms[TERM_SIZE * j] < terms[TERM_SIZE * i] {
         return false;
     }
-    let end = end_in(terms, i);
-    if end <= first_in(terms, i) {
-        return false;
+    match (term_days(terms, i), term_days(terms, j)) {
+        (Some(first), Some(second)) => first.from < first.to && first.to <= second.from,
+        _ => false,
     }
-    end <= first_in(terms, j)
 }
 
 fn position_in(key: u64) -> usize
@@ -62,7 +59,7 @@ fn least_astray_of(terms: &[u64], found: usize, i: usize, j: usize) -> usize
     if precedes(terms, i, j) {
         return found;
     }
-    least(found, most(i, j))
+    found.min(i.max(j))
 }
 
 // The least later position of two neighbours of which the first does not precede the second; `until` where there are none.
@@ -91,13 +88,7 @@ fn least_doubtful(terms: &[u64], keys: &mut [u64], until: usize) -> usize
 fn is_between(map: u64, low: u64, high: u64) -> bool
     ensures { result ≡ false → Between low high map → ⊥ }
 {
-    if map < low {
-        return false;
-    }
-    if high == LAST_MAP {
-        return true;
-    }
-    map <= high
+    low <= map && map <= high
 }
 
 // Takes the map of term i, if it is from `low` to `high`, and gives how many are taken then.
@@ -114,36 +105,32 @@ fn take_map(terms: &[u64], i: usize, low: u64, high: u64, maps: &mut [u64], take
 }
 
 // Takes the maps from `low` to `high` of the first terms.
-fn take_maps(terms: &[u64], until: usize, low: u64, high: u64, maps: &mut [u64]) -> Taken
+fn take_maps(
+    terms: &[u64],
+    until: usize,
+    low: u64,
+    high: u64,
+    maps: &mut [u64],
+) -> Result<usize, NoRoom>
     requires { numbers_per_term * until ≤ length terms.now }
     ensures { Fits until (length maps.old) result }
 {
     let mut taken = 0;
     for i in 0..until {
         if taken == maps.len() {
-            return Taken::TooMany(i);
+            return Err(NoRoom { at: i });
         }
         taken = take_map(terms, i, low, high, &mut *maps, taken);
     }
-    Taken::All(taken)
+    Ok(taken)
 }
 
-// The place of a map among the first `count`, which are sorted. The places that are left are halved.
+// The place of a map among the first `count`, which are sorted.
 fn place_of(maps: &[u64], count: usize, map: u64) -> u64
     requires { count ≤ length maps.now }
     ensures { result ≤ count }
 {
-    let mut low = 0;
-    let mut high = count;
-    while low < high {
-        let middle = low + (high - low) / 2;
-        if maps[middle] < map {
-            low = middle + 1;
-        } else {
-            high = middle;
-        }
-    }
-    low as u64
+    maps[..count].partition_point(|&m| m < map) as u64
 }
 
 fn key_of(terms: &[u64], i: usize, maps: &[u64], count: usize) -> u64
@@ -152,7 +139,8 @@ fn key_of(terms: &[u64], i: usize, maps: &[u64], count: usize) -> u64
     ensures { position_in result ≡ i }
 {
     let place = place_of(maps, count, terms[TERM_SIZE * i]);
-    (place * DAY_NUMBERS + first_in(terms, i) % DAY_NUMBERS) * POSITIONS + i as u64
+    let first = term_days(terms, i).map_or(0, |days| days.from);
+    (place * DAY_NUMBERS + first % DAY_NUMBERS) * POSITIONS + i as u64
 }
 
 // Takes the key of term i, if its map is from `low` to `high`, and gives how many are taken then.
@@ -187,7 +175,7 @@ fn take_keys(
     maps: &[u64],
     count: usize,
     keys: &mut [u64],
-) -> Taken
+) -> Result<usize, NoRoom>
     requires room { (numbers_per_term * until ≤ length terms.now) × (count ≤ length maps.now) }
     requires sizes { (until ≤ 4294967296) × (length maps.now < 65536) }
     ensures { Keyed terms.now until low high keys.new result }
@@ -195,11 +183,11 @@ fn take_keys(
     let mut taken = 0;
     for i in 0..until {
         if taken == keys.len() {
-            return Taken::TooMany(i);
+            return Err(NoRoom { at: i });
         }
         taken = take_key(terms, i, low, high, maps, count, &mut *keys, taken);
     }
-    Taken::All(taken)
+    Ok(taken)
 }
 
 // A position up to which nothing is known of the terms of maps from `low` to `high`; `until` where no two of one map overlap.
@@ -218,8 +206,8 @@ fn doubt_between(
 {
     sort_numbers(&mut maps[..count]);
     match take_keys(terms, until, low, high, maps, count, &mut *keys) {
-        Taken::TooMany(stop) => stop,
-        Taken::All(taken) => least_doubtful(terms, &mut keys[..taken], until),
+        Err(no_room) => no_room.at,
+        Ok(taken) => least_doubtful(terms, &mut keys[..taken], until),
     }
 }
 
@@ -242,17 +230,18 @@ fn doubt_of_all(terms: &[u64], until: usize, maps: &mut [u64], keys: &mut [u64])
     let mut doubt = until;
     let mut low = 0;
     let mut high = LAST_MAP;
+    // Kept: where a part starts and ends depends on what the last one had room for, so that no range gives the parts.
     while low <= high {
         match take_maps(terms, until, low, high, &mut *maps) {
-            Taken::TooMany(stop) => {
+            Err(no_room) => {
                 if low == high {
-                    return stop;
+                    return no_room.at;
                 }
                 high = low + (high - low) / 2;
             }
-            Taken::All(count) => {
+            Ok(count) => {
                 let found = doubt_between(terms, until, low, high, count, &mut *maps, &mut *keys);
-                doubt = least(doubt, found);
+                doubt = doubt.min(found);
                 if high == LAST_MAP {
                     return doubt;
                 }
@@ -285,6 +274,7 @@ fn apart_terms_by(terms: &[u64], sound: usize, maps: &mut [u64], keys: &mut [u64
     let mut apart = 0;
     let mut high = sound;
     let mut whole = true;
+    // Kept: how many terms are asked about next depends on what was found of the last.
     while apart < high {
         let part = next_part(apart, high, whole);
         let doubt = doubt_of_all(terms, part, &mut *maps, &mut *keys);
@@ -298,21 +288,13 @@ fn apart_terms_by(terms: &[u64], sound: usize, maps: &mut [u64], keys: &mut [u64
     apart
 }
 
-fn apart_of_few(terms: &[u64], sound: usize) -> usize
-    requires { (numbers_per_term * sound ≤ length terms.now) × (sound ≤ 4294967296) }
+fn apart_terms_with<const TERMS: usize>(terms: &[u64], sound: usize) -> usize
+    requires sizes { (numbers_per_term * sound ≤ length terms.now) × (sound ≤ 4294967296) }
+    requires maps_room { TERMS < 65536 }
     ensures { (result ≤ sound) × ApartTo terms.now result }
 {
-    let mut maps = [0u64; FEW_TERMS];
-    let mut keys = [0u64; FEW_TERMS];
-    apart_terms_by(terms, sound, &mut maps, &mut keys)
-}
-
-fn apart_of_many(terms: &[u64], sound: usize) -> usize
-    requires { (numbers_per_term * sound ≤ length terms.now) × (sound ≤ 4294967296) }
-    ensures { (result ≤ sound) × ApartTo terms.now result }
-{
-    let mut maps = [0u64; MANY_TERMS];
-    let mut keys = [0u64; MANY_TERMS];
+    let mut maps = [0u64; TERMS];
+    let mut keys = [0u64; TERMS];
     apart_terms_by(terms, sound, &mut maps, &mut keys)
 }
 
@@ -322,7 +304,7 @@ pub fn apart_terms(terms: &[u64], sound: usize) -> usize
     ensures { (result ≤ sound) × ApartTo terms.now result }
 {
     if sound <= FEW_TERMS {
-        return apart_of_few(terms, sound);
+        return apart_terms_with::<FEW_TERMS>(terms, sound);
     }
-    apart_of_many(terms, least(sound, POSITIONS as usize))
+    apart_terms_with::<MANY_TERMS>(terms, sound.min(POSITIONS as usize))
 }

@@ -1,13 +1,15 @@
 // The first term that breaks a rule, 18 or 19.
-ghost use Rattle.std.specs.Prelude.{◌≡◌, true, ◌+◌, ◌*◌, ◌%◌, ◌≤◌, ◌<◌, length};
+ghost use Rattle.std.specs.Prelude.{◌≡◌, true, ◌+◌, ◌*◌, ◌%◌, ◌≤◌, ◌<◌, length, ltb};
 ghost use Rattle.std.specs.Prelude.{None};
 ghost use Rattle.catalogue.specs.Terms.{numbers_per_term, term_at, days_of, term_fault, terms_refusal};
-ghost use Rattle.pool_terms.specs.Contract.{refusal_in};
+ghost use Rattle.refusals.specs.Refusals.{refusal_in};
+ghost use Rattle.pool_terms.specs.Contract.{first_in, end_in};
 ghost use Rattle.pool_faults.specs.Ends.{Latest};
 ghost use Rattle.pool_faults.specs.Apart.{Sound, Faultless};
 
 use crate::apart::apart_terms;
-use pool_terms::terms::{Days, Fault, end_in, first_in, term_days, term_fault};
+use pool_terms::terms::{term_days, term_fault};
+use refusals::Refusal;
 
 const TERM_SIZE: usize = 7;
 
@@ -26,10 +28,9 @@ fn keep_end(terms: &[u64], i: usize, ends: &mut [u64; SLOTS])
     requires latest { Latest terms.now i ends.old }
     ensures { Latest terms.now (i + 1) ends.new }
 {
-    let slot = slot_of(terms[TERM_SIZE * i]);
-    let end = end_in(terms, i);
-    if ends[slot] < end {
-        ends[slot] = end;
+    if let Some(days) = term_days(terms, i) {
+        let slot = slot_of(terms[TERM_SIZE * i]);
+        ends[slot] = ends[slot].max(days.to);
     }
 }
 
@@ -41,13 +42,8 @@ fn passes(terms: &[u64], i: usize, ends: &[u64; SLOTS]) -> bool
     ensures { result ≡ true → term_fault terms.now i (days_of (term_at terms.now i)) ≡ None }
 {
     match term_days(terms, i) {
-        Days::Bad => false,
-        Days::FromTo(from, to) => {
-            if to <= from {
-                return false;
-            }
-            ends[slot_of(terms[TERM_SIZE * i])] <= from
-        }
+        None => false,
+        Some(days) => { days.from < days.to && ends[slot_of(terms[TERM_SIZE * i])] <= days.from }
     }
 }
 
@@ -57,15 +53,24 @@ fn passing_terms(terms: &[u64], count: usize) -> usize
     ensures { (result ≤ count) × Faultless terms.now result }
 {
     let mut ends = [0u64; SLOTS];
-    let mut i = 0;
-    while i < count {
+    for i in 0..count {
         if !passes(terms, i, &ends) {
             return i;
         }
         keep_end(terms, i, &mut ends);
-        i += 1;
     }
-    i
+    count
+}
+
+// Whether the dates of term i are good, and its end is later than its first day.
+fn is_sound(terms: &[u64], i: usize) -> bool
+    requires { numbers_per_term * (i + 1) ≤ length terms.now }
+    ensures { result ≡ ltb (first_in (days_of (term_at terms.now i))) (end_in (days_of (term_at terms.now i))) }
+{
+    match term_days(terms, i) {
+        None => false,
+        Some(days) => days.from < days.to,
+    }
 }
 
 // How many of the first terms are sound, where those below `known` are known to be.
@@ -74,14 +79,9 @@ fn sound_terms(terms: &[u64], known: usize, count: usize) -> usize
     requires sound { Sound terms.now known }
     ensures { (known ≤ result) × (result ≤ count) × Sound terms.now result }
 {
-    let mut i = known;
-    while i < count {
-        if end_in(terms, i) <= first_in(terms, i) {
-            return i;
-        }
-        i += 1;
-    }
-    i
+    (known..count)
+        .find(|&i| !is_sound(terms, i))
+        .unwrap_or(count)
 }
 
 // How many of the first terms are known to break no rule: all, or up to the first that does. Terms that do not come in the order of their days are sorted.
@@ -97,17 +97,13 @@ fn faultless_terms(terms: &[u64], count: usize) -> usize
     apart_terms(terms, sound)
 }
 
-pub fn terms_fault(terms: &[u64]) -> Fault
+// Refuses the first term that breaks a rule.
+pub fn terms_fault(terms: &[u64]) -> Result<(), Refusal>
     ensures { refusal_in result ≡ terms_refusal terms.now }
 {
     let count = terms.len() / TERM_SIZE;
     for i in faultless_terms(terms, count)..count {
-        let fault = term_fault(terms, i);
-        match fault {
-            Fault::Nothing => {}
-            Fault::BadDate(_) => return fault,
-            Fault::EmptyOrOverlapping(_) => return fault,
-        }
+        term_fault(terms, i)?;
     }
-    Fault::Nothing
+    Ok(())
 }

@@ -1,7 +1,7 @@
 // The number of a Gregorian date from 1 January 2000 to 31 December 2099.
 ghost use Rattle.std.specs.Prelude.{◌≡◌, true, ◌≤◌};
 ghost use Rattle.catalogue.specs.Dates.{is_leap, month_days, is_day, days_before_month, day_number, day_of, is_last_end, end_of};
-ghost use Rattle.pool_terms.specs.Contract.{date, day_in};
+ghost use Rattle.pool_terms.specs.Contract.{date};
 
 const FIRST_YEAR: u64 = 2000;
 
@@ -15,23 +15,10 @@ const MONTH_DAYS: [u64; 12] = [31, 28, 31, 30, 31, 30, 31, 31, 30, 31, 30, 31];
 // The days of the months before January to December, without a leap day.
 const DAYS_BEFORE_MONTH: [u64; 12] = [0, 31, 59, 90, 120, 151, 181, 212, 243, 273, 304, 334];
 
-// The number of a date, or that it is a bad one.
-#[derive(Clone, Copy)]
-pub enum Day {
-    Number(u64),
-    Bad,
-}
-
 fn is_leap(year: u64) -> bool
     ensures { result ≡ is_leap year }
 {
-    if year % 4 != 0 {
-        return false;
-    }
-    if year % 100 != 0 {
-        return true;
-    }
-    year % 400 == 0
+    year % 4 == 0 && (year % 100 != 0 || year % 400 == 0)
 }
 
 fn month_days(year: u64, month: u64) -> u64
@@ -75,54 +62,34 @@ fn day_number(year: u64, month: u64, day: u64) -> u64
 fn is_day(year: u64, month: u64, day: u64) -> bool
     ensures { result ≡ is_day (date year month day) }
 {
-    if year < FIRST_YEAR {
-        return false;
-    }
-    if LAST_YEAR < year {
-        return false;
-    }
-    if month < 1 {
-        return false;
-    }
-    if 12 < month {
-        return false;
-    }
-    if day < 1 {
-        return false;
-    }
-    day <= month_days(year, month)
+    let in_range = (FIRST_YEAR <= year)
+        & (year <= LAST_YEAR)
+        & (1 <= month)
+        & (month <= 12)
+        & (1 <= day);
+    in_range && day <= month_days(year, month)
 }
 
-// A day of a term, or the day asked for.
-pub fn day_of(year: u64, month: u64, day: u64) -> Day
-    ensures { day_in result ≡ day_of (date year month day) }
+// A day of a term, or the day asked for; none where the date is bad.
+pub fn day_of(year: u64, month: u64, day: u64) -> Option<u64>
+    ensures { result ≡ day_of (date year month day) }
 {
-    if is_day(year, month, day) {
-        Day::Number(day_number(year, month, day))
-    } else {
-        Day::Bad
-    }
+    is_day(year, month, day).then(|| day_number(year, month, day))
 }
 
 // 1 January 2100.
 fn is_last_end(year: u64, month: u64, day: u64) -> bool
     ensures { result ≡ is_last_end (date year month day) }
 {
-    if year != LAST_YEAR + 1 {
-        return false;
-    }
-    if month != 1 {
-        return false;
-    }
-    day == 1
+    year == LAST_YEAR + 1 && month == 1 && day == 1
 }
 
-// The end of a term.
-pub fn end_of(year: u64, month: u64, day: u64) -> Day
-    ensures { day_in result ≡ end_of (date year month day) }
+// The end of a term; none where the date is bad.
+pub fn end_of(year: u64, month: u64, day: u64) -> Option<u64>
+    ensures { result ≡ end_of (date year month day) }
 {
     if is_last_end(year, month, day) {
-        Day::Number(CENTURY_DAYS)
+        Some(CENTURY_DAYS)
     } else {
         day_of(year, month, day)
     }

@@ -41,7 +41,6 @@ use Rattle.laws.specs.RustContext.RampFlag as flags
 use Rattle.laws.specs.RustJunctions.Unions.{proposed}
 use Rattle.laws.specs.RustJunctions.UnionRegions.{union_passes}
 use Rattle.laws.specs.RustJunctions.UnionRegions as unions
-use Rattle.hypotenuse.specs.declared.Answer as root
 use Rattle.hypotenuse.specs.Contract.{number_of, value_of, Allowed}
 use Rattle.hypotenuse.specs.RootNearest as nearest
 use Rattle.grid_steps.specs.Walk.{direction_at}
@@ -118,8 +117,10 @@ use Rattle.results.specs.Shortest.{shortest}
 use Rattle.results.specs.ShortestReads.{number-shortest}
 use Rattle.results.proofs.Calls.{InMemory}
 use Rattle.results.proofs.Calls as written
-use Rattle.sheet.specs.Contract.{answer_number}
-use Rattle.sheet.specs.declared.Answer.{Answer as ReadAnswer}
+use Rattle.std.specs.Prelude.{Result}
+use Rattle.refusals.specs.declared.Refusal as refusals
+use Rattle.sheet.specs.Contract.{by_number, answer_number}
+use Rattle.sheet.specs.declared.Header.{Header}
 use Rattle.sheets_equal.specs.NumberBytes.{Bytes}
 use Rattle.sheets_equal.proofs.NumberBytes as numbers
 use Rattle.sheets_equal.proofs.SheetsEqual.{kind_of}
@@ -153,7 +154,7 @@ use Rattle.report.specs.ReportLaws.Means as means
 -- ---- 2. Exact: the hypotenuse, the order of widths, and the Rust's own steps
 
 -- "a hypotenuse is the exact root rounded to nearest, ties to even"
-pub hypotenuse_nearest : (x y : Float) (r : root.Answer) → in_range x ≡ true → in_range y ≡ true → Allowed x y r
+pub hypotenuse_nearest : (x y : Float) (r : Option Float) → in_range x ≡ true → in_range y ≡ true → Allowed x y r
     → (number_of r ≡ 0) × Nearest (sum_of_squares x y) (to_bits binary64 (value_of r))
 hypotenuse_nearest = nearest.root-nearest
 
@@ -243,10 +244,10 @@ sheets_equal cellLimit a b A B g h =
     (λ e. (ap kind_of e, (sheets.sheets_equal cellLimit a b A B (ap kind_of e) g h).0 e), λ p. (sheets.sheets_equal cellLimit a b A B p.0 g h).1 p.1)
 
 -- the same over two calls of the reader that answered 0, of what their callers then have
-pub sheet_calls_equal : (a : List ℕ) {cells spans boundaries anchors : List ℕ} {answer : ReadAnswer} {cells' spans' boundaries' anchors' : List ℕ}
-    (b : List ℕ) {cells₂ spans₂ boundaries₂ anchors₂ : List ℕ} {answer₂ : ReadAnswer} {cells₂' spans₂' boundaries₂' anchors₂' : List ℕ}
-    → ReadCall a cells spans boundaries anchors answer cells' spans' boundaries' anchors' → answer_number answer ≡ 0
-    → ReadCall b cells₂ spans₂ boundaries₂ anchors₂ answer₂ cells₂' spans₂' boundaries₂' anchors₂' → answer_number answer₂ ≡ 0
+pub sheet_calls_equal : (a : List ℕ) {cells spans boundaries anchors : List ℕ} {answer : Result Header refusals.Refusal} {cells' spans' boundaries' anchors' : List ℕ}
+    (b : List ℕ) {cells₂ spans₂ boundaries₂ anchors₂ : List ℕ} {answer₂ : Result Header refusals.Refusal} {cells₂' spans₂' boundaries₂' anchors₂' : List ℕ}
+    → ReadCall a cells spans boundaries anchors answer cells' spans' boundaries' anchors' → answer_number (by_number answer) ≡ 0
+    → ReadCall b cells₂ spans₂ boundaries₂ anchors₂ answer₂ cells₂' spans₂' boundaries₂' anchors₂' → answer_number (by_number answer₂) ≡ 0
     → Bytes a → Bytes b → kind_of a ≡ kind_of b
     → (a ≡ b) ↔ (held answer cells' spans' boundaries' anchors' ≡ held answer₂ cells₂' spans₂' boundaries₂' anchors₂')
 sheet_calls_equal = sheet-calls.calls_equal

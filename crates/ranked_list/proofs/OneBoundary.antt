@@ -1,10 +1,9 @@
 -- Two ranked proposals of one boundary conflict, so that no two taken ones remove one boundary (document 02, request 11). Assumes nothing.
-use Rattle.std.specs.Prelude.{ℕ, suc, ◌<◌, ◌≡◌, Bool, ◌&&◌, ◌||◌, cond, length}
+use Rattle.std.specs.Prelude.{ℕ, suc, ◌<◌, ◌≡◌, Bool, ◌&&◌, ◌||◌, cond, length, Option, None, Some}
 use Rattle.std.proofs.Common.{arith, sym, ap₂, ◌∙◌, eq-eqb}
 use Rattle.std.proofs.Math.Path.{refl, ap, subst}
 use Rattle.std.proofs.Math.Bool.{true, false, not, or-true}
 use Rattle.std.proofs.lemmas.Bool.{false≢true}
-use Rattle.std.specs.Prelude.{Option, None, Some}
 use mathlib.Core.List.{List, []}
 use Rattle.std.proofs.Math.Dec.{eqb}
 use Rattle.definitions.specs.Scan.{any_below_lem, all, only_if, to_list}

@@ -1,7 +1,6 @@
 -- The answer of the call that gives the ranked junction list, and every list at exit, for every input (docs/SPECIFICATION.md, 'The ranked junction list'). The call is
 -- lent what a call of pass 3 is lent, and the list. Assumes nothing.
-use Rattle.std.specs.Prelude.{ℕ, zero, suc, ◌/◌, ◌≡◌, cond, List, length, eqb, leb}
-use Rattle.std.specs.Prelude.{Option, None, Some}
+use Rattle.std.specs.Prelude.{ℕ, zero, suc, ◌/◌, ◌≡◌, cond, List, length, eqb, leb, Option, None, Some}
 use Rattle.definitions.specs.Grid.{Map}
 use Rattle.definitions.specs.RegionRecord.{Region}
 use Rattle.definitions.specs.Refusals.{Refusal, unless}

@@ -3,7 +3,9 @@
 #![tactic(auto)]
 
 ghost use Rattle.std.specs.Prelude.{◌≡◌};
-ghost use Rattle.refusals.specs.Refusals.{number_of};
+ghost use Rattle.definitions.specs.Refusals.{unless};
+ghost use Rattle.definitions.specs.Verdict.{refusal};
+ghost use Rattle.refusals.specs.Refusals.{number_of, refusal_in};
 
 /// A cause of the table of refusals.
 #[derive(Clone, Copy, Debug, PartialEq, Eq)]
@@ -73,4 +75,25 @@ impl Cause {
 pub struct Refusal {
     pub cause: Cause,
     pub place: usize,
+}
+
+/// A check that names no place, as a step of a list of checks: with `?` behind each, the first that fails is the refusal.
+pub fn ensure(fits: bool, cause: Cause) -> Result<(), Refusal>
+    ensures { refusal_in result ≡ refusal (number_of cause) (unless fits) }
+{
+    if fits {
+        Ok(())
+    } else {
+        Err(Refusal { cause, place: 0 })
+    }
+}
+
+/// A check that looks for the first faulty entry, as such a step.
+pub fn no_fault(fault: Option<usize>, cause: Cause) -> Result<(), Refusal>
+    ensures { refusal_in result ≡ refusal (number_of cause) fault }
+{
+    match fault {
+        None => Ok(()),
+        Some(place) => Err(Refusal { cause, place }),
+    }
 }

@@ -1,8 +1,7 @@
 -- Request 13: the year's figures, run by run. Quotations are of document 02, request 13. A report may hold any 64-bit numbers, so that sums are modulo 2^64;
 -- of a report that runs were added to from the empty one no sum wraps (ReportLaws/Reached). Assumes nothing.
-use Rattle.std.specs.Prelude.{ℕ, zero, suc, ◌+◌, ◌-◌, ◌/◌, ◌%◌, ◌^◌, replicate, ltb}
+use Rattle.std.specs.Prelude.{ℕ, zero, suc, ◌+◌, ◌-◌, ◌/◌, ◌%◌, ◌^◌, replicate, ltb, Option, None, Some}
 use Rattle.std.proofs.Math.Bool.{cond}
-use Rattle.std.specs.Prelude.{Option, None, Some}
 use mathlib.Core.List.{List, [], ◌∷◌}
 use Rattle.report.specs.Runs.{Figures, Run, refused_run, accepted_run}
 

@@ -1,7 +1,6 @@
 -- Computed examples of request 13: what case J (SPECIFICATION 18) adds, runs added in two orders, a run beyond the last, means, lengths, and sums that wrap.
 -- Assumes nothing.
-use Rattle.std.specs.Prelude.{ℕ, ◌-◌, ◌^◌, ◌≡◌, refl, List, [], ◌∷◌, map, replicate}
-use Rattle.std.specs.Prelude.{Option, None, Some}
+use Rattle.std.specs.Prelude.{ℕ, ◌-◌, ◌^◌, ◌≡◌, refl, List, [], ◌∷◌, map, replicate, Option, None, Some}
 use Rattle.definitions.specs.Grid.{Segment, at}
 use Rattle.definitions.specs.SheetExamples.{Example, ◌gives◌, bytes_j}
 use Rattle.report.specs.Runs.{Figures, Run, refused_run, accepted_run, square_apart, squared_lengths, figures_from, sheet_run}

@@ -1,8 +1,8 @@
 -- A call that met the contract of the pass: what it answered and left in the output is the run that the report's definition adds for what it was lent. Assumes nothing.
-use Rattle.std.proofs.Common.{◌≡◌, ℕ, zero, suc, ◌+◌, ◌*◌, ◌/◌, ◌%◌, ◌<◌, ◌≤◌, Bool, true, false, cond, not, ◌&&◌, eqb, leb, List, [], ◌∷◌, ◌++◌, length, get_or, drop, sym, refl, ap, ◌∙◌, subst, arith, length-append, get_or-drop, leb-true}
+use Rattle.std.proofs.Common.{◌≡◌, ℕ, zero, suc, ◌+◌, ◌*◌, ◌/◌, ◌%◌, ◌<◌, ◌≤◌, Bool, true, false, not, ◌&&◌, eqb, leb, List, length, get_or, drop, sym, refl, ap, ◌∙◌, subst, arith, length-append, get_or-drop, leb-true}
 use Rattle.definitions.specs.Limits.{max_entries, numbers_per_span, numbers_per_boundary, numbers_per_anchor, numbers_per_row}
 use Rattle.definitions.specs.Lists.{overwrite}
-use Rattle.definitions.specs.Scan.{collect, to_list, only_if, member}
+use Rattle.definitions.specs.Scan.{to_list, only_if, member}
 use Rattle.definitions.specs.Sort.{list_lt}
 use Rattle.definitions.specs.Grid.{Map, at, canonical, boundary_of}
 use Rattle.definitions.specs.Context.{context_of}
@@ -20,9 +20,9 @@ use Rattle.laws.specs.ListLaws.FlatRows.{flat-length, row_at, rows_in_lem, rows_
 use Rattle.laws.specs.FloatLaws.Pixels.{PixelSegment, canonical-pixel}
 use Rattle.laws.specs.FloatLaws.MapPixels.{OnMap, map-pixel}
 use Rattle.laws.specs.TableLaws.AcceptedCalls.{accepted, accepted-count}
-use Rattle.laws.specs.TableLaws.KeptRows.{boundary_count_lem, rows_few, rows_have_room}
+use Rattle.laws.specs.TableLaws.KeptRows.{boundary_count_lem, rows_few}
 use Rattle.laws.specs.RustPasses.Accepted.{accepted-on_map}
-use Rattle.report.specs.Runs.{Run, refused_run, accepted_run, squared_lengths, figures_from, figures_of, accepted_of, run_by, run_of}
+use Rattle.report.specs.Runs.{accepted_run, squared_lengths, figures_from, figures_of, accepted_of, run_by, run_of}
 use Rattle.report.specs.ReportLaws.Named.{unnamed_below, removed-unnamed}
 use Rattle.report_figures.specs.Forms.{RowsOnMap}
 use Rattle.report_figures.specs.Calls.{call_run, CallLeft}

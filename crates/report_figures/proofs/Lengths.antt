@@ -1,16 +1,22 @@
 -- Squared lengths: of two pixels, and of one row more. Assumes nothing.
-use Rattle.std.proofs.Common.{◌≡◌, ℕ, suc, ◌+◌, ◌-◌, ◌*◌, ◌<◌, ◌≤◌, List, [], ◌∷◌, sym, refl, ap, ◌∙◌, ap₂, mul-le-mul, le_antisymm, arith, le-leb}
-use borrow.Author.Tests.{lt-leb}
+use Rattle.std.proofs.Common.{◌≡◌, ℕ, suc, ◌+◌, ◌-◌, ◌*◌, ◌≤◌, List, [], ◌∷◌, sym, refl, ap, ◌∙◌, ap₂, mul-le-mul, le_antisymm, arith}
+use Rattle.std.proofs.Common.{Bool, true, false, cond, leb}
+use borrow.Author.Tests.{leb-true, leb-false}
 use Rattle.laws.specs.FloatLaws.Pixels.{max_pixel}
 use Rattle.laws.specs.ListLaws.FlatRows.{row_at, rows_in_lem, rows_next}
 use Rattle.report.specs.Runs.{square_apart, squared_length, squared_lengths}
 use Rattle.report.specs.ReportLaws.OneRun.{squared-append}
 
-pub square-up : (a b : ℕ) → a ≤ b → (b - a) * (b - a) ≡ square_apart a b
-square-up a b h = rw (le-leb a b h) refl
-
-pub square-down : (a b : ℕ) → b < a → (a - b) * (a - b) ≡ square_apart a b
-square-down a b h = rw (lt-leb a b h) refl
+pub squared : (a b n : ℕ) → n ≡ (a - b) + (b - a) → n * n ≡ square_apart a b
+squared a b n e = go (leb a b) refl
+  where
+    go : (t : Bool) → leb a b ≡ t → n * n ≡ cond t ((b - a) * (b - a)) ((a - b) * (a - b))
+    go true q =
+        let up : n ≡ b - a = omega (arith, e, leb-true a b q) in
+        ap (λ m. m * m) up
+    go false q =
+        let down : n ≡ a - b = omega (arith, e, leb-false a b q) in
+        ap (λ m. m * m) down
 
 pub square-few : {n : ℕ} → n ≤ max_pixel → n * n ≤ max_pixel * max_pixel
 square-few h = mul-le-mul h h

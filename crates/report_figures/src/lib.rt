@@ -75,6 +75,7 @@ pub fn report_figures_empty_report() -> Report
 }
 
 // Quotient and remainder are 0 where there is no mean.
+// Kept: a flag beside the values, since C takes no Option.
 #[repr(C)]
 #[derive(Clone, Copy)]
 pub struct Mean {

@@ -24,13 +24,7 @@ fn is_named(output: &[u64], kept: usize, number: usize) -> bool
     requires { numbers_per_row * kept ≤ length output.now }
     ensures { result ≡ named (rows_in_lem kept output.now) number }
 {
-    let mut found = false;
-    for k in 0..kept {
-        if has_number(output, k, number) {
-            found = true;
-        }
-    }
-    found
+    (0..kept).any(|k| has_number(output, k, number))
 }
 
 // How many numbers below `count` none of the first rows has.
@@ -38,13 +32,7 @@ pub fn count_unnamed(output: &[u64], kept: usize, count: usize) -> u64
     requires { numbers_per_row * kept ≤ length output.now }
     ensures { result ≡ unnamed_below count (rows_in_lem kept output.now) }
 {
-    let mut unnamed = 0;
-    for i in 0..count {
-        if !is_named(output, kept, i) {
-            unnamed += 1;
-        }
-    }
-    unnamed
+    (0..count).filter(|&i| !is_named(output, kept, i)).count() as u64
 }
 
 // The distance of two pixels, squared.
@@ -53,7 +41,7 @@ fn square_apart(a: u64, b: u64) -> u64
     ensures answer { result ≡ square_apart a b }
     ensures bound { result ≤ max_pixel * max_pixel }
 {
-    let apart = if a <= b { b - a } else { a - b };
+    let apart = a.abs_diff(b);
     apart * apart
 }
 

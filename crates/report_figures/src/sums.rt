@@ -5,7 +5,6 @@ ghost use Rattle.report.specs.Report.{sum64, pass_count, count_at, with_figures,
 ghost use Rattle.report_figures.specs.Forms.{figures_form, report_form};
 
 use crate::{Figures, REFUSAL_NUMBERS, Report};
-use std::num::wrapping_add_u64;
 
 // One more at a place; a list without that place stays as it is.
 fn count_at(counts: [u64; REFUSAL_NUMBERS], number: u64) -> [u64; REFUSAL_NUMBERS]
@@ -13,7 +12,7 @@ fn count_at(counts: [u64; REFUSAL_NUMBERS], number: u64) -> [u64; REFUSAL_NUMBER
 {
     let mut counted = counts;
     if number < REFUSAL_NUMBERS as u64 {
-        counted[number as usize] = wrapping_add_u64(counts[number as usize], 1);
+        counted[number as usize] = counts[number as usize].wrapping_add(1);
     }
     counted
 }
@@ -27,7 +26,7 @@ pub fn with_refused(report: Report, number: u64) -> Report
     let pass_2 = report.pass_2;
     let pass_3 = report.pass_3;
     Report {
-        runs: wrapping_add_u64(report.runs, 1),
+        runs: report.runs.wrapping_add(1),
         refused,
         pass_1,
         pass_2,
@@ -40,10 +39,10 @@ fn with_figures(figures: Figures, run: Figures) -> Figures
     ensures { figures_form result ≡ with_figures sum64 (figures_form figures) (figures_form run) }
 {
     Figures {
-        accepted: wrapping_add_u64(figures.accepted, run.accepted),
-        boundaries: wrapping_add_u64(figures.boundaries, run.boundaries),
-        kept: wrapping_add_u64(figures.kept, run.kept),
-        removed: wrapping_add_u64(figures.removed, run.removed),
+        accepted: figures.accepted.wrapping_add(run.accepted),
+        boundaries: figures.boundaries.wrapping_add(run.boundaries),
+        kept: figures.kept.wrapping_add(run.kept),
+        removed: figures.removed.wrapping_add(run.removed),
     }
 }
 
@@ -63,11 +62,11 @@ pub fn with_accepted(report: Report, pass: u64, run: Figures, squared: u64) -> R
 {
     let refused = report.refused;
     Report {
-        runs: wrapping_add_u64(report.runs, 1),
+        runs: report.runs.wrapping_add(1),
         refused,
         pass_1: with_run_of(report.pass_1, run, pass == 1),
         pass_2: with_run_of(report.pass_2, run, pass == 2),
         pass_3: with_run_of(report.pass_3, run, pass == 3),
-        squared: wrapping_add_u64(report.squared, squared),
+        squared: report.squared.wrapping_add(squared),
     }
 }

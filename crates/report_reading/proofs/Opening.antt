@@ -9,10 +9,12 @@ use lib.Dec.{ltb}
 use borrow.Author.Tests.{ltb-true, ltb-false, lt-ltb, le-ltb}
 use Rattle.definitions.specs.Sheet.{Reading, well_formed, refused, keptlist_cell_limit}
 use Rattle.definitions.specs.Printed.{max_sheet_bytes}
+use Rattle.std.specs.Prelude.{Result, Ok, Err}
+use Rattle.refusals.specs.declared.Refusal.{Refusal}
+use Rattle.refusals.specs.declared.Cause.TheVariants as cause
+use Rattle.refusals.specs.Refusals.{number_of}
 use Rattle.sheet.specs.Contract.{answer_of, reading_within, Answered}
 use Rattle.sheet.specs.declared.Header.{Header}
-use Rattle.sheet.specs.declared.Answer.{Answer}
-use Rattle.sheet.specs.declared.Answer.TheVariants.{Read, Refused}
 use Rattle.report.specs.Runs.{refused_run}
 use Rattle.report.specs.Report as def
 use Rattle.report.specs.Report.{max_runs, sum64, added_by, add_run}
@@ -22,22 +24,22 @@ use Rattle.report_figures.specs.Forms.{report_form}
 use Rattle.report_reading.specs.declared.Opened.{Opened}
 use Rattle.report_reading.specs.Contract.{opened_as, refused_as_lem, opened_with, added_answer, added_reading, limited_reading, OpenedFor, ReadFor}
 
-module _ (report : Report) (answer : Answer) {r : Opened} where
-  pub when_read : {header : Header} → answer ≡ Read header → r ≡ opened_as report header → OpenedFor report answer r
+module _ (report : Report) (answer : Result Header Refusal) {r : Opened} where
+  pub when_read : {header : Header} → answer ≡ Ok header → r ≡ opened_as report header → OpenedFor report answer r
   when_read {header} e h =
       let same : report ≡ r.report = ap (λ x. x.report) (sym h) in
       subst (λ a. OpenedFor report a r) (sym e)
       (record { head = h ∙ ap (λ R. opened_as R header) same; added = ap report_form (sym same) })
 
-  pub when_refused : {number place : ℕ} {added : Report} → answer ≡ Refused number place → report_form added ≡ added_by sum64 (report_form report) (refused_run number)
-      → r ≡ refused_as_lem added number place → OpenedFor report answer r
-  when_refused {number} {place} {added} e k h =
+  pub when_refused : {refusal : Refusal} {added : Report} → answer ≡ Err refusal → report_form added ≡ added_by sum64 (report_form report) (refused_run (number_of refusal.cause))
+      → r ≡ refused_as_lem added (number_of refusal.cause) refusal.place → OpenedFor report answer r
+  when_refused {refusal} {added} e k h =
       let same : added ≡ r.report = ap (λ x. x.report) (sym h) in
       subst (λ a. OpenedFor report a r) (sym e)
-      (record { head = h ∙ ap (λ R. refused_as_lem R number place) same; added = ap report_form (sym same) ∙ k })
+      (record { head = h ∙ ap (λ R. refused_as_lem R (number_of refusal.cause) refusal.place) same; added = ap report_form (sym same) ∙ k })
 
 module _ (report : Report) (reading : Reading) {cells spans boundaries anchors : List ℕ} {b : Bool} (t : b ≡ ltb report.runs max_runs) {r : Opened} where
-  pub read-within : b ≡ true → {answer : Answer} {cells' spans' boundaries' anchors' : List ℕ} → Answered reading cells spans boundaries anchors answer cells' spans' boundaries' anchors'
+  pub read-within : b ≡ true → {answer : Result Header Refusal} {cells' spans' boundaries' anchors' : List ℕ} → Answered reading cells spans boundaries anchors answer cells' spans' boundaries' anchors'
       → OpenedFor report answer r → ReadFor report reading cells spans boundaries anchors r cells' spans' boundaries' anchors'
   read-within e A O =
       let room : report.runs < max_runs = ltb-true report.runs max_runs (sym t ∙ e) in
@@ -68,12 +70,12 @@ module _ (report : Report) (reading : Reading) {cells spans boundaries anchors :
 
 module _ (bytes cells spans boundaries anchors : List ℕ) where
   pub limited_long : max_sheet_bytes < length bytes
-      → Answered (limited_reading bytes cells spans boundaries anchors) cells spans boundaries anchors (Refused 14 max_sheet_bytes) cells spans boundaries anchors
+      → Answered (limited_reading bytes cells spans boundaries anchors) cells spans boundaries anchors (Err (record { cause = cause.Sheet; place = max_sheet_bytes })) cells spans boundaries anchors
   limited_long h =
       rw (lt-ltb max_sheet_bytes (length bytes) h)
       (record { said = refl; cells_left = refl; spans-left = refl; boundaries-left = refl; anchors-left = refl })
 
-  pub limited_few : length bytes ≤ max_sheet_bytes → {answer : Answer} {cells' spans' boundaries' anchors' : List ℕ}
+  pub limited_few : length bytes ≤ max_sheet_bytes → {answer : Result Header Refusal} {cells' spans' boundaries' anchors' : List ℕ}
       → Answered (reading_within keptlist_cell_limit bytes cells spans boundaries anchors) cells spans boundaries anchors answer cells' spans' boundaries' anchors'
       → Answered (limited_reading bytes cells spans boundaries anchors) cells spans boundaries anchors answer cells' spans' boundaries' anchors'
   limited_few h A = rw (le-ltb max_sheet_bytes (length bytes) h) A

@@ -11,10 +11,11 @@ ghost use Rattle.report_figures.specs.Forms.{report_form};
 ghost use Rattle.sheet.specs.Contract.{Answered};
 ghost use Rattle.report_reading.specs.Contract.{opened_as, refused_as_lem, limited_reading, OpenedFor, ReadFor};
 
+use refusals::{Cause, Refusal};
 use report_figures::Report;
 use report_figures::call_figures::has_room;
 use report_figures::sums::with_refused;
-use sheet::{Answer, Header, read_sheet, read_within};
+use sheet::{Header, read_sheet, read_within};
 
 const SHEET_BYTES_MOST: usize = 65_536;
 
@@ -68,14 +69,15 @@ fn refused_as(report: Report, number: u64, place: u64) -> Opened
 }
 
 // What the reader answered.
-fn opened_for(report: Report, answer: Answer) -> Opened
+fn opened_for(report: Report, answer: Result<Header, Refusal>) -> Opened
     ensures { OpenedFor report answer result }
 {
     match answer {
-        Answer::Read(header) => opened_as(report, header),
-        Answer::Refused(number, place) => {
-            let added = with_refused(report, number as u64);
-            refused_as(added, number as u64, place as u64)
+        Ok(header) => opened_as(report, header),
+        Err(refusal) => {
+            let number = refusal.cause.number();
+            let added = with_refused(report, number);
+            refused_as(added, number, refusal.place as u64)
         }
     }
 }
@@ -87,14 +89,17 @@ pub fn read_limited(
     spans: &mut [u64],
     boundaries: &mut [u64],
     anchors: &mut [u64],
-) -> Answer
+) -> Result<Header, Refusal>
     ensures { Answered
         (limited_reading bytes.now cells.old spans.old boundaries.old anchors.old)
         cells.old spans.old boundaries.old anchors.old result
         cells.new spans.new boundaries.new anchors.new }
 {
     if SHEET_BYTES_MOST < bytes.len() {
-        return Answer::Refused(14, SHEET_BYTES_MOST);
+        return Err(Refusal {
+            cause: Cause::Sheet,
+            place: SHEET_BYTES_MOST,
+        });
     }
     read_within(bytes, CELLS_MOST, cells, spans, boundaries, anchors)
 }
@@ -118,6 +123,6 @@ pub fn report_reading_read_for_report(
         let answer = read_sheet(bytes, cells, spans, boundaries, anchors);
         opened_for(report, answer)
     } else {
-        refused_as(report, 3, 0)
+        refused_as(report, Cause::Entries.number(), 0)
     }
 }

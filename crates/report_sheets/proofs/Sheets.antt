@@ -16,10 +16,11 @@ use Rattle.laws.specs.SheetReading.SheetSizes.{room-enough}
 use Rattle.call_partition.specs.Contract.{given, Ran}
 use Rattle.topology.specs.Contract.{answer_of as call-says}
 use Rattle.topology.specs.declared.Answer as call
-use Rattle.sheet.specs.Contract.{Answered, reading_within, answer_of as sheet-says}
+use Rattle.std.specs.Prelude.{Result, Ok, Err}
+use Rattle.refusals.specs.declared.Refusal.{Refusal}
+use Rattle.refusals.specs.Refusals.{number_of}
+use Rattle.sheet.specs.Contract.{Answered, by_number, reading_within, answer_of as sheet-says}
 use Rattle.sheet.specs.declared.Header.{Header}
-use Rattle.sheet.specs.declared.Answer.{Answer}
-use Rattle.sheet.specs.declared.Answer.TheVariants.{Read, Refused}
 use Rattle.sheet_answer.specs.Contract.{ListsLong, keptlist_reading, sheet_from, sheet_in, SheetHeld}
 use Rattle.sheet_answer.proofs.BeforeCall.{begun-read}
 use Rattle.sheet_answer.proofs.Whole.{SheetRead, begun-ready}
@@ -66,7 +67,7 @@ unfolding keptlist_reading sheet_reading
 same_rule bytes = refl
 
 module _ (bytes cells spans boundaries anchors : List ℕ) (L : ListsLong (length cells) (length spans) (length boundaries) (length anchors))
-    {answer : Answer} {cells' spans' boundaries' anchors' : List ℕ}
+    {answer : Result Header Refusal} {cells' spans' boundaries' anchors' : List ℕ}
     (A : Answered (limited_reading bytes cells spans boundaries anchors) cells spans boundaries anchors answer cells' spans' boundaries' anchors') where
   same_reading : limited_reading bytes cells spans boundaries anchors ≡ sheet_reading bytes
   unfolding sheet_reading
@@ -74,7 +75,7 @@ module _ (bytes cells spans boundaries anchors : List ℕ) (L : ListsLong (lengt
       ap (cond (ltb max_sheet_bytes (length bytes)) (refused 14 max_sheet_bytes))
       (room-enough keptlist_cell_limit bytes L.for_cells L.for_spans L.for_boundaries L.for_anchors)
 
-  module _ {header : Header} (e : answer ≡ Read header) where
+  module _ {header : Header} (e : answer ≡ Ok header) where
     ready : SheetRead bytes header cells' spans' boundaries' anchors' cells cells
     ready = go (ltb max_sheet_bytes (length bytes)) refl A
       where
@@ -82,7 +83,7 @@ module _ (bytes cells spans boundaries anchors : List ℕ) (L : ListsLong (lengt
             → Answered (cond long (refused 14 max_sheet_bytes) (reading_within keptlist_cell_limit bytes cells spans boundaries anchors))
             cells spans boundaries anchors answer cells' spans' boundaries' anchors'
             → SheetRead bytes header cells' spans' boundaries' anchors' cells cells
-        go true t B = absurd (let z : ◌≡◌ {A = ℕ} 0 1 = cc B.said in omega arith)
+        go true t B = absurd (let q = ap by_number (sym e) ∙ B.said in let z : ◌≡◌ {A = ℕ} 0 1 = cc q in omega arith)
         go false t B = begun-ready bytes (begun-read bytes cells spans boundaries anchors (ltb-false max_sheet_bytes (length bytes) t) L B e) refl
 
     pub sheet-held : SheetHeld header cells' spans' boundaries' anchors'
@@ -91,14 +92,14 @@ module _ (bytes cells spans boundaries anchors : List ℕ) (L : ListsLong (lengt
     pub sheet-added : {Q : Report} {r : Reported} → AddedReading Q (well_formed (sheet_in header cells' spans' boundaries' anchors')) r → AddedReading Q (sheet_reading bytes) r
     sheet-added {Q} {r} B = subst (λ x. AddedReading Q x r) (sym ready.is ∙ same_rule bytes) B
 
-  pub refusal-added : (number place : ℕ) → answer ≡ Refused number place → {Q : Report} {r : Reported} → AddedReading Q (refused number place) r
+  pub refusal-added : (refusal : Refusal) → answer ≡ Err refusal → {Q : Report} {r : Reported} → AddedReading Q (refused (number_of refusal.cause) refusal.place) r
       → AddedReading Q (sheet_reading bytes) r
-  refusal-added number place e {Q} {r} B = subst (λ x. AddedReading Q x r) same_reading (go (limited_reading bytes cells spans boundaries anchors) A.said)
+  refusal-added refusal e {Q} {r} B = subst (λ x. AddedReading Q x r) same_reading (go (limited_reading bytes cells spans boundaries anchors) (ap by_number (sym e) ∙ A.said))
     where
-      go : (x : Reading) → answer ≡ sheet-says x → AddedReading Q x r
+      go : (x : Reading) → by_number (Err refusal) ≡ sheet-says x → AddedReading Q x r
       go (well_formed s) f = absurd (let z : ◌≡◌ {A = ℕ} 0 1 = cc f in omega arith)
       go (refused n p) f =
-          let same : refused number place ≡ refused n p = cc f in
+          let same : refused (number_of refusal.cause) refusal.place ≡ refused n p = cc f in
           subst (λ x. AddedReading Q x r) same B
 
 -- ---- the report

@@ -13,7 +13,7 @@ use report_figures::call_figures::{answered, beyond, has_room};
 use report_figures::sums::with_refused;
 use report_figures::{Report, Reported};
 use report_reading::read_limited;
-use sheet::{Answer, Header};
+use sheet::Header;
 use topology::own_records::kept_boundaries_here;
 
 const REGIONS_MOST: usize = 512;
@@ -125,8 +125,8 @@ fn add_sheet(report: Report, bytes: &[u8]) -> Reported
     let mut boundaries = [0u64; 2304];
     let mut anchors = [0u64; 512];
     match read_limited(bytes, &mut cells, &mut spans, &mut boundaries, &mut anchors) {
-        Answer::Read(header) => add_held(report, header, &cells, &spans, &boundaries, &anchors),
-        Answer::Refused(number, place) => refuse(report, number as u64, place as u64),
+        Ok(header) => add_held(report, header, &cells, &spans, &boundaries, &anchors),
+        Err(refusal) => refuse(report, refusal.cause.number(), refusal.place as u64),
     }
 }
 

@@ -2,11 +2,10 @@
 -- the starting ones in both, before each pass and after it. The kept boundaries of both maps meet the premises again (`kept-alike`), so that both restrict to
 -- one map, and what the pass keeps of the island is what it keeps there. Assumes `Alike` of the starting maps.
 use Prim.Native.Nat.{ℕ, zero, suc, ◌<◌}
-use Rattle.std.specs.Prelude.{◌≡◌, refl, true, length}
+use Rattle.std.specs.Prelude.{◌≡◌, refl, true, length, Option, Some}
 use Rattle.std.proofs.Math.Path.{sym, ap, ap₂}
 use Rattle.std.proofs.Common.{◌∙◌}
 use Rattle.std.proofs.Math.Bool.{Bool, not}
-use Rattle.std.specs.Prelude.{Option, Some}
 use mathlib.Core.List.{List, map}
 use Rattle.std.proofs.Math.ListN.{get_or}
 use Rattle.definitions.specs.Scan.{filter, collect, only_if, member, run, count_below}

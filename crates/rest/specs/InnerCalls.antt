@@ -3,10 +3,9 @@
 -- call of the run is refused but by what refuses the run itself. Assumes that the run is accepted.
 use Prim.Native.Nat.{ℕ, ◌*◌, ◌/◌, ◌%◌, ◌≤◌, ◌<◌, max}
 use Rattle.std.proofs.Common.{arith, sym, ◌∙◌}
-use Rattle.std.specs.Prelude.{◌≡◌, refl, Bool, true, false, not, cond, List, [], ◌∷◌, ◌++◌, eqb, ltb, leb}
+use Rattle.std.specs.Prelude.{◌≡◌, refl, Bool, true, false, not, cond, List, [], ◌∷◌, ◌++◌, eqb, ltb, leb, Option, None}
 use Rattle.std.proofs.Math.Path.{ap, ap₂}
 use Rattle.std.proofs.Math.Bool.{◌&&◌}
-use Rattle.std.specs.Prelude.{Option, None}
 use Rattle.std.proofs.Math.ListN.{length, get_or}
 use Rattle.std.proofs.lemmas.List.{length-map}
 use borrow.Author.Tests.{ltb-true, ltb-false, leb-true, le-leb, eq-eqb, eqb-true}
@@ -23,13 +22,12 @@ use Rattle.laws.specs.ListLaws.Lists.{All, done, more, get_d_tab}
 use Rattle.laws.specs.ListLaws.Members.{all-place}
 use Rattle.laws.specs.ListLaws.Tests.{both}
 use Rattle.laws.specs.ListLaws.NoFault.{no_fault_lem, none_at, none_faulty, or_else_none}
-use Rattle.laws.specs.TableLaws.AcceptedCalls.{refusal_none, Accepted, fits-parts}
+use Rattle.laws.specs.TableLaws.AcceptedCalls.{refusal_none, Accepted, fits-parts, Numbered, refusal-numbered, spans-numbered, none_refused}
 use Rattle.laws.specs.TableLaws.KeptRows.{boundary_count_lem}
 use Rattle.laws.specs.OrderLaws.ListOrder.{eqb_sym}
 use Rattle.rest_definitions.specs.RowOrder.{start_rows, no_row, turned, map_with, start_map}
 use Rattle.rest_definitions.specs.Rest.{kept_map, passed, rest_rows, rounds_of}
 use Rattle.rest_definitions.specs.RestVerdict.{lists_fault, same_point_lem, with_rounds, rest_verdict}
-use Rattle.laws.specs.TableLaws.AcceptedCalls.{Numbered, refusal-numbered, spans-numbered, none_refused}
 use Rattle.rest.specs.Picking.{first_none}
 use Rattle.rest.specs.StartMaps.{names, start-count, start-boundaries, start-boundary}
 use Rattle.rest.specs.KeptMaps.{kept-count, kept-boundaries, kept-boundary, kept-endpoints}

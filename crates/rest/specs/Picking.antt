@@ -1,10 +1,9 @@
 -- Lists by place: a list is what it has at its places; what a test leaves of a list is picked by place (`picked` of laws), and a test that leaves as many as
 -- there are leaves all. Assumes nothing.
-use Rattle.std.specs.Prelude.{ℕ, zero, suc, ◌+◌, ◌≤◌, ◌<◌, ◌≡◌, Bool, cond, length, get_or, ltb}
+use Rattle.std.specs.Prelude.{ℕ, zero, suc, ◌+◌, ◌≤◌, ◌<◌, ◌≡◌, Bool, cond, length, get_or, ltb, Option, None, Some}
 use Rattle.std.proofs.Common.{arith, add-zero, add-one, ap₂, ◌∙◌, ltb-true, ltb-false}
 use Rattle.std.proofs.Math.Path.{refl, sym, ap}
 use Rattle.std.proofs.Math.Bool.{true, false}
-use Rattle.std.specs.Prelude.{Option, None, Some}
 use mathlib.Core.List.{List, [], ◌∷◌, ◌++◌, map, append-nil}
 use Rattle.definitions.specs.Scan.{collect, only_if, to_list, run, filter, count_below, bit}
 use Rattle.definitions.specs.Refusals.{or_else, first_below_lem}

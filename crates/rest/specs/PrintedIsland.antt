@@ -3,11 +3,10 @@
 -- their boundaries have the same rank, in row order, among those cutting the island. Assumes `Alike` of the starting maps.
 use Prim.Native.Nat.{ℕ, zero, suc, ◌+◌, ◌≤◌, ◌<◌}
 use native.Mathlib.Omega.{arith}
-use Rattle.std.specs.Prelude.{◌≡◌, refl, false, cond, get_or}
+use Rattle.std.specs.Prelude.{◌≡◌, refl, false, cond, get_or, Option, None, Some}
 use Rattle.std.proofs.Math.Path.{sym, ap}
 use Rattle.std.proofs.Common.{ap₂, ◌∙◌, length-append, eqb-true, eq-eqb, ne_eqb}
 use Rattle.std.proofs.Math.Bool.{Bool, true}
-use Rattle.std.specs.Prelude.{Option, None, Some}
 use mathlib.Core.List.{List, [], ◌∷◌, map, map-map}
 use Rattle.std.proofs.Math.ListN.{length}
 use Rattle.std.proofs.lemmas.List.{length-map}

@@ -1,7 +1,6 @@
 -- The answer of the call that runs to rest, to every input (document 02, request 4; SPECIFICATION 4). Refusals 5 to 9 name entries of the lists as lent;
 -- 11 and 12 come of the first pass alone, since no later pass has more regions or more pairs (`FewerPairs.antt`). Definitions only. Assumes nothing.
-use Rattle.std.specs.Prelude.{ℕ, ◌*◌, ◌/◌, max, Bool, ◌&&◌, cond, List, [], ◌∷◌, length, eqb, ltb}
-use Rattle.std.specs.Prelude.{Option}
+use Rattle.std.specs.Prelude.{ℕ, ◌*◌, ◌/◌, max, Bool, ◌&&◌, cond, List, [], ◌∷◌, length, eqb, ltb, Option}
 use Rattle.definitions.specs.Limits.{numbers_per_span, numbers_per_boundary, numbers_per_anchor}
 use Rattle.definitions.specs.Grid.{Position, segment_at}
 use Rattle.definitions.specs.Refusals.{first_below_lem, first_faulty, unless, sides_fault, cells_fault, is_whole, spans_refusal, boundaries_fault, anchors_fault, elevations_fault, output_room}

@@ -32,9 +32,12 @@ use Rattle.areas.proofs.Early.{spans_leave}
 use Rattle.areas.proofs.FirstRefusal.{first_joined}
 use Rattle.call_partition.specs.Contract.{given, Ran}
 use Rattle.call_partition.specs.Early.{sizes_refusal, entries_refusal, has_room_lem}
-use Rattle.call_partition.specs.declared.Prepared.{Prepared}
-use Rattle.call_partition.specs.declared.Prepared.TheVariants.{Refused, Ready}
-use Rattle.call_partition.specs.Prepared.{PreparedAs, DividedAs, RefusedLate}
+use Rattle.std.specs.Prelude.{Result, Err, Ok}
+use Rattle.refusals.specs.declared.Refusal as code
+use Rattle.refusals.specs.Refusals.{refusal_of}
+use Rattle.refusals.proofs.Steps.{positive}
+use Rattle.call_partition.specs.declared.Ready.{Ready}
+use Rattle.call_partition.specs.Prepared.{PreparedAs, DividedAs}
 use Rattle.rest_definitions.specs.RowOrder.{start_map}
 use Rattle.rest_definitions.specs.Rest.{kept_map, rest_rows, rounds_of, last_map}
 use Rattle.rest_definitions.specs.RestVerdict.{lists_fault, with_rounds, rest_verdict}
@@ -306,9 +309,9 @@ module _ (w h : ℕ) (cells spans boundaries anchors : List ℕ) (room output : 
   wide_enough : {x : Option Refusal} (o : List ℕ) → length o ≡ output → x ≡ before → x ≡ rest_early w h cells spans boundaries anchors (length l) (length m) (length q) (length t) (length o)
   wide_enough o wide e = e ∙ ap (rest_early w h cells spans boundaries anchors (length l) (length m) (length q) (length t)) (sym wide)
 
-  pub begun-refused : {number place : ℕ} (n b d : List ℕ) → Some (record { number = number; place = place }) ≡ before
-      → BegunAs w h cells spans boundaries anchors room output l m q t p (Refused number place) l m q t p n b d
-  begun-refused n b d e s o long wide = refused-early w h cells spans boundaries anchors l m q t p s o _ _ (wide_enough o wide e)
+  pub begun-refused : (r : code.Refusal) (n b d : List ℕ) → Some (refusal_of r) ≡ before
+      → BegunAs w h cells spans boundaries anchors room output l m q t p (Err r) l m q t p n b d
+  begun-refused r n b d e s o long wide = refused-early w h cells spans boundaries anchors l m q t p s o _ _ (wide_enough o wide e)
 
   module _ (e : None ≡ before) where
     abbrev N : Map
@@ -345,30 +348,29 @@ module _ (w h : ℕ) (cells spans boundaries anchors : List ℕ) (room output : 
           (inner_fits_lem (given 1 w h cells spans boundaries anchors l m q t p (replicate room empty_region) (replicate output 0)) some_run (all_places N) begun l m q t p refl refl refl refl refl)
 
       module _ (l' m' q' t' p' : List ℕ) where
-        abbrev Prepares : Prepared → Type 0
+        abbrev Prepares : Result Ready code.Refusal → Type 0
         Prepares r =
             PreparedAs 1 w h cells (flat_spans (kept_of N (all_places N)).spans) (flat_boundaries (kept_of N (all_places N)).boundaries) anchors room rows_long_lem l m q t p r l' m' q' t' p'
 
-        by_case : (r : Prepared) → Prepares r → RefusedLate r → BegunAs w h cells spans boundaries anchors room output l m q t p r l' m' q' t' p' n b d
+        by_case : (r : Result Ready code.Refusal) → Prepares r → BegunAs w h cells spans boundaries anchors room output l m q t p r l' m' q' t' p' n b d
         unfolding map_in
-        by_case (Refused number place) P late =
+        by_case (Err r) P =
             λ s o long wide.
-            refused-late w h cells spans boundaries anchors l m q t p s o (checked w h cells spans boundaries anchors l m q t p s o (wide_enough o wide e)) late (P s rows_out_lem long rows_out)
-        by_case (Ready regions rows) P late =
+            refused-late w h cells spans boundaries anchors l m q t p s o (checked w h cells spans boundaries anchors l m q t p s o (wide_enough o wide e)) (positive r.cause) (P s rows_out_lem long rows_out)
+        by_case (Ok ready) P =
             record {
               accepted =
                   λ s o long wide.
                   accepted-ready w h cells spans boundaries anchors l m q t p s o (checked w h cells spans boundaries anchors l m q t p s o (wide_enough o wide e))
-                  (subst (λ k. ReadyOf w h cells anchors (kept_of N (all_places N)) k l m q t p regions rows l' m' q' t' p') (sym long) P);
-              ready = subst (λ K. ReadyOf w h cells anchors K room l m q t p regions rows l' m' q' t' p') (start-kept N) P;
+                  (subst (λ k. ReadyOf w h cells anchors (kept_of N (all_places N)) k l m q t p ready.regions ready.rows l' m' q' t' p') (sym long) P);
+              ready = subst (λ K. ReadyOf w h cells anchors K room l m q t p ready.regions ready.rows l' m' q' t' p') (start-kept N) P;
               held = held;
             }
 
-        pub begun_divided : (r : Prepared) → DividedAs w h cells (take (4 * (length boundaries / numbers_per_boundary)) b) room l m q t p r l' m' q' t' p' → RefusedLate r
+        pub begun_divided : (r : Result Ready code.Refusal) → DividedAs w h cells (take (4 * (length boundaries / numbers_per_boundary)) b) room l m q t p r l' m' q' t' p'
             → BegunAs w h cells spans boundaries anchors room output l m q t p r l' m' q' t' p' n b d
         unfolding map_in
-        begun_divided r divided late =
+        begun_divided r divided =
             by_case r
             (subst (λ x. DividedAs w h cells x room l m q t p r l' m' q' t' p') front divided 1 (flat_boundaries (kept_of N (all_places N)).boundaries) anchors rows_long_lem
             (inner-early (given 1 w h cells spans boundaries anchors l m q t p (replicate room empty_region) (replicate output 0)) some_run (all_places N) begun l m q t p refl refl refl refl refl))
-            late

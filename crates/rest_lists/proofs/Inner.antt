@@ -21,11 +21,14 @@ use Rattle.laws.specs.ListLaws.Lists.{length_run}
 use Rattle.laws.specs.ListLaws.NoFault.{no_fault_lem}
 use Rattle.laws.specs.ListLaws.Tests.{both}
 use Rattle.areas.specs.Fit.{Fit}
-use Rattle.areas.proofs.Chain.{next}
-use Rattle.call_partition.specs.declared.Prepared.{Prepared}
-use Rattle.call_partition.specs.declared.Prepared.TheVariants.{Refused, Ready}
+use Rattle.refusals.proofs.Steps.{next}
+use Rattle.std.specs.Prelude.{Result, Err, Ok, IsOk}
+use Rattle.refusals.specs.declared.Refusal as code
+use Rattle.refusals.specs.Refusals.{number_of}
+use Rattle.refusals.proofs.Steps.{positive}
+use Rattle.call_partition.specs.declared.Ready.{Ready}
 use Rattle.call_partition.specs.Early.{sizes_refusal, entries_refusal, early_refusal}
-use Rattle.call_partition.specs.Prepared.{PreparedAs, DividedAs, RefusedLate}
+use Rattle.call_partition.specs.Prepared.{PreparedAs, DividedAs}
 use Rattle.call_partition.proofs.EarlyFits.{early-fits}
 use Rattle.rest_definitions.specs.RowOrder.{start_map}
 use Rattle.rest_definitions.specs.Rest.{kept_map}
@@ -61,6 +64,11 @@ pub zeroed-length : (n : ℕ) (l : List ℕ) → n ≤ length l → length (zero
 zeroed-length n l h =
     let zeros : length (replicate {A = ℕ} n 0) ≡ n = length-replicate {A = ℕ} n 0 in
     length-append (replicate n 0) (drop n l) ∙ omega (arith, zeros, length-drop n l)
+
+-- what is never a refusal
+is-ok : (r : Result Ready code.Refusal) → ((x : code.Refusal) → r ≡ Err x → ⊥) → IsOk r
+is-ok (Ok ready) h = refl
+is-ok (Err x) h = absurd (h x refl)
 
 -- ---- a partition of the run, with lists as long as its own
 
@@ -146,7 +154,7 @@ module _ {w h : ℕ} {cells anchors : List ℕ} {O : Origin} {s : List Region} {
         subst (λ b. Fit w h cells b (length l) (length m) (length q) (length t₀)) (sym front)
         (inner_fits_lem L D.accepted.checked places D.reached l m q t₀ p₀ D.labels D.masks D.queue t-long p-long)
 
-    module _ (r : Prepared) (l' m' q' t' p' : List ℕ) (divided : DividedAs w h cells (take (4 * kept) spans) room l m q t₀ p₀ r l' m' q' t' p') where
+    module _ (r : Result Ready code.Refusal) (l' m' q' t' p' : List ℕ) (divided : DividedAs w h cells (take (4 * kept) spans) room l m q t₀ p₀ r l' m' q' t' p') where
       prepared : PreparedAs 1 w h cells (flat_spans (kept_of M places).spans) (flat_boundaries (kept_of M places).boundaries) anchors room rows_long_lem l m q t₀ p₀ r l' m' q' t' p'
       unfolding map_in
       prepared =
@@ -154,24 +162,26 @@ module _ {w h : ℕ} {cells anchors : List ℕ} {O : Origin} {s : List Region} {
           (inner-early L D.accepted.checked places D.reached l m q t₀ p₀ D.labels D.masks D.queue t-long p-long)
 
       -- it is not refused
-      pub never-refused : {number place : ℕ} → RefusedLate r → r ≡ Refused number place → ⊥
+      never-refused : (x : code.Refusal) → r ≡ Err x → ⊥
       unfolding map_in
-      never-refused {number} {place} late e =
-          let n : 1 ≤ number = subst RefusedLate e late in
+      never-refused x e =
           let ran = subst (λ r. PreparedAs 1 w h cells (flat_spans (kept_of M places).spans) (flat_boundaries (kept_of M places).boundaries) anchors room rows_long_lem l m q t₀ p₀ r l' m' q' t' p') e prepared s rows_out_lem D.roomy rows_out in
-          let zero_is : number ≡ 0 =
+          let zero_is : number_of x.cause ≡ 0 =
           ap (λ (a : Answer). a.number)
           (ran.answer
           ∙ inner-verdict L D.accepted.checked 1 refl places D.reached l m q t₀ p₀ s rows_out_lem D.labels D.masks D.queue t-long p-long refl (omega (arith, rows_out)) D.accepted.records D.accepted.pairs) in
-          omega (arith, n, zero_is)
+          omega (arith, positive x.cause, zero_is)
 
-      pub redivided : {regions rows : ℕ} → r ≡ Ready regions rows
-          → Redivided w h cells anchors O places first room l m q t p (record { kept = kept; regions = regions; rows = rows }) l' m' q' t' p'
-      redivided {regions} {rows} e =
+      pub is-ready : IsOk r
+      is-ready = is-ok r never-refused
+
+      pub redivided : {ready : Ready} → r ≡ Ok ready
+          → Redivided w h cells anchors O places first room l m q t p (record { kept = kept; regions = ready.regions; rows = ready.rows }) l' m' q' t' p'
+      redivided {ready} e =
           record {
             count = D.count;
             ready =
-                subst (λ p₀. ReadyOf w h cells anchors (kept_of M places) room l m q (zeroed (2 * first.kept) t) p₀ regions rows l' m' q' t' p') ep
-                (subst (λ t₀. ReadyOf w h cells anchors (kept_of M places) room l m q t₀ p₀ regions rows l' m' q' t' p') et
+                subst (λ p₀. ReadyOf w h cells anchors (kept_of M places) room l m q (zeroed (2 * first.kept) t) p₀ ready.regions ready.rows l' m' q' t' p') ep
+                (subst (λ t₀. ReadyOf w h cells anchors (kept_of M places) room l m q t₀ p₀ ready.regions ready.rows l' m' q' t' p') et
                 (subst (λ r. PreparedAs 1 w h cells (flat_spans (kept_of M places).spans) (flat_boundaries (kept_of M places).boundaries) anchors room rows_long_lem l m q t₀ p₀ r l' m' q' t' p') e prepared));
           }

@@ -3,10 +3,10 @@ ghost use Rattle.std.specs.Prelude.{◌≤◌, length};
 ghost use Rattle.rest_lists.specs.Begun.{BegunAs};
 
 use crate::checked::rest_checks;
-use areas::checked::Check;
 use boundary_blocks::start::start_lists;
-use call_partition::{Prepared, divide};
+use call_partition::{Ready, divide};
 use checks::limits::{NUMBERS_PER_BOUNDARY, NUMBERS_PER_SPAN};
+use refusals::Refusal;
 
 // The checks of the lists as lent, the starting list in row order, and its partition: a refusal, or how many regions and rows of pairs there are.
 pub fn begin_rest(
@@ -26,14 +26,14 @@ pub fn begin_rest(
     numbers: &mut [u64],
     ends: &mut [u64],
     entries: &mut [u64],
-) -> Prepared
+) -> Result<Ready, Refusal>
     requires { (256 ≤ length numbers.old) × (1024 ≤ length ends.old) × (2304 ≤ length entries.old) }
     ensures { BegunAs width height cells.now spans.now boundaries.now anchors.now room output
         labels.old masks.old queue.old tallies.old pairs.old result
         labels.new masks.new queue.new tallies.new pairs.new
         numbers.new ends.new entries.new }
 {
-    let check = rest_checks(
+    rest_checks(
         width,
         height,
         cells,
@@ -45,10 +45,7 @@ pub fn begin_rest(
         queue.len(),
         tallies.len(),
         output,
-    );
-    if let Check::Refused(number, place) = check {
-        return Prepared::Refused(number, place);
-    }
+    )?;
     let count = boundaries.len() / NUMBERS_PER_BOUNDARY;
     start_lists(boundaries, count, numbers, ends, entries);
     let end = NUMBERS_PER_SPAN * count;

@@ -8,12 +8,11 @@ ghost use Rattle.boundary_blocks.specs.Blocks.{left_blocks, left_count};
 ghost use Rattle.rest_lists.specs.Kept.{Origin, Divides, Redivided};
 ghost use Rattle.boundary_blocks.specs.Start.{rows_at};
 
-use areas::clear::clear_numbers;
 use assessments::TALLIES_PER_SPAN;
 use boundary_blocks::blocks::keep_blocks;
 use boundary_blocks::start::put_rows;
+use call_partition::divide;
 use call_partition::scratch::clear_scratch;
-use call_partition::{Prepared, divide};
 use checks::limits::{NUMBERS_PER_BOUNDARY, NUMBERS_PER_SPAN};
 
 const NUMBERS_PER_PAIR: usize = 3;
@@ -72,10 +71,10 @@ pub fn divide_again(
         labels.old masks.old queue.old tallies.old pairs.old result
         labels.new masks.new queue.new tallies.new pairs.new }
 {
-    clear_numbers(tallies, TALLIES_PER_SPAN * first.kept);
-    clear_numbers(pairs, NUMBERS_PER_PAIR * first.rows);
+    tallies[..TALLIES_PER_SPAN * first.kept].fill(0);
+    pairs[..NUMBERS_PER_PAIR * first.rows].fill(0);
     let end = NUMBERS_PER_SPAN * kept;
-    match divide(
+    let ready = divide(
         width,
         height,
         cells,
@@ -86,17 +85,12 @@ pub fn divide_again(
         queue,
         tallies,
         pairs,
-    ) {
-        Prepared::Refused(_number, _place) => Standing {
-            kept,
-            regions: 0,
-            rows: 0,
-        },
-        Prepared::Ready(regions, rows) => Standing {
-            kept,
-            regions,
-            rows,
-        },
+    )
+    .unwrap();
+    Standing {
+        kept,
+        regions: ready.regions,
+        rows: ready.rows,
     }
 }
 

@@ -1,39 +1,32 @@
 -- From what was judged to what is answered: the three ways in which a reading ends. And when lists have room. Assumes nothing.
-use Prim.Native.Nat.{ℕ, ◌*◌, ◌/◌, ◌≤◌, ◌<◌}
+use Prim.Native.Nat.{ℕ, ◌*◌, ◌/◌, ◌≤◌}
 use native.Mathlib.Omega.{arith}
-use mathlib.Core.Path.{◌≡◌, refl, sym, ap, ◌∙◌}
+use mathlib.Core.Path.{◌≡◌, refl, ap, ◌∙◌}
 use mathlib.Core.Bool.{Bool, true, false, ◌&&◌, cond}
 use mathlib.Core.List.{List}
 use lib.ListN.{length}
 use lib.Dec.{leb}
-use borrow.Author.Tests.{leb-true, leb-false, le-leb, lt-leb}
+use borrow.Author.Tests.{leb-true, leb-false, le-leb}
 use Rattle.definitions.specs.Limits.{tallies_per_span, numbers_per_pair, numbers_per_row}
 use Rattle.definitions.specs.Lists.{overwrite}
 use Rattle.definitions.specs.Refusals.{or_else}
 use Rattle.laws.specs.ListLaws.Tests.{both}
 use Rattle.sheet.proofs.Filling.{held-length}
 use Rattle.results.specs.ResultAnswers.{well_formed, refused, read_result, room_for, read_verdict}
-use Rattle.result_reader.specs.Parts.{breach_of, part_numbers, result_in, plan_by, ResultHeld, room_in, Room}
-use Rattle.result_reader.specs.Contract.{refused_at, answer_of, answer_in, Answered}
-use Rattle.result_reader.specs.declared.Breach.{Breach}
-use Rattle.result_reader.specs.declared.Breach.TheVariants.{Nowhere, At}
+use Rattle.result_reader.specs.Parts.{part_numbers, result_in, ResultHeld, room_in, Room}
+use Rattle.result_reader.specs.Contract.{refused_at, refused_by, answer_of, answer_in, Answered}
+use Rattle.std.specs.Prelude.{Option, None, Some}
+use Rattle.std.specs.Option.{option_or}
+use Rattle.refusals.specs.declared.Refusal.{Refusal}
+use Rattle.refusals.specs.Refusals.{number_of}
 use Rattle.result_reader.specs.declared.Plan.{Plan}
 use Rattle.result_reader.specs.declared.ResultAnswer.{ResultAnswer}
-use Rattle.result_reader.specs.declared.ResultRead.TheVariants.{Sound, Refused}
 
--- ---- the first of two breaches, and what is made of one
+-- ---- the first of two breaches
 
-pub breach_second : (a b : Breach) → a ≡ Nowhere → breach_of b ≡ or_else (breach_of a) (breach_of b)
-breach_second a b e = sym (ap (λ x. or_else (breach_of x) (breach_of b)) e)
-
-pub breach_first : (a b : Breach) {place : ℕ} → a ≡ At place → breach_of (At place) ≡ or_else (breach_of a) (breach_of b)
-breach_first a b e = sym (ap (λ x. or_else (breach_of x) (breach_of b)) e)
-
-pub plan-sound : (plan : Plan) {breach : Breach} → breach ≡ Nowhere → Sound plan ≡ plan_by plan breach
-plan-sound plan e = sym (ap (plan_by plan) e)
-
-pub plan-broken : (plan : Plan) {breach : Breach} {place : ℕ} → breach ≡ At place → Refused 15 place ≡ plan_by plan breach
-plan-broken plan e = sym (ap (plan_by plan) e)
+pub first_of : (a b : Option ℕ) → option_or a b ≡ or_else a b
+first_of None b = refl
+first_of (Some place) b = refl
 
 -- ---- room
 
@@ -52,38 +45,27 @@ room-known {plan} {labels} {tallies} {pairs} {rows} h =
       for_rows = leb-true (plan.rows.count * numbers_per_row) rows abc.1;
     }
 
-module _ (plan : Plan) (labels tallies pairs rows : ℕ) where
-  pub room-labels : labels < plan.labels.count → false ≡ room_in plan labels tallies pairs rows
-  room-labels h =
-      let e = lt-leb (plan.labels.count * 1) labels (omega arith) in
-      rw e refl
+same_test : (a b c d : ℕ) → (a ≤ b → c ≤ d) → (c ≤ d → a ≤ b) → leb a b ≡ leb c d
+same_test a b c d f g = go (leb c d) refl
+  where
+    go : (t : Bool) → leb c d ≡ t → leb a b ≡ t
+    go true e = le-leb a b (g (leb-true c d e))
+    go false e = other (leb a b) refl
+      where
+        other : (t : Bool) → leb a b ≡ t → leb a b ≡ false
+        other true q = absurd (omega (arith, leb-false c d e, f (leb-true a b q)))
+        other false q = q
 
-  module _ (h : plan.labels.count ≤ labels) where
-    first : leb (plan.labels.count * 1) labels ≡ true
-    first = le-leb (plan.labels.count * 1) labels (omega arith)
-
-    pub room-tallies : tallies / 2 < plan.tallies.count → false ≡ room_in plan labels tallies pairs rows
-    room-tallies k =
-        let e = lt-leb (plan.tallies.count * tallies_per_span) tallies (omega arith) in
-        rw (first, e) refl
-
-    module _ (k : plan.tallies.count ≤ tallies / 2) where
-      second : leb (plan.tallies.count * tallies_per_span) tallies ≡ true
-      second = le-leb (plan.tallies.count * tallies_per_span) tallies (omega arith)
-
-      pub room-pairs : pairs / 3 < plan.pairs.count → false ≡ room_in plan labels tallies pairs rows
-      room-pairs m =
-          let e = lt-leb (plan.pairs.count * numbers_per_pair) pairs (omega arith) in
-          rw (first, second, e) refl
-
-      pub room-rows : plan.pairs.count ≤ pairs / 3 → {t : Bool} → t ≡ leb plan.rows.count (rows / 5) → t ≡ room_in plan labels tallies pairs rows
-      room-rows m e =
-          let third = le-leb (plan.pairs.count * numbers_per_pair) pairs (omega arith) in
-          rw (first, second, third) (e ∙ whole (leb plan.rows.count (rows / 5)) refl)
-        where
-          whole : (t : Bool) → leb plan.rows.count (rows / 5) ≡ t → t ≡ leb (plan.rows.count * numbers_per_row) rows
-          whole true e = sym (le-leb (plan.rows.count * numbers_per_row) rows (omega (arith, leb-true plan.rows.count (rows / 5) e)))
-          whole false e = sym (lt-leb (plan.rows.count * numbers_per_row) rows (omega (arith, leb-false plan.rows.count (rows / 5) e)))
+-- a length divided, in the place of a count multiplied
+pub divided : (plan : Plan) (labels tallies pairs rows : ℕ)
+    → room_in plan labels tallies pairs rows
+    ≡ (leb plan.labels.count labels && leb plan.tallies.count (tallies / 2) && leb plan.pairs.count (pairs / 3) && leb plan.rows.count (rows / 5))
+divided plan labels tallies pairs rows =
+    let a = same_test (plan.labels.count * 1) labels plan.labels.count labels (λ h. omega arith) (λ h. omega arith) in
+    let b = same_test (plan.tallies.count * tallies_per_span) tallies plan.tallies.count (tallies / 2) (λ h. omega arith) (λ h. omega arith) in
+    let c = same_test (plan.pairs.count * numbers_per_pair) pairs plan.pairs.count (pairs / 3) (λ h. omega arith) (λ h. omega arith) in
+    let d = same_test (plan.rows.count * numbers_per_row) rows plan.rows.count (rows / 5) (λ h. omega arith) (λ h. omega arith) in
+    λ i. a i && b i && c i && d i
 
 -- ---- a result that was found
 
@@ -133,9 +115,9 @@ module _ {bytes : List ℕ} {plan : Plan} (R : ResultHeld bytes plan) where
 
 -- ---- a sheet that is refused
 
-pub answered-refused : (bytes : List ℕ) {refusal place : ℕ} {answer : ResultAnswer} (labels tallies pairs rows : List ℕ) → read_result bytes ≡ refused refusal place
-    → answer ≡ refused_at refusal place → Answered (read_verdict bytes (length labels) (length tallies) (length pairs) (length rows)) labels tallies pairs rows answer labels tallies pairs rows
+pub answered-refused : (bytes : List ℕ) (refusal : Refusal) {answer : ResultAnswer} (labels tallies pairs rows : List ℕ) → read_result bytes ≡ refused (number_of refusal.cause) refusal.place
+    → answer ≡ refused_by refusal → Answered (read_verdict bytes (length labels) (length tallies) (length pairs) (length rows)) labels tallies pairs rows answer labels tallies pairs rows
 unfolding read_verdict
-answered-refused bytes labels tallies pairs rows h e =
+answered-refused bytes refusal labels tallies pairs rows h e =
     let v = ap (λ r. room_for r (length labels) (length tallies) (length pairs) (length rows)) h in
     rw v (record { said = e; labels-left = refl; tallies-left = refl; pairs-left = refl; rows_left = refl })

@@ -15,13 +15,12 @@ use Rattle.laws.specs.SheetReading.SheetLaws.{keeps-number, ends-inside, then_fo
 use Rattle.sheet.proofs.Chains.{alike, within}
 use Rattle.results.specs.Result.{Entry, Placed, result_of, kind, entry, entries, result, ascent_fault, pair_key, rules_fault}
 use Rattle.results.specs.ResultAnswers.{refused, judged_by, reading, read_result}
-use Rattle.result_reader.specs.Parts.{breach_of, turns_fault, no_fault, key_fault, ListHeld, opening, Lists₂, front, back, part_entries, OpeningHeld, FrontHeld, BackHeld}
+use Rattle.result_reader.specs.Parts.{turns_fault, no_fault, key_fault, ListHeld, opening, Lists₂, front, back, part_entries, OpeningHeld, FrontHeld, BackHeld}
 use Rattle.result_reader.specs.Parts.{result_in, plan_by, ResultTold}
-use Rattle.result_reader.specs.declared.Breach.{Breach}
-use Rattle.result_reader.specs.declared.Breach.TheVariants.{Nowhere, At}
+use Rattle.std.specs.Prelude.{Option, None, Some, Result}
+use Rattle.refusals.specs.declared.Refusal.{Refusal}
 use Rattle.result_reader.specs.declared.Part.{Part}
 use Rattle.result_reader.specs.declared.Plan.{Plan}
-use Rattle.result_reader.specs.declared.ResultRead.{ResultRead}
 use Rattle.result_reader.proofs.Numbers.{one_found, one_fails}
 
 -- ---- the kind and the region count
@@ -82,36 +81,36 @@ module _ (at : ℕ) (bytes : List ℕ) where
       unfolding back
       all_read m = rw (h, k, m)
 
-pub front-stops : (bytes : List ℕ) (at : ℕ) {fault : ℕ} → entries 1 at (drop at bytes) ≡ failed 14 fault → front at (drop at bytes) ≡ failed 14 fault
+pub front-stops : (bytes : List ℕ) (at : ℕ) {refusal fault : ℕ} → entries 1 at (drop at bytes) ≡ failed refusal fault → front at (drop at bytes) ≡ failed refusal fault
 front-stops bytes at h = labels_fail at (drop at bytes) h
 
-module _ (regions place : ℕ) {bytes : List ℕ} {at middle : ℕ} {labels : Part} {breach : Breach} (L : ListHeld (turns_fault regions place) 1 bytes at labels middle breach) where
-  pub front-stops-later : {fault : ℕ} → entries tallies_per_span middle (drop middle bytes) ≡ failed 14 fault → front at (drop at bytes) ≡ failed 14 fault
+module _ (regions place : ℕ) {bytes : List ℕ} {at middle : ℕ} {labels : Part} {breach : Option ℕ} (L : ListHeld (turns_fault regions place) 1 bytes at labels middle breach) where
+  pub front-stops-later : {refusal fault : ℕ} → entries tallies_per_span middle (drop middle bytes) ≡ failed refusal fault → front at (drop at bytes) ≡ failed refusal fault
   front-stops-later h = tallies_fail at (drop at bytes) L.same h
 
-  pub front-found : {tallies : Part} {next : ℕ} {none-broken : Breach} → ListHeld no_fault tallies_per_span bytes middle tallies next none-broken
+  pub front-found : {tallies : Part} {next : ℕ} {none-broken : Option ℕ} → ListHeld no_fault tallies_per_span bytes middle tallies next none-broken
       → FrontHeld regions place bytes at labels tallies next breach
   front-found T =
       record { for_labels = L.held; for_tallies = T.held; behind = T.behind; same = front_read at (drop at bytes) L.same T.same; broken = L.broken }
 
-pub back-stops : (bytes : List ℕ) (at : ℕ) {fault : ℕ} → entries numbers_per_pair at (drop at bytes) ≡ failed 14 fault → back at (drop at bytes) ≡ failed 14 fault
+pub back-stops : (bytes : List ℕ) (at : ℕ) {refusal fault : ℕ} → entries numbers_per_pair at (drop at bytes) ≡ failed refusal fault → back at (drop at bytes) ≡ failed refusal fault
 back-stops bytes at h = pairs_fail at (drop at bytes) h
 
-module _ {bytes : List ℕ} {at middle : ℕ} {pairs : Part} {first : Breach} (P : ListHeld (key_fault false) numbers_per_pair bytes at pairs middle first) where
-  pub back-stops-later : {fault : ℕ} → entries numbers_per_row middle (drop middle bytes) ≡ failed 14 fault → back at (drop at bytes) ≡ failed 14 fault
+module _ {bytes : List ℕ} {at middle : ℕ} {pairs : Part} {first : Option ℕ} (P : ListHeld (key_fault false) numbers_per_pair bytes at pairs middle first) where
+  pub back-stops-later : {refusal fault : ℕ} → entries numbers_per_row middle (drop middle bytes) ≡ failed refusal fault → back at (drop at bytes) ≡ failed refusal fault
   back-stops-later h = rows_fail at (drop at bytes) P.same h
 
-  module _ {rows : Part} {next : ℕ} {second : Breach} (R : ListHeld (key_fault true) numbers_per_row bytes middle rows next second) where
+  module _ {rows : Part} {next : ℕ} {second : Option ℕ} (R : ListHeld (key_fault true) numbers_per_row bytes middle rows next second) where
     pub back-too_long : next < length bytes → back at (drop at bytes) ≡ failed 14 next
     back-too_long h = bytes_left at (drop at bytes) P.same R.same (drop-cons bytes next 0 h)
 
-    pub back_found : {breach : Breach} → length bytes ≤ next → breach_of breach ≡ or_else (breach_of first) (breach_of second) → BackHeld bytes at pairs rows next breach
+    pub back_found : {breach : Option ℕ} → length bytes ≤ next → breach ≡ or_else first second → BackHeld bytes at pairs rows next breach
     back_found h b =
         record {
           for_pairs = P.held;
           for_rows = R.held;
           same = all_read at (drop at bytes) P.same R.same (drop_of_length-le bytes h);
-          broken = b ∙ ap (λ x. or_else x (breach_of second)) P.broken ∙ ap (or_else (ascent_fault pair_key (part_entries numbers_per_pair bytes pairs))) R.broken;
+          broken = b ∙ ap (λ x. or_else x second) P.broken ∙ ap (or_else (ascent_fault pair_key (part_entries numbers_per_pair bytes pairs))) R.broken;
         }
 
 -- ---- the sheet
@@ -160,9 +159,9 @@ module _ (bytes : List ℕ) where
       result-read m = ap reading (sym (in_parts 0 bytes) ∙ then_found _ h ∙ then_found _ k ∙ then_found _ m)
 
 -- all parts are found: the first breach decides
-pub result-told : {bytes : List ℕ} {regions place at middle next : ℕ} {labels tallies pairs rows : Part} {first second : Breach} (breach : Breach) {r : ResultRead}
+pub result-told : {bytes : List ℕ} {regions place at middle next : ℕ} {labels tallies pairs rows : Part} {first second : Option ℕ} (breach : Option ℕ) {r : Result Plan Refusal}
     → OpeningHeld bytes regions place at → FrontHeld regions place bytes at labels tallies middle first → BackHeld bytes middle pairs rows next second
-    → breach_of breach ≡ or_else (breach_of first) (breach_of second)
+    → breach ≡ or_else first second
     → r ≡ plan_by (record { regions = regions; labels = labels; tallies = tallies; pairs = pairs; rows = rows }) breach → ResultTold bytes r
 unfolding rules_fault placed_from
 result-told {bytes} {regions} {place} {labels = labels} {tallies = tallies} {pairs = pairs} {rows = rows} {first = first} {second = second} breach O F B e g =
@@ -185,16 +184,16 @@ result-told {bytes} {regions} {place} {labels = labels} {tallies = tallies} {pai
       rows = B.for_rows.flat i;
     }
 
-    broken : rules_fault there ≡ or_else (breach_of first) (breach_of second)
+    broken : rules_fault there ≡ or_else first second
     broken = λ i. or_else (sym F.broken i) (sym B.broken i)
 
-    told : read_result bytes ≡ judged_by (or_else (breach_of first) (breach_of second)) (result_in bytes plan)
+    told : read_result bytes ≡ judged_by (or_else first second) (result_in bytes plan)
     told = result-read bytes O.same F.same B.same ∙ (λ i. judged_by (broken i) (numbers i))
 
-    go : (b : Breach) → breach_of b ≡ or_else (breach_of first) (breach_of second) → ResultTold bytes (plan_by plan b)
-    go Nowhere e =
+    go : (b : Option ℕ) → b ≡ or_else first second → ResultTold bytes (plan_by plan b)
+    go None e =
         record {
           held = record { for_labels = F.for_labels; for_tallies = F.for_tallies; for_pairs = B.for_pairs; for_rows = B.for_rows };
           same = told ∙ ap (λ o. judged_by o (result_in bytes plan)) (sym e);
         }
-    go (At at) e = told ∙ ap (λ o. judged_by o (result_in bytes plan)) (sym e)
+    go (Some at) e = told ∙ ap (λ o. judged_by o (result_in bytes plan)) (sym e)

@@ -2,11 +2,17 @@
 use Rattle.std.specs.Prelude.{ℕ, ◌/◌, ◌≡◌, List, length}
 use Rattle.definitions.specs.Limits.{tallies_per_span, numbers_per_pair, numbers_per_row}
 use Rattle.results.specs.ResultAnswers.{ResultReading, well_formed, refused, read_verdict, at_exit}
+use Rattle.refusals.specs.declared.Refusal.{Refusal}
+use Rattle.refusals.specs.Refusals.{number_of}
 use Rattle.result_reader.specs.declared.Plan.{Plan}
 use Rattle.result_reader.specs.declared.ResultAnswer.{ResultAnswer}
 
 abbrev pub refused_at : ℕ → ℕ → ResultAnswer
 refused_at number place = record { number = number; place = place; regions = 0; labels = 0; spans = 0; pairs = 0; rows = 0 }
+
+-- the same of a refusal by its cause
+abbrev pub refused_by : Refusal → ResultAnswer
+refused_by refusal = refused_at (number_of refusal.cause) refusal.place
 
 -- "Success returns 0" (document 01); the region count and four counts of entries, or the refusal's number and place
 abbrev pub answer_of : ResultReading → ResultAnswer

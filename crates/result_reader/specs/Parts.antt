@@ -1,33 +1,27 @@
 -- The grammar of a result sheet in three parts, one behind the other, and what the functions on them answer. Assumes nothing.
 use Rattle.std.specs.Prelude.{ℕ, ◌*◌, ◌≤◌, ◌≡◌, Bool, ◌&&◌, List, [], ◌∷◌, length, drop, leb}
-use Rattle.std.specs.Prelude.{Option, None, Some}
+use Rattle.std.specs.Prelude.{Option, None, Some, Result, Ok, Err}
 use Rattle.definitions.specs.Limits.{tallies_per_span, numbers_per_pair, numbers_per_row}
 use Rattle.definitions.specs.Refusals.{or_else}
 use Rattle.definitions.specs.Scan.{concat_map}
 use Rattle.definitions.specs.SheetNumber.{found, failed, number}
 use Rattle.definitions.specs.Sheet.{Reader, give, ◌>>=◌, end}
 use Rattle.sheet.specs.Numbers.{values_at, Held}
-use Rattle.results.specs.Result.{Result, Entry, kind, entry, entries, turns, labels_fault, ascent_fault, pair_key, row_key}
+use Rattle.results.specs.Result as results
+use Rattle.results.specs.Result.{Entry, kind, entry, entries, turns, labels_fault, ascent_fault, pair_key, row_key}
 use Rattle.results.specs.ResultAnswers.{well_formed, refused, read_result}
 use Rattle.result_reader.specs.Walks.{entries_at, entries_of, key_in_lem}
-use Rattle.result_reader.specs.declared.Breach.{Breach}
-use Rattle.result_reader.specs.declared.Breach.TheVariants.{Nowhere, At}
+use Rattle.refusals.specs.declared.Refusal.{Refusal}
+use Rattle.refusals.specs.declared.Cause.TheVariants as cause
+use Rattle.refusals.specs.Refusals as refusals
+use Rattle.sheet.specs.declared.Found.{Found}
 use Rattle.result_reader.specs.declared.Part.{Part}
 use Rattle.result_reader.specs.declared.Plan.{Plan}
-use Rattle.result_reader.specs.declared.ListRead.{ListRead}
-use Rattle.result_reader.specs.declared.ListRead.TheVariants.{List as Listed, Fault as NoList}
-use Rattle.result_reader.specs.declared.OpeningRead.{OpeningRead}
-use Rattle.result_reader.specs.declared.OpeningRead.TheVariants.{Opening, Fault as NoOpening}
-use Rattle.result_reader.specs.declared.ListsRead.{ListsRead}
-use Rattle.result_reader.specs.declared.ListsRead.TheVariants.{Lists, Fault as NoLists}
-use Rattle.result_reader.specs.declared.ResultRead.{ResultRead}
-use Rattle.result_reader.specs.declared.ResultRead.TheVariants.{Sound, Refused}
+use Rattle.result_reader.specs.declared.List as answered
+use Rattle.result_reader.specs.declared.RegionCount.{RegionCount}
+use Rattle.result_reader.specs.declared.BothLists.{BothLists}
 
 -- ---- breaches
-
-abbrev pub breach_of : Breach → Option ℕ
-breach_of Nowhere = None
-breach_of (At place) = Some place
 
 -- what a rule says of a list of entries: of labels, of tallies, of pairs and rows
 abbrev pub turns_fault : ℕ → ℕ → List Entry → Option ℕ
@@ -53,15 +47,15 @@ pub record PartHeld (size : ℕ) (bytes : List ℕ) (part : Part) : Type 0 where
   pub held : Held number bytes part.first (part.count * size)
   pub flat : concat_map (λ e. e.numbers) (part_entries size bytes part) ≡ part_numbers size bytes part
 
-pub record ListHeld (fault : List Entry → Option ℕ) (size : ℕ) (bytes : List ℕ) (at : ℕ) (part : Part) (next : ℕ) (breach : Breach) : Type 0 where
+pub record ListHeld (fault : List Entry → Option ℕ) (size : ℕ) (bytes : List ℕ) (at : ℕ) (part : Part) (next : ℕ) (breach : Option ℕ) : Type 0 where
   pub held : PartHeld size bytes part
   pub behind : next ≤ length bytes
   pub same : entries size at (drop at bytes) ≡ found (part_entries size bytes part) next (drop next bytes)
-  pub broken : breach_of breach ≡ fault (part_entries size bytes part)
+  pub broken : breach ≡ fault (part_entries size bytes part)
 
-abbrev pub ListTold : (List Entry → Option ℕ) → ℕ → List ℕ → ℕ → ListRead → Type 0
-ListTold fault size bytes at (Listed part next breach) = ListHeld fault size bytes at part next breach
-ListTold fault size bytes at (NoList place) = entries size at (drop at bytes) ≡ failed 14 place
+abbrev pub ListTold : (List Entry → Option ℕ) → ℕ → List ℕ → ℕ → Result (Found answered.List) Refusal → Type 0
+ListTold fault size bytes at (Ok read) = ListHeld fault size bytes at read.value.part read.next read.value.breach
+ListTold fault size bytes at (Err refusal) = entries size at (drop at bytes) ≡ failed (refusals.number_of refusal.cause) refusal.place
 
 -- ---- the parts of a sheet
 
@@ -97,34 +91,34 @@ pub record OpeningHeld (bytes : List ℕ) (regions place next : ℕ) : Type 0 wh
   pub behind : next ≤ length bytes
   pub same : opening 0 bytes ≡ found (record { place = place; numbers = regions ∷ [] }) next (drop next bytes)
 
-abbrev pub OpeningTold : List ℕ → OpeningRead → Type 0
-OpeningTold bytes (Opening regions place next) = OpeningHeld bytes regions place next
-OpeningTold bytes (NoOpening place) = opening 0 bytes ≡ failed 14 place
+abbrev pub OpeningTold : List ℕ → Result (Found RegionCount) Refusal → Type 0
+OpeningTold bytes (Ok read) = OpeningHeld bytes read.value.regions read.value.place read.next
+OpeningTold bytes (Err refusal) = opening 0 bytes ≡ failed (refusals.number_of refusal.cause) refusal.place
 
-pub record FrontHeld (regions place : ℕ) (bytes : List ℕ) (at : ℕ) (labels tallies : Part) (next : ℕ) (breach : Breach) : Type 0 where
+pub record FrontHeld (regions place : ℕ) (bytes : List ℕ) (at : ℕ) (labels tallies : Part) (next : ℕ) (breach : Option ℕ) : Type 0 where
   pub for_labels : PartHeld 1 bytes labels
   pub for_tallies : PartHeld tallies_per_span bytes tallies
   pub behind : next ≤ length bytes
   pub same : front at (drop at bytes) ≡ found (record { first = part_entries 1 bytes labels; second = part_entries tallies_per_span bytes tallies }) next (drop next bytes)
-  pub broken : breach_of breach ≡ turns_fault regions place (part_entries 1 bytes labels)
+  pub broken : breach ≡ turns_fault regions place (part_entries 1 bytes labels)
 
-abbrev pub FrontTold : ℕ → ℕ → List ℕ → ℕ → ListsRead → Type 0
-FrontTold regions place bytes at (Lists labels tallies next breach) = FrontHeld regions place bytes at labels tallies next breach
-FrontTold regions place bytes at (NoLists fault) = front at (drop at bytes) ≡ failed 14 fault
+abbrev pub FrontTold : ℕ → ℕ → List ℕ → ℕ → Result (Found BothLists) Refusal → Type 0
+FrontTold regions place bytes at (Ok read) = FrontHeld regions place bytes at read.value.first read.value.second read.next read.value.breach
+FrontTold regions place bytes at (Err refusal) = front at (drop at bytes) ≡ failed (refusals.number_of refusal.cause) refusal.place
 
-pub record BackHeld (bytes : List ℕ) (at : ℕ) (pairs rows : Part) (next : ℕ) (breach : Breach) : Type 0 where
+pub record BackHeld (bytes : List ℕ) (at : ℕ) (pairs rows : Part) (next : ℕ) (breach : Option ℕ) : Type 0 where
   pub for_pairs : PartHeld numbers_per_pair bytes pairs
   pub for_rows : PartHeld numbers_per_row bytes rows
   pub same : back at (drop at bytes) ≡ found (record { first = part_entries numbers_per_pair bytes pairs; second = part_entries numbers_per_row bytes rows }) next []
-  pub broken : breach_of breach ≡ or_else (ascent_fault pair_key (part_entries numbers_per_pair bytes pairs)) (ascent_fault row_key (part_entries numbers_per_row bytes rows))
+  pub broken : breach ≡ or_else (ascent_fault pair_key (part_entries numbers_per_pair bytes pairs)) (ascent_fault row_key (part_entries numbers_per_row bytes rows))
 
-abbrev pub BackTold : List ℕ → ℕ → ListsRead → Type 0
-BackTold bytes at (Lists pairs rows next breach) = BackHeld bytes at pairs rows next breach
-BackTold bytes at (NoLists fault) = back at (drop at bytes) ≡ failed 14 fault
+abbrev pub BackTold : List ℕ → ℕ → Result (Found BothLists) Refusal → Type 0
+BackTold bytes at (Ok read) = BackHeld bytes at read.value.first read.value.second read.next read.value.breach
+BackTold bytes at (Err refusal) = back at (drop at bytes) ≡ failed (refusals.number_of refusal.cause) refusal.place
 
 -- ---- the sheet
 
-abbrev pub result_in : List ℕ → Plan → Result
+abbrev pub result_in : List ℕ → Plan → results.Result
 result_in bytes plan =
     record {
       regions = plan.regions;
@@ -134,9 +128,9 @@ result_in bytes plan =
       rows = part_numbers numbers_per_row bytes plan.rows;
     }
 
-abbrev pub plan_by : Plan → Breach → ResultRead
-plan_by plan Nowhere = Sound plan
-plan_by plan (At place) = Refused 15 place
+abbrev pub plan_by : Plan → Option ℕ → Result Plan Refusal
+plan_by plan None = Ok plan
+plan_by plan (Some place) = Err (record { cause = cause.ResultSheet; place = place })
 
 -- the lists stand where they were found: what is asked before they are stored
 pub record PlanHeld (bytes : List ℕ) (plan : Plan) : Type 0 where
@@ -149,9 +143,9 @@ pub record ResultHeld (bytes : List ℕ) (plan : Plan) : Type 0 where
   pub held : PlanHeld bytes plan
   pub same : read_result bytes ≡ well_formed (result_in bytes plan)
 
-abbrev pub ResultTold : List ℕ → ResultRead → Type 0
-ResultTold bytes (Sound plan) = ResultHeld bytes plan
-ResultTold bytes (Refused refusal place) = read_result bytes ≡ refused refusal place
+abbrev pub ResultTold : List ℕ → Result Plan Refusal → Type 0
+ResultTold bytes (Ok plan) = ResultHeld bytes plan
+ResultTold bytes (Err refusal) = read_result bytes ≡ refused (refusals.number_of refusal.cause) refusal.place
 
 -- lists of these lengths have room for all of it
 abbrev pub room_in : Plan → ℕ → ℕ → ℕ → ℕ → Bool

@@ -4,81 +4,63 @@
 
 #![tactic(auto)]
 
-ghost use Rattle.std.specs.Prelude.{◌≡◌, true, false, [], ℕ, ◌*◌, ◌≤◌, length, drop};
+ghost use Rattle.std.specs.Prelude.{◌≡◌, true, false, [], ℕ, ◌*◌, ◌≤◌, length, drop, None, Ok, Err};
 ghost use Rattle.definitions.specs.Limits.{tallies_per_span, numbers_per_pair, numbers_per_row};
 ghost use Rattle.definitions.specs.Lists.{overwrite};
 ghost use Rattle.definitions.specs.Refusals.{or_else};
 ghost use Rattle.definitions.specs.SheetNumber.{number};
 ghost use Rattle.definitions.specs.Sheet.{times};
 ghost use Rattle.definitions.specs.Sort.{list_lt};
-ghost use Rattle.sheet.specs.Numbers.{items_at, Told};
+ghost use Rattle.sheet.specs.Numbers.{read_of, items_at, Told};
 ghost use Rattle.results.specs.Result.{labels_fault};
-ghost use Rattle.result_reader.specs.Walks.{turns_from, turns_walk, Walks};
-ghost use Rattle.result_reader.specs.Walks.{key_tail, key_numbers, key_size, two_of, key_of, ascent_of, ascent_from, ascent_walk};
-ghost use Rattle.result_reader.specs.Parts.{breach_of, turns_fault, no_fault, key_fault, ListTold, OpeningTold, FrontTold, BackTold, ResultTold};
+ghost use Rattle.result_reader.specs.Walks.{turns_from, Walks};
+ghost use Rattle.result_reader.specs.Walks.{key_tail, key_numbers, key_size, key_of, ascent_of, ascent_from};
+ghost use Rattle.result_reader.specs.Parts.{turns_fault, no_fault, key_fault, ListTold, OpeningTold, FrontTold, BackTold, ResultTold};
 ghost use Rattle.result_reader.specs.Parts.{plan_by, PlanHeld, PartHeld, part_numbers, room_in, Room};
-ghost use Rattle.result_reader.specs.declared.Turned.TheVariants.{Started, OutAt};
-ghost use Rattle.result_reader.specs.declared.Ascent.TheVariants.{Empty};
-ghost use Rattle.result_reader.specs.Contract.{answer_in, refused_at, Reads};
+ghost use Rattle.result_reader.specs.Contract.{answer_in, refused_by, Reads};
 
-use result_writer::{Turn, after_label, is_before};
-use sheet::{ItemRead, Judged, fill_numbers, item, judge};
+use refusals::{Cause, Refusal};
+use result_writer::{after_label, is_before};
+use sheet::{Found, fill_numbers, item, judge};
 
 const MOST: u64 = 0xffff_ffff_ffff_ffff;
 
 // ---- labels
 
 // How many numbers are started along the labels; or the place of the first label out of turn.
-#[derive(Clone, Copy)]
-pub enum Turned {
-    Started(u64),
-    OutAt(usize),
-}
-
-// The offset behind the labels and how far they are in turn; or the place where the sheet is refused 14.
-#[derive(Clone, Copy)]
-pub enum TurnsRead {
-    Turns(usize, Turned),
-    Fault(usize),
-}
+type Turned = Result<u64, usize>;
 
 // Walks `count` labels behind one that is out of turn: no rule is asked of them.
-fn walk_behind(bytes: &[u8], at: usize, count: u64, place: usize) -> TurnsRead
+fn walk_behind(bytes: &[u8], at: usize, count: u64, place: usize) -> Result<Found<Turned>, Refusal>
     requires { at ≤ length bytes.now }
-    ensures { (regions : ℕ) → Walks (turns_from regions) 1 bytes.now (OutAt place) at count (turns_walk result) }
+    ensures { (regions : ℕ) → Walks (turns_from regions) 1 bytes.now (Err place) at count result }
 {
-    match judge(bytes, at, count as usize, MOST) {
-        Judged::Behind(next) => TurnsRead::Turns(next, Turned::OutAt(place)),
-        Judged::Faulty(fault) => TurnsRead::Fault(fault),
-    }
+    let next = judge(bytes, at, count as usize, MOST)?;
+    Ok(Found {
+        value: Err(place),
+        next,
+    })
 }
 
 // Walks `count` labels.
-fn walk_labels(bytes: &[u8], at: usize, count: u64, regions: u64) -> TurnsRead
+fn walk_labels(bytes: &[u8], at: usize, count: u64, regions: u64) -> Result<Found<Turned>, Refusal>
     requires { at ≤ length bytes.now }
-    ensures { Walks (turns_from regions) 1 bytes.now (Started 0) at count (turns_walk result) }
+    ensures { Walks (turns_from regions) 1 bytes.now (Ok 0) at count result }
 {
     let mut next = at;
-    let mut left = count;
     let mut started: u64 = 0;
-    while 0 < left {
-        left -= 1;
-        match item(bytes, next, MOST) {
-            ItemRead::Item(label, behind) => match after_label(regions, started, label) {
-                Turn::Started(n) => {
-                    started = n;
-                    next = behind;
-                }
-                Turn::Out => {
-                    return walk_behind(bytes, behind, left, next);
-                }
-            },
-            ItemRead::Fault(place) => {
-                return TurnsRead::Fault(place);
-            }
-        }
+    for i in 0..count {
+        let label = item(bytes, next, MOST)?;
+        let Some(n) = after_label(regions, started, label.value) else {
+            return walk_behind(bytes, label.next, count - (i + 1), next);
+        };
+        started = n;
+        next = label.next;
     }
-    TurnsRead::Turns(next, Turned::Started(started))
+    Ok(Found {
+        value: Ok(started),
+        next,
+    })
 }
 
 // ---- pairs and rows
@@ -93,69 +75,53 @@ pub struct Key {
     e: u64,
 }
 
-// Two numbers and the offset behind them; or the place where the sheet is refused 14.
-#[derive(Clone, Copy)]
-pub enum TwoRead {
-    Two(u64, u64, usize),
-    Fault(usize),
-}
-
-fn two(bytes: &[u8], at: usize) -> TwoRead
+fn two(bytes: &[u8], at: usize) -> Result<Found<[u64; 2]>, Refusal>
     requires { at ≤ length bytes.now }
-    ensures { times 2 number at (drop at bytes.now) ≡ two_of bytes.now result }
+    ensures { times 2 number at (drop at bytes.now) ≡ read_of bytes.now result }
 {
-    match item(bytes, at, MOST) {
-        ItemRead::Item(a, then) => match item(bytes, then, MOST) {
-            ItemRead::Item(b, next) => TwoRead::Two(a, b, next),
-            ItemRead::Fault(place) => TwoRead::Fault(place),
-        },
-        ItemRead::Fault(place) => TwoRead::Fault(place),
-    }
+    let a = item(bytes, at, MOST)?;
+    let b = item(bytes, a.next, MOST)?;
+    Ok(Found {
+        value: [a.value, b.value],
+        next: b.next,
+    })
 }
 
-// The key of an entry and the offset behind it; or the place where the sheet is refused 14.
-#[derive(Clone, Copy)]
-pub enum KeyRead {
-    Entry(Key, usize),
-    Fault(usize),
-}
-
-fn pair(bytes: &[u8], at: usize) -> KeyRead
+fn pair(bytes: &[u8], at: usize) -> Result<Found<Key>, Refusal>
     requires { at ≤ length bytes.now }
     ensures { times numbers_per_pair number at (drop at bytes.now) ≡ key_of false bytes.now result }
 {
-    match item(bytes, at, MOST) {
-        ItemRead::Item(a, then) => match two(bytes, then) {
-            TwoRead::Two(b, c, next) => KeyRead::Entry(
-                Key {
-                    a,
-                    b,
-                    c,
-                    d: 0,
-                    e: 0,
-                },
-                next,
-            ),
-            TwoRead::Fault(place) => KeyRead::Fault(place),
+    let front = item(bytes, at, MOST)?;
+    let back = two(bytes, front.next)?;
+    Ok(Found {
+        value: Key {
+            a: front.value,
+            b: back.value[0],
+            c: back.value[1],
+            d: 0,
+            e: 0,
         },
-        ItemRead::Fault(place) => KeyRead::Fault(place),
-    }
+        next: back.next,
+    })
 }
 
-fn row(bytes: &[u8], at: usize) -> KeyRead
+fn row(bytes: &[u8], at: usize) -> Result<Found<Key>, Refusal>
     requires { at ≤ length bytes.now }
     ensures { times numbers_per_row number at (drop at bytes.now) ≡ key_of true bytes.now result }
 {
-    match item(bytes, at, MOST) {
-        ItemRead::Item(e, then) => match two(bytes, then) {
-            TwoRead::Two(a, b, middle) => match two(bytes, middle) {
-                TwoRead::Two(c, d, next) => KeyRead::Entry(Key { a, b, c, d, e }, next),
-                TwoRead::Fault(place) => KeyRead::Fault(place),
-            },
-            TwoRead::Fault(place) => KeyRead::Fault(place),
+    let front = item(bytes, at, MOST)?;
+    let middle = two(bytes, front.next)?;
+    let back = two(bytes, middle.next)?;
+    Ok(Found {
+        value: Key {
+            a: middle.value[0],
+            b: middle.value[1],
+            c: back.value[0],
+            d: back.value[1],
+            e: front.value,
         },
-        ItemRead::Fault(place) => KeyRead::Fault(place),
-    }
+        next: back.next,
+    })
 }
 
 // The last two numbers of rows; pair rows have none.
@@ -178,32 +144,24 @@ fn ascends(rows: bool, last: Key, key: Key) -> bool
     is_before(last.a, key.a, b)
 }
 
-// No entry yet; or the key of the last one, all in order; or the place of the first that is not above the one before it.
-#[derive(Clone, Copy)]
-pub enum Ascent {
-    Empty,
-    Last(Key),
-    BrokenAt(usize),
-}
+// The key of the last entry, if there is one yet, all in order; or the place of the first that is not above the one before it.
+type Ascent = Result<Option<Key>, usize>;
 
 // One entry more, at this place.
 fn climb(rows: bool, state: Ascent, key: Key, place: usize) -> Ascent
     ensures { result ≡ ascent_of rows state key place }
 {
-    match state {
-        Ascent::Empty => Ascent::Last(key),
-        Ascent::Last(last) => {
-            if ascends(rows, last, key) {
-                Ascent::Last(key)
-            } else {
-                Ascent::BrokenAt(place)
-            }
-        }
-        Ascent::BrokenAt(first) => Ascent::BrokenAt(first),
+    let Some(last) = state? else {
+        return Ok(Some(key));
+    };
+    if ascends(rows, last, key) {
+        Ok(Some(key))
+    } else {
+        Err(place)
     }
 }
 
-fn key_at(rows: bool, bytes: &[u8], at: usize) -> KeyRead
+fn key_at(rows: bool, bytes: &[u8], at: usize) -> Result<Found<Key>, Refusal>
     requires { at ≤ length bytes.now }
     ensures { times (key_size rows) number at (drop at bytes.now) ≡ key_of rows bytes.now result }
 {
@@ -213,77 +171,30 @@ fn key_at(rows: bool, bytes: &[u8], at: usize) -> KeyRead
     pair(bytes, at)
 }
 
-// The offset behind the entries and how far they ascend; or the place where the sheet is refused 14.
-#[derive(Clone, Copy)]
-pub enum AscentRead {
-    Climbed(usize, Ascent),
-    Fault(usize),
-}
-
 // Walks `count` entries: rows, or pair rows.
-fn walk_keys(rows: bool, bytes: &[u8], at: usize, count: u64) -> AscentRead
+fn walk_keys(rows: bool, bytes: &[u8], at: usize, count: u64) -> Result<Found<Ascent>, Refusal>
     requires { at ≤ length bytes.now }
-    ensures { Walks (ascent_from rows) (key_size rows) bytes.now Empty at count (ascent_walk result) }
+    ensures { Walks (ascent_from rows) (key_size rows) bytes.now (Ok None) at count result }
 {
     let mut next = at;
-    let mut left = count;
-    let mut state = Ascent::Empty;
-    while 0 < left {
-        left -= 1;
-        match key_at(rows, bytes, next) {
-            KeyRead::Entry(key, behind) => {
-                state = climb(rows, state, key, next);
-                next = behind;
-            }
-            KeyRead::Fault(place) => {
-                return AscentRead::Fault(place);
-            }
-        }
+    let mut state: Ascent = Ok(None);
+    for _ in 0..count {
+        let key = key_at(rows, bytes, next)?;
+        state = climb(rows, state, key.value, next);
+        next = key.next;
     }
-    AscentRead::Climbed(next, state)
+    Ok(Found { value: state, next })
 }
 
 // ---- the lists
 
-// The first place that breaks a rule, if there is one.
-#[derive(Clone, Copy)]
-pub enum Breach {
-    Nowhere,
-    At(usize),
-}
-
-// Labels in turn that do not reach the region count break the rule at its place.
-fn turns_breach(state: Turned, regions: u64, place: usize) -> Breach
-    ensures { breach_of result ≡ labels_fault regions place (turns_from regions state []) }
+// The first label that breaks the rule: labels in turn that do not reach the region count break it at its place.
+fn turns_breach(state: Turned, regions: u64, place: usize) -> Option<usize>
+    ensures { result ≡ labels_fault regions place (turns_from regions state []) }
 {
     match state {
-        Turned::Started(n) => {
-            if n == regions {
-                Breach::Nowhere
-            } else {
-                Breach::At(place)
-            }
-        }
-        Turned::OutAt(first) => Breach::At(first),
-    }
-}
-
-fn ascent_breach(rows: bool, state: Ascent) -> Breach
-    ensures { breach_of result ≡ ascent_from rows state [] }
-{
-    match state {
-        Ascent::Empty => Breach::Nowhere,
-        Ascent::Last(_) => Breach::Nowhere,
-        Ascent::BrokenAt(place) => Breach::At(place),
-    }
-}
-
-fn first_breach(a: Breach, b: Breach) -> Breach
-    ensures { breach_of result ≡ or_else (breach_of a) (breach_of b) }
-{
-    match a {
-        Breach::Nowhere => b,
-        Breach::At(place) => Breach::At(place),
+        Ok(started) => (started != regions).then_some(place),
+        Err(first) => Some(first),
     }
 }
 
@@ -294,156 +205,158 @@ pub struct Part {
     count: usize,
 }
 
-// A list, the offset behind it and its first breach; or the place where the sheet is refused 14.
+// A list, and the first place that breaks its rule, if there is one.
 #[derive(Clone, Copy)]
-pub enum ListRead {
-    List(Part, usize, Breach),
-    Fault(usize),
+pub struct List {
+    part: Part,
+    breach: Option<usize>,
 }
 
 // The labels behind their count; the region count stands at `place`.
-fn labels_list(bytes: &[u8], at: usize, regions: u64, place: usize) -> ListRead
+fn labels_list(bytes: &[u8], at: usize, regions: u64, place: usize) -> Result<Found<List>, Refusal>
     requires { at ≤ length bytes.now }
     ensures { ListTold (turns_fault regions place) 1 bytes.now at result }
 {
-    match item(bytes, at, MOST) {
-        ItemRead::Item(count, first) => match walk_labels(bytes, first, count, regions) {
-            TurnsRead::Turns(next, state) => ListRead::List(
-                Part {
-                    first,
-                    count: count as usize,
-                },
-                next,
-                turns_breach(state, regions, place),
-            ),
-            TurnsRead::Fault(fault) => ListRead::Fault(fault),
+    let count = item(bytes, at, MOST)?;
+    let labels = walk_labels(bytes, count.next, count.value, regions)?;
+    Ok(Found {
+        value: List {
+            part: Part {
+                first: count.next,
+                count: count.value as usize,
+            },
+            breach: turns_breach(labels.value, regions, place),
         },
-        ItemRead::Fault(fault) => ListRead::Fault(fault),
-    }
+        next: labels.next,
+    })
 }
 
 // As many numbers twice: the tallies of `count` spans.
-fn judge_twice(bytes: &[u8], at: usize, count: usize) -> Judged
+fn judge_twice(bytes: &[u8], at: usize, count: usize) -> Result<usize, Refusal>
     requires { at ≤ length bytes.now }
     ensures { Told bytes.now (items_at number bytes.now at (count * tallies_per_span)) result }
 {
-    match judge(bytes, at, count, MOST) {
-        Judged::Behind(middle) => judge(bytes, middle, count, MOST),
-        Judged::Faulty(place) => Judged::Faulty(place),
-    }
+    let middle = judge(bytes, at, count, MOST)?;
+    judge(bytes, middle, count, MOST)
 }
 
 // The tallies behind their count. They break no rule.
-fn tallies_list(bytes: &[u8], at: usize) -> ListRead
+fn tallies_list(bytes: &[u8], at: usize) -> Result<Found<List>, Refusal>
     requires { at ≤ length bytes.now }
     ensures { ListTold no_fault tallies_per_span bytes.now at result }
 {
-    match item(bytes, at, MOST) {
-        ItemRead::Item(count, first) => match judge_twice(bytes, first, count as usize) {
-            Judged::Behind(next) => ListRead::List(
-                Part {
-                    first,
-                    count: count as usize,
-                },
-                next,
-                Breach::Nowhere,
-            ),
-            Judged::Faulty(place) => ListRead::Fault(place),
+    let count = item(bytes, at, MOST)?;
+    let next = judge_twice(bytes, count.next, count.value as usize)?;
+    Ok(Found {
+        value: List {
+            part: Part {
+                first: count.next,
+                count: count.value as usize,
+            },
+            breach: None,
         },
-        ItemRead::Fault(place) => ListRead::Fault(place),
-    }
+        next,
+    })
 }
 
 // Rows, or pair rows, behind their count.
-fn keys_list(rows: bool, bytes: &[u8], at: usize) -> ListRead
+fn keys_list(rows: bool, bytes: &[u8], at: usize) -> Result<Found<List>, Refusal>
     requires { at ≤ length bytes.now }
     ensures { ListTold (key_fault rows) (key_size rows) bytes.now at result }
 {
-    match item(bytes, at, MOST) {
-        ItemRead::Item(count, first) => match walk_keys(rows, bytes, first, count) {
-            AscentRead::Climbed(next, state) => ListRead::List(
-                Part {
-                    first,
-                    count: count as usize,
-                },
-                next,
-                ascent_breach(rows, state),
-            ),
-            AscentRead::Fault(place) => ListRead::Fault(place),
+    let count = item(bytes, at, MOST)?;
+    let keys = walk_keys(rows, bytes, count.next, count.value)?;
+    Ok(Found {
+        value: List {
+            part: Part {
+                first: count.next,
+                count: count.value as usize,
+            },
+            breach: keys.value.err(),
         },
-        ItemRead::Fault(place) => ListRead::Fault(place),
-    }
+        next: keys.next,
+    })
 }
 
 // ---- the sheet
 
-// The region count, its place, and the offset behind it; or the place where the sheet is refused 14.
+// The region count and its place.
 #[derive(Clone, Copy)]
-pub enum OpeningRead {
-    Opening(u64, usize, usize),
-    Fault(usize),
+pub struct RegionCount {
+    regions: u64,
+    place: usize,
 }
 
 const KIND: u64 = 2;
 
 // The kind, which is to be 2, and the region count.
-fn opening(bytes: &[u8]) -> OpeningRead
+fn opening(bytes: &[u8]) -> Result<Found<RegionCount>, Refusal>
     ensures { OpeningTold bytes.now result }
 {
-    match item(bytes, 0, MOST) {
-        ItemRead::Item(kind, place) => {
-            if kind == KIND {
-                match item(bytes, place, MOST) {
-                    ItemRead::Item(regions, next) => OpeningRead::Opening(regions, place, next),
-                    ItemRead::Fault(fault) => OpeningRead::Fault(fault),
-                }
-            } else {
-                OpeningRead::Fault(0)
-            }
-        }
-        ItemRead::Fault(fault) => OpeningRead::Fault(fault),
+    let kind = item(bytes, 0, MOST)?;
+    if kind.value != KIND {
+        return Err(Refusal {
+            cause: Cause::Sheet,
+            place: 0,
+        });
     }
+    let place = kind.next;
+    let regions = item(bytes, place, MOST)?;
+    Ok(Found {
+        value: RegionCount {
+            regions: regions.value,
+            place,
+        },
+        next: regions.next,
+    })
 }
 
-// Two lists, the offset behind them and their first breach; or the place where the sheet is refused 14.
+// Two lists, and the first place that breaks a rule of theirs, if there is one.
 #[derive(Clone, Copy)]
-pub enum ListsRead {
-    Lists(Part, Part, usize, Breach),
-    Fault(usize),
+pub struct BothLists {
+    first: Part,
+    second: Part,
+    breach: Option<usize>,
 }
 
 // Labels and tallies.
-fn front(bytes: &[u8], at: usize, regions: u64, place: usize) -> ListsRead
+fn front(bytes: &[u8], at: usize, regions: u64, place: usize) -> Result<Found<BothLists>, Refusal>
     requires { at ≤ length bytes.now }
     ensures { FrontTold regions place bytes.now at result }
 {
-    match labels_list(bytes, at, regions, place) {
-        ListRead::List(labels, middle, breach) => match tallies_list(bytes, middle) {
-            ListRead::List(tallies, next, _) => ListsRead::Lists(labels, tallies, next, breach),
-            ListRead::Fault(fault) => ListsRead::Fault(fault),
+    let labels = labels_list(bytes, at, regions, place)?;
+    let tallies = tallies_list(bytes, labels.next)?;
+    Ok(Found {
+        value: BothLists {
+            first: labels.value.part,
+            second: tallies.value.part,
+            breach: labels.value.breach,
         },
-        ListRead::Fault(fault) => ListsRead::Fault(fault),
-    }
+        next: tallies.next,
+    })
 }
 
 // Pairs and rows, and the end of the bytes behind them.
-fn back(bytes: &[u8], at: usize) -> ListsRead
+fn back(bytes: &[u8], at: usize) -> Result<Found<BothLists>, Refusal>
     requires { at ≤ length bytes.now }
     ensures { BackTold bytes.now at result }
 {
-    match keys_list(false, bytes, at) {
-        ListRead::List(pairs, middle, first) => match keys_list(true, bytes, middle) {
-            ListRead::List(rows, next, second) => {
-                if next < bytes.len() {
-                    ListsRead::Fault(next)
-                } else {
-                    ListsRead::Lists(pairs, rows, next, first_breach(first, second))
-                }
-            }
-            ListRead::Fault(fault) => ListsRead::Fault(fault),
-        },
-        ListRead::Fault(fault) => ListsRead::Fault(fault),
+    let pairs = keys_list(false, bytes, at)?;
+    let rows = keys_list(true, bytes, pairs.next)?;
+    if rows.next < bytes.len() {
+        return Err(Refusal {
+            cause: Cause::Sheet,
+            place: rows.next,
+        });
     }
+    Ok(Found {
+        value: BothLists {
+            first: pairs.value.part,
+            second: rows.value.part,
+            breach: pairs.value.breach.or(rows.value.breach),
+        },
+        next: rows.next,
+    })
 }
 
 // What was found by judging: the region count, and where the lists stand.
@@ -456,45 +369,35 @@ pub struct Plan {
     rows: Part,
 }
 
-// A plan; or the refusal.
-#[derive(Clone, Copy)]
-pub enum ResultRead {
-    Sound(Plan),
-    Refused(u64, usize),
-}
-
-fn judged(plan: Plan, breach: Breach) -> ResultRead
+// The plan, unless a rule is broken.
+fn judged(plan: Plan, breach: Option<usize>) -> Result<Plan, Refusal>
     ensures { result ≡ plan_by plan breach }
 {
     match breach {
-        Breach::Nowhere => ResultRead::Sound(plan),
-        Breach::At(place) => ResultRead::Refused(15, place),
+        None => Ok(plan),
+        Some(place) => Err(Refusal {
+            cause: Cause::ResultSheet,
+            place,
+        }),
     }
 }
 
 // Judges the whole of the bytes.
-fn judge_result(bytes: &[u8]) -> ResultRead
+fn judge_result(bytes: &[u8]) -> Result<Plan, Refusal>
     ensures { ResultTold bytes.now result }
 {
-    match opening(bytes) {
-        OpeningRead::Opening(regions, place, at) => match front(bytes, at, regions, place) {
-            ListsRead::Lists(labels, tallies, middle, first) => match back(bytes, middle) {
-                ListsRead::Lists(pairs, rows, _, second) => judged(
-                    Plan {
-                        regions,
-                        labels,
-                        tallies,
-                        pairs,
-                        rows,
-                    },
-                    first_breach(first, second),
-                ),
-                ListsRead::Fault(fault) => ResultRead::Refused(14, fault),
-            },
-            ListsRead::Fault(fault) => ResultRead::Refused(14, fault),
-        },
-        OpeningRead::Fault(fault) => ResultRead::Refused(14, fault),
-    }
+    let opening = opening(bytes)?;
+    let RegionCount { regions, place } = opening.value;
+    let front = front(bytes, opening.next, regions, place)?;
+    let back = back(bytes, front.next)?;
+    let plan = Plan {
+        regions,
+        labels: front.value.first,
+        tallies: front.value.second,
+        pairs: back.value.first,
+        rows: back.value.second,
+    };
+    judged(plan, front.value.breach.or(back.value.breach))
 }
 
 // ---- reading
@@ -511,20 +414,10 @@ const ROW_SIZE: usize = 5;
 fn fits(plan: Plan, labels: usize, tallies: usize, pairs: usize, rows: usize) -> bool
     ensures { result ≡ room_in plan labels tallies pairs rows }
 {
-    let a = plan.labels;
-    let b = plan.tallies;
-    let c = plan.pairs;
-    let d = plan.rows;
-    if labels < a.count {
-        return false;
-    }
-    if tallies / TALLIES_SIZE < b.count {
-        return false;
-    }
-    if pairs / PAIR_SIZE < c.count {
-        return false;
-    }
-    d.count <= rows / ROW_SIZE
+    plan.labels.count <= labels
+        && plan.tallies.count <= tallies / TALLIES_SIZE
+        && plan.pairs.count <= pairs / PAIR_SIZE
+        && plan.rows.count <= rows / ROW_SIZE
 }
 
 // Stores the numbers of a list that was judged before, `size` of them an entry.
@@ -551,14 +444,10 @@ fn fill(
     ensures pairs { pairs.new ≡ overwrite (part_numbers numbers_per_pair bytes.now plan.pairs) pairs.old }
     ensures rows { rows.new ≡ overwrite (part_numbers numbers_per_row bytes.now plan.rows) rows.old }
 {
-    let a = plan.labels;
-    let b = plan.tallies;
-    let c = plan.pairs;
-    let d = plan.rows;
-    fill_list(bytes, a, LABEL_SIZE, &mut *labels);
-    fill_list(bytes, b, TALLIES_SIZE, &mut *tallies);
-    fill_list(bytes, c, PAIR_SIZE, &mut *pairs);
-    fill_list(bytes, d, ROW_SIZE, &mut *rows);
+    fill_list(bytes, plan.labels, LABEL_SIZE, &mut *labels);
+    fill_list(bytes, plan.tallies, TALLIES_SIZE, &mut *tallies);
+    fill_list(bytes, plan.pairs, PAIR_SIZE, &mut *pairs);
+    fill_list(bytes, plan.rows, ROW_SIZE, &mut *rows);
 }
 
 // Number 0, place 0, the region count and four counts of entries; or a refusal's number and place, and 0 for the rest.
@@ -577,27 +466,23 @@ pub struct ResultAnswer {
 fn opened(plan: Plan) -> ResultAnswer
     ensures { result ≡ answer_in plan }
 {
-    let a = plan.labels;
-    let b = plan.tallies;
-    let c = plan.pairs;
-    let d = plan.rows;
     ResultAnswer {
         number: 0,
         place: 0,
         regions: plan.regions,
-        labels: a.count as u64,
-        spans: b.count as u64,
-        pairs: c.count as u64,
-        rows: d.count as u64,
+        labels: plan.labels.count as u64,
+        spans: plan.tallies.count as u64,
+        pairs: plan.pairs.count as u64,
+        rows: plan.rows.count as u64,
     }
 }
 
-fn refused(number: u64, place: usize) -> ResultAnswer
-    ensures { result ≡ refused_at number place }
+fn refused(refusal: Refusal) -> ResultAnswer
+    ensures { result ≡ refused_by refusal }
 {
     ResultAnswer {
-        number,
-        place: place as u64,
+        number: refusal.cause.number(),
+        place: refusal.place as u64,
         regions: 0,
         labels: 0,
         spans: 0,
@@ -618,7 +503,7 @@ pub fn result_reader_read_result(
         labels.new tallies.new pairs.new rows.new }
 {
     match judge_result(bytes) {
-        ResultRead::Sound(plan) => {
+        Ok(plan) => {
             if fits(plan, labels.len(), tallies.len(), pairs.len(), rows.len()) {
                 fill(
                     bytes,
@@ -630,9 +515,12 @@ pub fn result_reader_read_result(
                 );
                 opened(plan)
             } else {
-                refused(10, 0)
+                refused(Refusal {
+                    cause: Cause::Room,
+                    place: 0,
+                })
             }
         }
-        ResultRead::Refused(number, place) => refused(number, place),
+        Err(refusal) => refused(refusal),
     }
 }

@@ -18,8 +18,7 @@ use Rattle.results.specs.ShortestSteps.{one_group, more_groups}
 use Rattle.results.specs.Result.{Result}
 use Rattle.results.specs.ResultAnswers.{result_bytes}
 use Rattle.result_writer.specs.Contract.{spent}
-use Rattle.result_writer.specs.declared.Room.{Room}
-use Rattle.result_writer.specs.declared.Room.TheVariants.{Left, Short}
+use Rattle.std.specs.Prelude.{Option, None, Some, SomeIff, is_some}
 
 -- ---- one number
 
@@ -49,17 +48,17 @@ module _ {n left count : ℕ} (C : CountingGroups n left count) where
 
 -- ---- what is taken from a room
 
-spent-twice : (room : Room) (a b : ℕ) → spent (spent room a) b ≡ spent room (a + b)
+spent-twice : (room : Option ℕ) (a b : ℕ) → spent (spent room a) b ≡ spent room (a + b)
 unfolding spent
-spent-twice Short a b = refl
-spent-twice (Left l) a b = go (leb a l) refl (leb b (l - a)) refl
+spent-twice None a b = refl
+spent-twice (Some l) a b = go (leb a l) refl (leb b (l - a)) refl
   where
-    go : (t : Bool) → leb a l ≡ t → (u : Bool) → leb b (l - a) ≡ u → spent (cond t (Left (l - a)) Short) b ≡ cond (leb (a + b) l) (Left (l - (a + b))) Short
+    go : (t : Bool) → leb a l ≡ t → (u : Bool) → leb b (l - a) ≡ u → spent (cond t (Some (l - a)) None) b ≡ cond (leb (a + b) l) (Some (l - (a + b))) None
     go true e true f =
         let x : a ≤ l = leb-true a l e in
         let y : b ≤ l - a = leb-true b (l - a) f in
         let z : l - a - b ≡ l - (a + b) = omega arith in
-        rw (f, le-leb (a + b) l (omega arith)) (ap Left z)
+        rw (f, le-leb (a + b) l (omega arith)) (ap Some z)
     go true e false f =
         let x : a ≤ l = leb-true a l e in
         let y : l - a < b = leb-false b (l - a) f in
@@ -68,30 +67,37 @@ spent-twice (Left l) a b = go (leb a l) refl (leb b (l - a)) refl
         let x : l < a = leb-false a l e in
         rw (lt-leb (a + b) l (omega arith)) refl
 
-pub spent-then : (room : Room) (a b : ℕ) {r s : Room} → r ≡ spent room a → s ≡ spent r b → s ≡ spent room (a + b)
+pub spent-then : (room : Option ℕ) (a b : ℕ) {r s : Option ℕ} → r ≡ spent room a → s ≡ spent r b → s ≡ spent room (a + b)
 spent-then room a b e f = f ∙ ap (λ r. spent r b) e ∙ spent-twice room a b
 
-pub spent_none : {room : Room} (size : ℕ) → room ≡ Short → Short ≡ spent room size
+pub spent_none : {room : Option ℕ} (size : ℕ) → room ≡ None → None ≡ spent room size
 unfolding spent
 spent_none size e = sym (ap (λ r. spent r size) e)
 
-pub spent-short : {room : Room} {left size : ℕ} (n : ℕ) → room ≡ Left left → size ≡ n → left < size → Short ≡ spent room n
+pub spent-short : {room : Option ℕ} {left size : ℕ} (n : ℕ) → room ≡ Some left → size ≡ n → left < size → None ≡ spent room n
 unfolding spent
 spent-short {room} {left} n e s h =
     let few : left < n = omega arith in
     sym (ap (λ r. spent r n) e ∙ short few)
   where
-    short : left < n → spent (Left left) n ≡ Short
+    short : left < n → spent (Some left) n ≡ None
     short h = rw (lt-leb n left h) refl
 
-pub spent-left : {room : Room} {left size : ℕ} (n : ℕ) → room ≡ Left left → size ≡ n → size ≤ left → Left (left - size) ≡ spent room n
+pub spent-left : {room : Option ℕ} {left size : ℕ} (n : ℕ) → room ≡ Some left → size ≡ n → size ≤ left → Some (left - size) ≡ spent room n
 unfolding spent
 spent-left {room} {left} n e s h =
     let enough : n ≤ left = omega arith in
-    ap (λ k. Left (left - k)) s ∙ sym (ap (λ r. spent r n) e ∙ some enough)
+    ap (λ k. Some (left - k)) s ∙ sym (ap (λ r. spent r n) e ∙ some enough)
   where
-    some : n ≤ left → spent (Left left) n ≡ Left (left - n)
+    some : n ≤ left → spent (Some left) n ≡ Some (left - n)
     some h = rw (le-leb n left h) refl
+
+-- what a subtraction leaves, if it leaves anything
+pub spent-known : {room : Option ℕ} {left size : ℕ} (r : Option ℕ) (n : ℕ) → room ≡ Some left → size ≡ n → SomeIff r (size ≤ left) (left - size) → r ≡ spent room n
+spent-known {left = left} {size = size} None n e s h =
+    let short : left < size = omega (arith, h) in
+    spent-short n e s short
+spent-known (Some x) n e s h = ap Some h.1 ∙ spent-left n e s h.0
 
 -- ---- the numbers of a list
 
@@ -106,37 +112,37 @@ next_length numbers i h = ap length (next_bytes numbers i h) ∙ length-append (
 -- what is left of the room has to do for what is left of the numbers
 pub record Spending (numbers : List ℕ) (whole left i : ℕ) : Type 0 where
   pub few : i ≤ length numbers
-  pub same : spent (Left left) (length (concat_map shortest (drop i numbers))) ≡ spent (Left whole) (length (concat_map shortest numbers))
+  pub same : spent (Some left) (length (concat_map shortest (drop i numbers))) ≡ spent (Some whole) (length (concat_map shortest numbers))
 
 pub spending_starts : {numbers : List ℕ} {whole : ℕ} → Spending numbers whole whole 0
 spending_starts = record { few = omega arith; same = refl }
 
 module _ {numbers : List ℕ} {whole left i : ℕ} (S : Spending numbers whole left i) where
   -- the next number's size is taken
-  taken : i < length numbers → {r : Room} → r ≡ spent (Left left) (length (shortest (get_or numbers i 0)))
-      → spent r (length (concat_map shortest (drop (suc i) numbers))) ≡ spent (Left whole) (length (concat_map shortest numbers))
-  taken h e = spent-then (Left left) (length (shortest (get_or numbers i 0))) (length (concat_map shortest (drop (suc i) numbers))) e refl ∙ ap (spent (Left left)) (sym (next_length numbers i h)) ∙ S.same
+  taken : i < length numbers → {r : Option ℕ} → r ≡ spent (Some left) (length (shortest (get_or numbers i 0)))
+      → spent r (length (concat_map shortest (drop (suc i) numbers))) ≡ spent (Some whole) (length (concat_map shortest numbers))
+  taken h e = spent-then (Some left) (length (shortest (get_or numbers i 0))) (length (concat_map shortest (drop (suc i) numbers))) e refl ∙ ap (spent (Some left)) (sym (next_length numbers i h)) ∙ S.same
 
   pub spending_goes_on : i < length numbers → {size : ℕ} → size ≡ length (shortest (get_or numbers i 0)) → size ≤ left → Spending numbers whole (left - size) (i + 1)
   spending_goes_on h e k = record { few = omega arith; same = rw (add-one i) (taken h (spent-left _ refl e k)) }
 
-  pub spending_stops : i < length numbers → {size : ℕ} → size ≡ length (shortest (get_or numbers i 0)) → left < size → {room : Room} → room ≡ Left whole
-      → Short ≡ spent room (length (concat_map shortest numbers))
+  pub spending_stops : i < length numbers → {size : ℕ} → size ≡ length (shortest (get_or numbers i 0)) → left < size → {room : Option ℕ} → room ≡ Some whole
+      → None ≡ spent room (length (concat_map shortest numbers))
   unfolding spent
   spending_stops h e k q = taken h (spent-short _ refl e k) ∙ ap (λ r. spent r (length (concat_map shortest numbers))) (sym q)
 
-pub spending_ends : {numbers : List ℕ} {whole left i : ℕ} → Spending numbers whole left i → length numbers ≤ i → {room : Room} → room ≡ Left whole
-    → Left left ≡ spent room (length (concat_map shortest numbers))
+pub spending_ends : {numbers : List ℕ} {whole left i : ℕ} → Spending numbers whole left i → length numbers ≤ i → {room : Option ℕ} → room ≡ Some whole
+    → Some left ≡ spent room (length (concat_map shortest numbers))
 unfolding concat_map
 spending_ends {numbers} {left = left} {i = i} S h q =
     let all : left - 0 ≡ left = omega arith in
-    sym (ap Left all) ∙ nothing ∙ sym (ap (λ m. spent (Left left) (length (concat_map shortest m))) (drop_of_length-le numbers h)) ∙ S.same
+    sym (ap Some all) ∙ nothing ∙ sym (ap (λ m. spent (Some left) (length (concat_map shortest m))) (drop_of_length-le numbers h)) ∙ S.same
     ∙ ap (λ r. spent r (length (concat_map shortest numbers))) (sym q)
   where
-    nothing : Left (left - 0) ≡ spent (Left left) 0
+    nothing : Some (left - 0) ≡ spent (Some left) 0
     nothing = spent-left 0 refl refl (omega arith)
 
-pub spent-list : (room : Room) {counted r : Room} (size : ℕ) (numbers : List ℕ) → counted ≡ spent room (length (shortest (length numbers / size)))
+pub spent-list : (room : Option ℕ) {counted r : Option ℕ} (size : ℕ) (numbers : List ℕ) → counted ≡ spent room (length (shortest (length numbers / size)))
     → r ≡ spent counted (length (concat_map shortest numbers)) → r ≡ spent room (length (list_bytes size numbers))
 unfolding list_bytes
 spent-list room size numbers e f =
@@ -154,7 +160,7 @@ sheet-length r = six (shortest 2) (shortest r.regions) (list_bytes 1 r.labels) (
     six a b c d e f = simp length-append refl
 
 -- the parts of the sheet, one after the other
-pub sheet-spent : (r : Result) (room : Room) {a b c d e f : Room} → a ≡ spent room (length (shortest 2)) → b ≡ spent a (length (shortest r.regions))
+pub sheet-spent : (r : Result) (room : Option ℕ) {a b c d e f : Option ℕ} → a ≡ spent room (length (shortest 2)) → b ≡ spent a (length (shortest r.regions))
     → c ≡ spent b (length (list_bytes 1 r.labels)) → d ≡ spent c (length (list_bytes tallies_per_span r.tallies)) → e ≡ spent d (length (list_bytes numbers_per_pair r.pairs))
     → f ≡ spent e (length (list_bytes numbers_per_row r.rows)) → f ≡ spent room (length (result_bytes r))
 sheet-spent r room u v w x y z =
@@ -170,18 +176,10 @@ sheet-spent r room u v w x y z =
     let five = spent-then room (kind + regions + labels + tallies) pairs four y in
     spent-then room (kind + regions + labels + tallies + pairs) rows five z ∙ ap (spent room) (sym (sheet-length r))
 
-pub room-left : (room n : ℕ) {x : ℕ} → Left x ≡ spent (Left room) n → true ≡ leb n room
+pub has_room : (room n : ℕ) {left : Option ℕ} → left ≡ spent (Some room) n → is_some left ≡ leb n room
 unfolding spent
-room-left room n {x} e = go (leb n room) e
+has_room room n {left} e = ap is_some e ∙ go (leb n room)
   where
-    go : (t : Bool) → Left x ≡ cond t (Left (room - n)) Short → true ≡ t
-    go true e = refl
-    go false e = absurd (let z : ◌≡◌ {A = ℕ} 0 1 = cc in omega arith)
-
-pub room-short : (room n : ℕ) → Short ≡ spent (Left room) n → false ≡ leb n room
-unfolding spent
-room-short room n e = go (leb n room) e
-  where
-    go : (t : Bool) → Short ≡ cond t (Left (room - n)) Short → false ≡ t
-    go true e = absurd (let z : ◌≡◌ {A = ℕ} 0 1 = cc in omega arith)
-    go false e = refl
+    go : (t : Bool) → is_some (cond t (Some (room - n)) None) ≡ t
+    go true = refl
+    go false = refl

@@ -13,25 +13,25 @@ use Rattle.definitions.specs.Refusals.{unless}
 use Rattle.results.specs.Result.{Entry, out_of_turn, in_turn, turns, labels_fault}
 use Rattle.results.specs.ResultAnswers.{chunks, entries_in}
 use Rattle.result_writer.specs.Contract.{turn_of}
-use Rattle.result_writer.specs.declared.Turn.TheVariants.{Started, Out}
+use Rattle.std.specs.Prelude.{None, Some}
 
 -- ---- one label
 
 module _ (regions n label : ℕ) where
-  pub turn-known : label ≤ n → Started n ≡ turn_of regions n label
+  pub turn-known : label ≤ n → Some n ≡ turn_of regions n label
   turn-known h = rw (le-leb label n h) refl
 
-  pub turn_next : n < label → label - n ≡ 1 → label ≤ regions → Started label ≡ turn_of regions n label
+  pub turn_next : n < label → label - n ≡ 1 → label ≤ regions → Some label ≡ turn_of regions n label
   turn_next h d k =
       let e : label ≡ n + 1 = omega arith in
-      rw (lt-leb label n h, eq-eqb label (n + 1) e, le-leb label regions k) (ap Started e)
+      rw (lt-leb label n h, eq-eqb label (n + 1) e, le-leb label regions k) (ap Some e)
 
-  pub turn-above : n < label → label - n ≡ 1 → regions < label → Out ≡ turn_of regions n label
+  pub turn-above : n < label → label - n ≡ 1 → regions < label → None ≡ turn_of regions n label
   turn-above h d k =
       let e : label ≡ n + 1 = omega arith in
       rw (lt-leb label n h, eq-eqb label (n + 1) e, lt-leb label regions k) refl
 
-  pub turn-out : n < label → (label - n ≡ 1 → ⊥) → Out ≡ turn_of regions n label
+  pub turn-out : n < label → (label - n ≡ 1 → ⊥) → None ≡ turn_of regions n label
   turn-out h d = rw (lt-leb label n h, ne_eqb label (n + 1) (λ e. d (omega arith))) refl
 
 -- ---- all labels
@@ -53,11 +53,11 @@ as_ones l =
     go (x ∷ m) = ap (λ r. one x ∷ r) (go m)
 
 module _ (regions n label : ℕ) (l : List Entry) where
-  step-started : {m : ℕ} → turn_of regions n label ≡ Started m → turns regions n (one label ∷ l) ≡ turns regions m l
+  step-started : {m : ℕ} → turn_of regions n label ≡ Some m → turns regions n (one label ∷ l) ≡ turns regions m l
   unfolding turns
   step-started {m} h = go (leb label n) (in_turn regions n label) h
     where
-      go : (t u : Bool) → cond t (Started n) (cond u (Started (n + 1)) Out) ≡ Started m
+      go : (t u : Bool) → cond t (Some n) (cond u (Some (n + 1)) None) ≡ Some m
           → cond t (turns regions n l) (cond u (turns regions (n + 1) l) (out_of_turn 0)) ≡ turns regions m l
       go true u h =
           let e : n ≡ m = cc in
@@ -67,11 +67,11 @@ module _ (regions n label : ℕ) (l : List Entry) where
           ap (λ k. turns regions k l) e
       go false false h = absurd (let z : ◌≡◌ {A = ℕ} 0 1 = cc in omega arith)
 
-  step-out : turn_of regions n label ≡ Out → turns regions n (one label ∷ l) ≡ out_of_turn 0
+  step-out : turn_of regions n label ≡ None → turns regions n (one label ∷ l) ≡ out_of_turn 0
   unfolding turns
   step-out h = go (leb label n) (in_turn regions n label) h
     where
-      go : (t u : Bool) → cond t (Started n) (cond u (Started (n + 1)) Out) ≡ Out
+      go : (t u : Bool) → cond t (Some n) (cond u (Some (n + 1)) None) ≡ None
           → cond t (turns regions n l) (cond u (turns regions (n + 1) l) (out_of_turn 0)) ≡ out_of_turn 0
       go true u h = absurd (let z : ◌≡◌ {A = ℕ} 0 1 = cc in omega arith)
       go false true h = absurd (let z : ◌≡◌ {A = ℕ} 0 1 = cc in omega arith)
@@ -88,14 +88,14 @@ module _ {regions n i : ℕ} {labels : List ℕ} (T : Turning regions labels n i
   next_label : i < length labels → turns regions n (one (get_or labels i 0) ∷ ones (drop (suc i) labels)) ≡ turns regions 0 (ones labels)
   next_label h = ap (λ m. turns regions n (ones m)) (sym (drop-cons labels i 0 h)) ∙ T.same
 
-  pub turning-goes_on : i < length labels → {m : ℕ} → turn_of regions n (get_or labels i 0) ≡ Started m → Turning regions labels m (i + 1)
+  pub turning-goes_on : i < length labels → {m : ℕ} → turn_of regions n (get_or labels i 0) ≡ Some m → Turning regions labels m (i + 1)
   turning-goes_on h e =
       record {
         few = omega arith;
         same = rw (add-one i) (sym (step-started regions n (get_or labels i 0) (ones (drop (suc i) labels)) e) ∙ next_label h);
       }
 
-  pub turning-stops : i < length labels → turn_of regions n (get_or labels i 0) ≡ Out → labels_fault regions 0 (turns regions 0 (entries_in 1 labels)) ≡ unless false
+  pub turning-stops : i < length labels → turn_of regions n (get_or labels i 0) ≡ None → labels_fault regions 0 (turns regions 0 (entries_in 1 labels)) ≡ unless false
   turning-stops h e =
       ap (λ m. labels_fault regions 0 (turns regions 0 m)) (as_ones labels) ∙ ap (labels_fault regions 0) (sym (next_label h) ∙ step-out regions n (get_or labels i 0) (ones (drop (suc i) labels)) e)
 

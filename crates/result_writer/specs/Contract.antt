@@ -1,16 +1,14 @@
 -- Words of the crate's contracts. Definitions only; assumes nothing.
-use Rattle.std.specs.Prelude.{ℕ, ◌+◌, ◌-◌, ◌*◌, ◌≤◌, cond, List, [], ◌∷◌, leb, length, get_or}
+use Rattle.std.specs.Prelude.{ℕ, ◌+◌, ◌-◌, ◌*◌, ◌≤◌, cond, List, [], ◌∷◌, leb, length, get_or, Option, None, Some}
 use Rattle.definitions.specs.Verdict as verdict
 use Rattle.results.specs.Result.{Result, in_turn}
-use Rattle.result_writer.specs.declared.Turn.{Turn}
-use Rattle.result_writer.specs.declared.Turn.TheVariants.{Started, Out}
-use Rattle.result_writer.specs.declared.Room.{Room}
-use Rattle.result_writer.specs.declared.Room.TheVariants.{Left, Short}
+use Rattle.refusals.specs.declared.Cause.{Cause}
+use Rattle.refusals.specs.Refusals.{number_of}
 use Rattle.result_writer.specs.declared.Answer.{Answer}
 
 -- one step along the labels, with so many numbers started
-abbrev pub turn_of : ℕ → ℕ → ℕ → Turn
-turn_of regions n label = cond (leb label n) (Started n) (cond (in_turn regions n label) (Started (n + 1)) Out)
+abbrev pub turn_of : ℕ → ℕ → ℕ → Option ℕ
+turn_of regions n label = cond (leb label n) (Some n) (cond (in_turn regions n label) (Some (n + 1)) None)
 
 -- the key of the pair row that starts at k
 abbrev pub pair_at : List ℕ → ℕ → List ℕ
@@ -26,12 +24,16 @@ pub record Neighbours (size : ℕ) (l : List ℕ) (i : ℕ) : Type 0 where
   pub inside : size * (i + 1) ≤ length l
 
 -- what is left of a room once this is taken from it
-unfoldable pub spent : Room → ℕ → Room
-spent (Left left) size = cond (leb size left) (Left (left - size)) Short
-spent Short size = Short
+unfoldable pub spent : Option ℕ → ℕ → Option ℕ
+spent (Some left) size = cond (leb size left) (Some (left - size)) None
+spent None size = None
 
 abbrev pub result_in : ℕ → List ℕ → List ℕ → List ℕ → List ℕ → Result
 result_in regions labels tallies pairs rows = record { regions = regions; labels = labels; tallies = tallies; pairs = pairs; rows = rows }
 
 abbrev pub answer_in : Answer → verdict.Answer
 answer_in r = record { number = r.number; value = r.value }
+
+-- a refusal by its number, with place 0
+abbrev pub refused_by : Cause → Answer
+refused_by cause = record { number = number_of cause; value = 0 }

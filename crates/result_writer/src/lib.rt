@@ -12,32 +12,24 @@ ghost use Rattle.results.specs.Shortest.{shortest, list_bytes};
 ghost use Rattle.results.specs.Result.{turns, labels_fault, ascent_fault, pair_key, row_key, rules_fault};
 ghost use Rattle.results.specs.ResultAnswers.{entries_in, placed, result_bytes, Writes};
 ghost use Rattle.put_shortest.specs.Contract.{Put};
-ghost use Rattle.result_writer.specs.Contract.{turn_of, pair_at, row_at, Neighbours, spent, result_in, answer_in};
+ghost use Rattle.result_writer.specs.Contract.{turn_of, pair_at, row_at, Neighbours, spent, result_in, answer_in, refused_by};
 
 use put_shortest::put_shortest;
+use refusals::Cause;
 
 // ---- the rules
 
-// How many numbers are started once a label is met; or that it is out of turn.
-#[derive(Clone, Copy)]
-pub enum Turn {
-    Started(u64),
-    Out,
-}
-
-pub fn after_label(regions: u64, started: u64, label: u64) -> Turn
+// How many numbers are started once a label is met, if it is in turn.
+pub fn after_label(regions: u64, started: u64, label: u64) -> Option<u64>
     ensures { result ≡ turn_of regions started label }
 {
     if label <= started {
-        return Turn::Started(started);
+        return Some(started);
     }
-    if label - started == 1 {
-        if regions < label {
-            return Turn::Out;
-        }
-        return Turn::Started(label);
+    if label - started == 1 && label <= regions {
+        return Some(label);
     }
-    Turn::Out
+    None
 }
 
 // Along the labels each new number is the next one, and the region count is reached.
@@ -45,18 +37,11 @@ fn in_turn(regions: u64, labels: &[u64]) -> bool
     ensures { labels_fault regions 0 (turns regions 0 (entries_in 1 labels.now)) ≡ unless result }
 {
     let mut started: u64 = 0;
-    let mut i = 0;
-    while i < labels.len() {
-        let label = labels[i];
-        i += 1;
-        match after_label(regions, started, label) {
-            Turn::Started(n) => {
-                started = n;
-            }
-            Turn::Out => {
-                return false;
-            }
-        }
+    for i in 0..labels.len() {
+        let Some(n) = after_label(regions, started, labels[i]) else {
+            return false;
+        };
+        started = n;
     }
     started == regions
 }
@@ -65,13 +50,7 @@ fn in_turn(regions: u64, labels: &[u64]) -> bool
 pub fn is_before(x: u64, y: u64, behind: bool) -> bool
     ensures { result ≡ (ltb x y || (eqb x y && behind)) }
 {
-    if x < y {
-        return true;
-    }
-    if x == y {
-        return behind;
-    }
-    false
+    x < y || x == y && behind
 }
 
 const PAIR_SIZE: usize = 3;
@@ -135,13 +114,7 @@ fn keeps_rules(regions: u64, labels: &[u64], tallies: &[u64], pairs: &[u64], row
     ensures { rules_fault (placed (result_in regions labels.now tallies.now pairs.now rows.now))
         ≡ unless result }
 {
-    if !in_turn(regions, labels) {
-        return false;
-    }
-    if !pairs_ascend(pairs) {
-        return false;
-    }
-    rows_ascend(rows)
+    in_turn(regions, labels) && pairs_ascend(pairs) && rows_ascend(rows)
 }
 
 const TALLIES_SIZE: usize = 2;
@@ -150,13 +123,7 @@ const TALLIES_SIZE: usize = 2;
 fn is_finished(tallies: usize, pairs: usize, rows: usize) -> bool
     ensures { result ≡ (eqb (tallies % tallies_per_span) 0 && eqb (pairs % numbers_per_pair) 0 && eqb (rows % numbers_per_row) 0) }
 {
-    if 0 < tallies % TALLIES_SIZE {
-        return false;
-    }
-    if 0 < pairs % PAIR_SIZE {
-        return false;
-    }
-    rows % ROW_SIZE == 0
+    tallies % TALLIES_SIZE == 0 && pairs % PAIR_SIZE == 0 && rows % ROW_SIZE == 0
 }
 
 // ---- the room
@@ -167,6 +134,7 @@ pub fn group_count(n: u64) -> usize
 {
     let mut left = n;
     let mut count = 1;
+    // Kept: how many groups there are shows only as the number is divided, so that a `for` would be left early on every path.
     while 128 <= left {
         left /= 128;
         count += 1;
@@ -174,47 +142,27 @@ pub fn group_count(n: u64) -> usize
     count
 }
 
-// How many bytes of a lent list are left; or that it is too short. Sizes are taken from the room, since their sum may be beyond 64 bits.
-#[derive(Clone, Copy)]
-pub enum Room {
-    Left(usize),
-    Short,
-}
-
-// Takes the size of a number.
-pub fn spend_number(room: Room, n: u64) -> Room
+// Takes the size of a number from the bytes of a lent list that are left, if there are so many. Sizes are taken from the room, since their sum may be beyond
+// 64 bits.
+pub fn spend_number(room: Option<usize>, n: u64) -> Option<usize>
     ensures { result ≡ spent room (length (shortest n)) }
 {
-    let Room::Left(left) = room else {
-        return Room::Short;
-    };
-    let size = group_count(n);
-    if left < size {
-        return Room::Short;
-    }
-    Room::Left(left - size)
+    room?.checked_sub(group_count(n))
 }
 
 // Takes the size of each of these numbers.
-fn spend_numbers(room: Room, numbers: &[u64]) -> Room
+fn spend_numbers(room: Option<usize>, numbers: &[u64]) -> Option<usize>
     ensures { result ≡ spent room (length (concat_map shortest numbers.now)) }
 {
-    let Room::Left(whole) = room else {
-        return Room::Short;
-    };
-    let mut left = whole;
+    let mut left = room?;
     for i in 0..numbers.len() {
-        let size = group_count(numbers[i]);
-        if left < size {
-            return Room::Short;
-        }
-        left -= size;
+        left = left.checked_sub(group_count(numbers[i]))?;
     }
-    Room::Left(left)
+    Some(left)
 }
 
 // Takes the size of a count of entries, each of `size` numbers, and of the numbers.
-pub fn spend_list(room: Room, size: usize, numbers: &[u64]) -> Room
+pub fn spend_list(room: Option<usize>, size: usize, numbers: &[u64]) -> Option<usize>
     requires { 1 ≤ size }
     ensures { result ≡ spent room (length (list_bytes size numbers.now)) }
 {
@@ -238,15 +186,12 @@ fn fits(
     ensures { result
         ≡ leb (length (result_bytes (result_in regions labels.now tallies.now pairs.now rows.now))) room }
 {
-    let a = spend_number(Room::Left(room), KIND);
+    let a = spend_number(Some(room), KIND);
     let b = spend_number(a, regions);
     let c = spend_list(b, LABEL_SIZE, labels);
     let d = spend_list(c, TALLIES_SIZE, tallies);
     let e = spend_list(d, PAIR_SIZE, pairs);
-    match spend_list(e, ROW_SIZE, rows) {
-        Room::Left(_) => true,
-        Room::Short => false,
-    }
+    spend_list(e, ROW_SIZE, rows).is_some()
 }
 
 // ---- writing
@@ -301,6 +246,15 @@ pub struct Answer {
     pub value: u64,
 }
 
+pub fn refused(cause: Cause) -> Answer
+    ensures { result ≡ refused_by cause }
+{
+    Answer {
+        number: cause.number(),
+        value: 0,
+    }
+}
+
 // Writes what a run found as a sheet of kind 2. For other languages too: include/jenwyllt.h declares it as jenwyllt_write_result.
 pub fn result_writer_write_result(
     regions: u64,
@@ -314,22 +268,13 @@ pub fn result_writer_write_result(
         out.old (answer_in result) out.new }
 {
     if !keeps_rules(regions, labels, tallies, pairs, rows) {
-        return Answer {
-            number: 15,
-            value: 0,
-        };
+        return refused(Cause::ResultSheet);
     }
     if !is_finished(tallies.len(), pairs.len(), rows.len()) {
-        return Answer {
-            number: 3,
-            value: 0,
-        };
+        return refused(Cause::Entries);
     }
     if !fits(regions, labels, tallies, pairs, rows, out.len()) {
-        return Answer {
-            number: 10,
-            value: 0,
-        };
+        return refused(Cause::Room);
     }
     let size = put_result(regions, labels, tallies, pairs, rows, out);
     Answer {

@@ -1,7 +1,6 @@
 -- The rules of a result sheet ask for numbers and not for places: of two results with the same numbers both keep them, or neither. Assumes nothing.
-use Rattle.std.specs.Prelude.{ℕ, ◌+◌, ◌≡◌, refl, Bool, true, false, not, cond, List, [], ◌∷◌, map, leb, eqb, get_or}
+use Rattle.std.specs.Prelude.{ℕ, ◌+◌, ◌≡◌, refl, Bool, true, false, not, cond, List, [], ◌∷◌, map, leb, eqb, get_or, Option, None, Some}
 use Rattle.std.proofs.Common.{arith, ap, ap₂, subst, ◌∙◌}
-use Rattle.std.specs.Prelude.{Option, None, Some}
 use Rattle.definitions.specs.Scan.{only_if}
 use Rattle.definitions.specs.Sort.{list_lt}
 use Rattle.definitions.specs.Refusals.{or_else}

@@ -1,8 +1,7 @@
 -- "A result that was written reads as itself" (document 02, request 1), over the definitions. Each reader gives back what was written, at any offset
 -- (`Back`), part by part; the places of the entries then depend on the offset, and the rules do not ask for them (SameRules). Assumes nothing.
-use Rattle.std.specs.Prelude.{ℕ, zero, suc, ◌+◌, ◌*◌, ◌/◌, ◌%◌, ◌^◌, ◌<◌, ◌≤◌, ◌≡◌, refl, ◌&&◌, List, [], ◌∷◌, ◌++◌, map, length, take, drop, get_or}
+use Rattle.std.specs.Prelude.{ℕ, zero, suc, ◌+◌, ◌*◌, ◌/◌, ◌%◌, ◌^◌, ◌<◌, ◌≤◌, ◌≡◌, refl, ◌&&◌, List, [], ◌∷◌, ◌++◌, map, length, take, drop, get_or, None}
 use Rattle.std.proofs.Common.{arith, sym, ap, ◌∙◌, append_assoc, append-nil, take-append-drop, length-drop, length-take-le}
-use Rattle.std.specs.Prelude.{None}
 use Rattle.definitions.specs.Limits.{tallies_per_span, numbers_per_pair, numbers_per_row}
 use Rattle.definitions.specs.Scan.{concat_map}
 use Rattle.definitions.specs.SheetNumber.{found, number}

@@ -1,7 +1,6 @@
 -- The result sheet, kind 2: what a list of bytes states, and the first place that breaks one of its three rules. Quotations are of document 02, request 1,
 -- where no other document is named. Bytes are numbers below 256. Assumes nothing.
-use Rattle.std.specs.Prelude.{ℕ, zero, suc, ◌+◌, Bool, not, ◌&&◌, cond, List, [], ◌∷◌, ◌++◌, take, drop, get_or, leb, eqb}
-use Rattle.std.specs.Prelude.{Option, None, Some}
+use Rattle.std.specs.Prelude.{ℕ, zero, suc, ◌+◌, Bool, not, ◌&&◌, cond, List, [], ◌∷◌, ◌++◌, take, drop, get_or, leb, eqb, Option, None, Some}
 use Rattle.definitions.specs.Limits.{tallies_per_span, numbers_per_pair, numbers_per_row}
 use Rattle.definitions.specs.Scan.{only_if, concat_map}
 use Rattle.definitions.specs.Sort.{list_lt}

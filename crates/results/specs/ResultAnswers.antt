@@ -1,7 +1,6 @@
 -- What the reader and the writer of result sheets answer, for every input, what they leave in the lists lent to them, and the bytes of a result.
 -- Quotations are of document 02, request 1, where no other document is named. Assumes nothing.
-use Rattle.std.specs.Prelude.{ℕ, zero, suc, ◌/◌, ◌%◌, ◌≡◌, Bool, ◌&&◌, cond, List, [], ◌∷◌, ◌++◌, map, length, take, drop, leb, eqb}
-use Rattle.std.specs.Prelude.{Option, None, Some}
+use Rattle.std.specs.Prelude.{ℕ, zero, suc, ◌/◌, ◌%◌, ◌≡◌, Bool, ◌&&◌, cond, List, [], ◌∷◌, ◌++◌, map, length, take, drop, leb, eqb, Option, None, Some}
 use Rattle.definitions.specs.Limits.{tallies_per_span, numbers_per_pair, numbers_per_row}
 use Rattle.definitions.specs.Lists.{overwrite}
 use Rattle.definitions.specs.SheetNumber.{Read, found, failed}

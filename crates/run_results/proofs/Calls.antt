@@ -1,10 +1,9 @@
 -- What a call that runs a pass left can always be stored. What is assumed, whole: the call met its contract (`Ran`, which every call meets for every input) and answered 0.
 -- Then what it left, over the cells, the spans, the pairs found and the rows kept, is the run's result, so that it keeps the rules; and a call of the writer that
 -- is lent it whole answers with its bytes, or 10 where they do not fit, and nothing else.
-use Rattle.std.specs.Prelude.{ℕ, ◌*◌, ◌≤◌, ◌≡◌, refl, Bool, true, List, [], ◌∷◌, leb, length, drop}
+use Rattle.std.specs.Prelude.{ℕ, ◌*◌, ◌≤◌, ◌≡◌, refl, Bool, true, List, [], ◌∷◌, leb, length, drop, Option, None}
 use Rattle.std.proofs.Common.{arith, ◌∙◌, le-leb}
 use Rattle.std.proofs.Math.Path.{sym, ap}
-use Rattle.std.specs.Prelude.{Option, None}
 use Rattle.std.proofs.Math.ListN.{take}
 use Rattle.std.proofs.Math.Seq.{take-append_seam}
 use Rattle.definitions.specs.Limits.{tallies_per_span, numbers_per_row}

@@ -1,8 +1,7 @@
 -- The entries of a flat list (`entries_in` of results) are those that it was joined from, where each has the size of an entry; and entries whose keys rise break no
 -- rule of ascent. Assumes nothing.
-use Rattle.std.specs.Prelude.{ℕ, ◌*◌, ◌/◌, ◌≡◌, refl, List, ◌∷◌, ◌++◌, map, length, take, drop}
+use Rattle.std.specs.Prelude.{ℕ, ◌*◌, ◌/◌, ◌≡◌, refl, List, ◌∷◌, ◌++◌, map, length, take, drop, None}
 use Rattle.std.proofs.Common.{arith, sym, ap, ap₂, ◌∙◌, length-append}
-use Rattle.std.specs.Prelude.{None}
 use Rattle.std.proofs.Math.Seq.{take-append_seam, drop-append_seam}
 use Rattle.definitions.specs.Scan.{concat_map}
 use Rattle.definitions.specs.Sort.{list_lt}

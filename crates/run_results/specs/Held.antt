@@ -1,8 +1,7 @@
 -- How a caller finds, from the lists alone, what the call that runs a pass does not answer with: the number of regions is the greatest label, of every result that keeps the
 -- rules; and where the list lent for pairs was zero, the pairs are its rows whose smaller label is not 0, since no label of a pair is 0. Assumes nothing.
-use Rattle.std.specs.Prelude.{ℕ, zero, suc, ◌+◌, ◌/◌, max, ◌≡◌, refl, Bool, true, false, not, cond, List, [], ◌∷◌, ◌++◌, map, leb, eqb, length, take, drop, get_or}
+use Rattle.std.specs.Prelude.{ℕ, zero, suc, ◌+◌, ◌/◌, max, ◌≡◌, refl, Bool, true, false, not, cond, List, [], ◌∷◌, ◌++◌, map, leb, eqb, length, take, drop, get_or, None, Some}
 use Rattle.std.proofs.Common.{arith, zero-add, sym, ap, ap₂, ◌∙◌, append_assoc, append-nil, length-append, leb-true, eqb-true, eq-eqb}
-use Rattle.std.specs.Prelude.{None, Some}
 use Rattle.std.proofs.Math.Seq.{take-append_seam, drop-append_seam}
 use Rattle.definitions.specs.Limits.{numbers_per_pair}
 use Rattle.definitions.specs.Lists.{overwrite}

@@ -2,10 +2,9 @@
 -- of rows of different number; and a row's endpoints are written canonical. Assumes nothing.
 use Prim.Native.Nat.{ℕ, zero, suc, ◌<◌}
 use Rattle.std.proofs.Common.{arith, sym, ap, ap₂, ◌∙◌, true≢false, lt-ltb, le-ltb, eq-eqb}
-use Rattle.std.specs.Prelude.{◌≡◌, refl, true, false, not, ◌&&◌, ◌||◌, ltb, eqb, length}
+use Rattle.std.specs.Prelude.{◌≡◌, refl, true, false, not, ◌&&◌, ◌||◌, ltb, eqb, length, None}
 use Rattle.std.proofs.Math.Path.{subst}
 use Rattle.std.proofs.Math.Bool.{Bool}
-use Rattle.std.specs.Prelude.{None}
 use mathlib.Core.List.{List, [], ◌∷◌, ◌++◌, map}
 use Rattle.definitions.specs.Limits.{numbers_per_row}
 use Rattle.definitions.specs.Scan.{collect, to_list, only_if, concat_map, member}

@@ -1,8 +1,7 @@
 -- What a pass finds of a map, as a result: it keeps the three rules of result sheets and its entries are finished, whatever the map and the pass. Quotations are of document 02,
 -- request 1. Assumes nothing.
-use Rattle.std.specs.Prelude.{ℕ, ◌%◌, ◌≡◌, refl, true, length}
+use Rattle.std.specs.Prelude.{ℕ, ◌%◌, ◌≡◌, refl, true, length, Option, None}
 use Rattle.std.proofs.Common.{arith, eq-eqb}
-use Rattle.std.specs.Prelude.{Option, None}
 use Rattle.definitions.specs.Limits.{tallies_per_span, numbers_per_pair, numbers_per_row}
 use Rattle.definitions.specs.Grid.{Map}
 use Rattle.definitions.specs.Partition.{labels, region_count}

@@ -3,12 +3,11 @@
 -- edge sets the two bits of its step, which adds that step to those that the masks say are cut. Assumes a byte for each cell of a grid that is not empty, as check 1 and check 2 have it.
 use Prim.Native.Nat.{ℕ, zero, suc, ◌+◌, ◌-◌, ◌^◌, ◌≤◌}
 use native.Mathlib.Omega.{arith}
-use Rattle.std.specs.Prelude.{◌≡◌, Bool, ◌&&◌, ◌||◌, length, replicate, leb}
+use Rattle.std.specs.Prelude.{◌≡◌, Bool, ◌&&◌, ◌||◌, length, replicate, leb, Some}
 use Rattle.std.proofs.Math.Path.{refl, sym, ap, subst}
 use Rattle.std.proofs.Common.{◌∙◌}
 use Rattle.std.proofs.Math.Bool.{true, false, not, cond}
 use Rattle.std.proofs.lemmas.Bool.{false≢true}
-use Rattle.std.specs.Prelude.{Some}
 use mathlib.Core.List.{List, [], ◌∷◌, ◌++◌, map, append-nil, append_assoc}
 use Rattle.std.proofs.Math.ListN.{get_or, length-replicate, get_or-replicate}
 use Rattle.std.proofs.lemmas.List.{length-map}
@@ -148,11 +147,11 @@ module _ (M : Map) where
   unfolding onward neighbors filter
   no_steps g p w =
       ap (λ l. map (edge M p) (filter (cuts g p) (filter (λ q. ltb (index M p) (index M q)) (map (toward p) l))))
-      (filter_none (is_step M p) (λ d t. None d (is_step M p d) refl) (all_every {P = λ d. Unit {0}} (λ d. tt) directions))
+      (filter_none (is_step M p) (λ d t. nowhere d (is_step M p d) refl) (all_every {P = λ d. Unit {0}} (λ d. tt) directions))
     where
-      None : (d : Position) (b : Bool) → is_step M p d ≡ b → b ≡ false
-      None d true e = absurd (false≢true (sym w ∙ (four M p d e).near))
-      None d false e = refl
+      nowhere : (d : Position) (b : Bool) → is_step M p d ≡ b → b ≡ false
+      nowhere d true e = absurd (false≢true (sym w ∙ (four M p d e).near))
+      nowhere d false e = refl
 
   walkable-inside : (p : Position) → Inside M p → walkable M p ≡ is_walkable (cell_at M (index M p))
   unfolding walkable

@@ -1,14 +1,13 @@
 -- `neighbors` as the Rust writes it, of a walkable cell, is the definitions' (`neighbors-are`), and `index` finds the index of every walkable cell (`index-walkable`) and of
 -- every position in the grid (`index-inside`). The argument: a cell is walkable by `cell` exactly if it is by `walkable`; the definitions ask all four cells of a step, which of
 -- a straight one are its own two. Assumes nothing.
-use Rattle.std.specs.Prelude.{ℕ, zero, suc, ◌+◌, ◌-◌, ◌<◌, ◌≡◌, Bool, not, ◌&&◌, ◌||◌, cond, length, get_or, eqb, ℤ, pos}
+use Rattle.std.specs.Prelude.{ℕ, zero, suc, ◌+◌, ◌-◌, ◌<◌, ◌≡◌, Bool, not, ◌&&◌, ◌||◌, cond, length, get_or, eqb, ℤ, pos, Option, None, Some, slice_get}
 use Rattle.std.proofs.Common.{arith, ◌∙◌}
 use Rattle.std.proofs.Math.Path.{refl, sym, ap}
 use Rattle.std.proofs.Math.Bool.{true, false}
 use Rattle.std.proofs.lemmas.Bool.{false≢true}
-use Rattle.std.specs.Prelude.{Option, None, Some}
 use mathlib.Core.List.{List, [], ◌∷◌, ◌++◌, map}
-use Rattle.std.proofs.Math.ListN.{get_elem?, get_or-eq_default}
+use Rattle.std.proofs.Math.ListN.{get_or-eq_default}
 use Rattle.std.proofs.Math.Arith.{digits_lt}
 use Rattle.std.proofs.Math.Dec.{ltb, leb}
 use borrow.Author.Tests.{ltb-true, ltb-false, lt-ltb, le-ltb, leb-true, leb-false, le-leb, lt-leb, eqb-true}
@@ -44,7 +43,7 @@ backwards = record { goes = λ n. (λ i. only_if (same n (ltb 0 n) refl i) (one 
 
 -- ---- cells
 
-got : (l : List ℕ) (i : ℕ) → is_some_and (get_elem? l i) is_walkable ≡ is_walkable (get_or l i 0)
+got : (l : List ℕ) (i : ℕ) → is_some_and (slice_get l i) is_walkable ≡ is_walkable (get_or l i 0)
 got [] i = refl
 got (x ∷ l) zero = refl
 got (x ∷ l) (suc i) = got l i
@@ -54,7 +53,7 @@ module _ (M : Map) where
   unfolding cell_rust walkable
   cell-walkable p = go (leb M.width p.x) refl (leb M.height p.y) refl (ltb (index M p) (length M.cells)) refl
     where
-      go : (a : Bool) → leb M.width p.x ≡ a → (b : Bool) → leb M.height p.y ≡ b → (c : Bool) → ltb (index M p) (length M.cells) ≡ c → is_some_and (and_then (cond (a || b) None (only_if c (index M p))) (get_elem? M.cells)) is_walkable ≡ (ltb p.x M.width && ltb p.y M.height && is_walkable (cell_at M (index M p)))
+      go : (a : Bool) → leb M.width p.x ≡ a → (b : Bool) → leb M.height p.y ≡ b → (c : Bool) → ltb (index M p) (length M.cells) ≡ c → is_some_and (and_then (cond (a || b) None (only_if c (index M p))) (slice_get M.cells)) is_walkable ≡ (ltb p.x M.width && ltb p.y M.height && is_walkable (cell_at M (index M p)))
       go true e b f c g = rw (le-ltb p.x M.width (leb-true _ _ e)) refl
       go false e true f c g = rw (lt-ltb p.x M.width (leb-false _ _ e), le-ltb p.y M.height (leb-true _ _ f)) refl
       go false e false f true g = rw (lt-ltb p.x M.width (leb-false _ _ e), lt-ltb p.y M.height (leb-false _ _ f)) (got M.cells (index M p))

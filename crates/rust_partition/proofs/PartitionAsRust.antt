@@ -3,9 +3,8 @@
 -- and that it has a byte for each cell, as checks 1 and 2 have it: every accepted call and every accepted partition is lent such a map (`call-grid`, `partition_grid`).
 use Prim.Native.Nat.{ℕ, zero, suc, ◌+◌, ◌*◌, ◌≤◌, ◌<◌}
 use Rattle.std.proofs.Common.{arith, mul_comm, ◌∙◌, leb-true, eqb-true}
-use Rattle.std.specs.Prelude.{◌≡◌, refl, leb}
+use Rattle.std.specs.Prelude.{◌≡◌, refl, leb, Option, None, Some}
 use Rattle.std.proofs.Math.Path.{sym, ap}
-use Rattle.std.specs.Prelude.{Option, None, Some}
 use mathlib.Core.List.{List, [], ◌∷◌, ◌++◌, map, append-nil, append_assoc}
 use Rattle.std.proofs.Math.ListN.{length}
 use Rattle.definitions.specs.Limits.{is_side, numbers_per_span}

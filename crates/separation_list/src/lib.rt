@@ -62,10 +62,8 @@ fn put_column(boundaries: &[u64], output: &mut [u64], k: usize, j: usize)
     requires { ColumnFits boundaries.now output.old k j }
     ensures { output.new ≡ sets output.old k (column boundaries.now j j) }
 {
-    let mut i = 0;
-    while i < j {
+    for i in 0..j {
         put_pair(boundaries, output, k + i * NUMBERS_PER_SEPARATION, i, j);
-        i = i + 1;
     }
 }
 
@@ -74,12 +72,10 @@ fn put_rows(boundaries: &[u64], output: &mut [u64], n: usize)
     requires { RowsFit boundaries.now output.old n }
     ensures { output.new ≡ sets output.old 0 (separation_rows boundaries.now n) }
 {
-    let mut j = 0;
     let mut k = 0;
-    while j < n {
+    for j in 0..n {
         put_column(boundaries, output, k, j);
-        k = k + j * NUMBERS_PER_SEPARATION;
-        j = j + 1;
+        k += j * NUMBERS_PER_SEPARATION;
     }
 }
 

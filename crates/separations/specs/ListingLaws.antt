@@ -1,8 +1,7 @@
 -- Where the rows of a list of separations stand, and that an accepted call has room for them and boundaries on a map. The argument: a row has five numbers,
 -- column j has j rows, and the columns before it have j * (j - 1) / 2. Assumes nothing.
-use Rattle.std.specs.Prelude.{◌≡◌, refl, ◌&&◌, List, [], ◌∷◌, ◌++◌, ℕ, zero, suc, ◌+◌, ◌-◌, ◌*◌, ◌/◌, ◌≤◌, ◌<◌, leb, length, get_or}
+use Rattle.std.specs.Prelude.{◌≡◌, refl, ◌&&◌, List, [], ◌∷◌, ◌++◌, ℕ, zero, suc, ◌+◌, ◌-◌, ◌*◌, ◌/◌, ◌≤◌, ◌<◌, leb, length, get_or, Option, None, Some}
 use Rattle.std.proofs.Common.{sym, ap, ◌∙◌, subst, inl, inr, mul-le-mul, arith, length-append, get_or-append-add, leb-true}
-use Rattle.std.specs.Prelude.{Option, None, Some}
 use Rattle.std.proofs.Math.ListN.{get_or-append}
 use Rattle.definitions.specs.Limits.{is_side, numbers_per_boundary}
 use Rattle.definitions.specs.Grid.{Segment, boundary_at}

@@ -20,7 +20,10 @@ use Rattle.sheet.specs.declared.Part.{Part}
 use Rattle.sheet.specs.declared.Parts.{Parts}
 use Rattle.sheet.specs.declared.Plan.{Plan}
 use Rattle.sheet.specs.declared.Header.{Header}
-use Rattle.sheet.specs.declared.Answer.TheVariants.{Read, Refused}
+use Rattle.std.specs.Prelude.{Ok, Err}
+use Rattle.refusals.specs.declared.Refusal.{Refusal}
+use Rattle.refusals.specs.declared.Cause.TheVariants as cause
+use Rattle.refusals.specs.Refusals.{number_of}
 use Rattle.sheet.proofs.Filling.{held-length}
 
 pub room-known : {parts : Parts} {n stated cells spans boundaries anchors : ℕ} → n ≡ stated → room_in parts n cells spans boundaries anchors ≡ true
@@ -98,7 +101,7 @@ module _ {limit : ℕ} {bytes : List ℕ} {plan : Plan} (S : SheetHeld limit byt
     in_room k = ap (λ m. room_in plan.parts m (length cells) (length spans) (length boundaries) (length anchors)) (sym k)
 
     pub answered-short : {n : ℕ} → n ≡ stated → room_in plan.parts n (length cells) (length spans) (length boundaries) (length anchors) ≡ false
-        → Answered (reading_within limit bytes cells spans boundaries anchors) cells spans boundaries anchors (Refused 10 0) cells spans boundaries anchors
+        → Answered (reading_within limit bytes cells spans boundaries anchors) cells spans boundaries anchors (Err (record { cause = cause.Room; place = 0 })) cells spans boundaries anchors
     answered-short k h =
         let e : reading_within limit bytes cells spans boundaries anchors ≡ refused 10 0 = by_room ∙ ap (λ t. cond t (well_formed (sheet_of bytes plan)) (refused 10 0)) (in_room k ∙ h) in
         rw e (record { said = refl; cells_left = refl; spans-left = refl; boundaries-left = refl; anchors-left = refl })
@@ -108,13 +111,13 @@ module _ {limit : ℕ} {bytes : List ℕ} {plan : Plan} (S : SheetHeld limit byt
         → cells' ≡ overwrite (cells_in bytes plan.parts) cells
         → spans' ≡ overwrite (spans_stated (has_spans plan.kind) (part_of bytes plan.parts.spans) (part_of bytes plan.parts.boundaries)) spans
         → boundaries' ≡ overwrite (part_of bytes plan.parts.boundaries) boundaries → anchors' ≡ overwrite (part_of bytes plan.parts.anchors) anchors
-        → Answered (reading_within limit bytes cells spans boundaries anchors) cells spans boundaries anchors (Read header) cells' spans' boundaries' anchors'
+        → Answered (reading_within limit bytes cells spans boundaries anchors) cells spans boundaries anchors (Ok header) cells' spans' boundaries' anchors'
     answered-read k h e a b c d =
         let w : reading_within limit bytes cells spans boundaries anchors ≡ well_formed (sheet_of bytes plan) = by_room ∙ ap (λ t. cond t (well_formed (sheet_of bytes plan)) (refused 10 0)) (in_room k ∙ h) in
-        rw w (record { said = ap Read (e ∙ ap (header_in plan) k ∙ sym header_same); cells_left = a; spans-left = b; boundaries-left = c; anchors-left = d })
+        rw w (record { said = ap Ok (e ∙ ap (header_in plan) k ∙ sym header_same); cells_left = a; spans-left = b; boundaries-left = c; anchors-left = d })
 
 -- ---- a sheet that was not
 
-pub answered-refused : (limit : ℕ) (bytes : List ℕ) {refusal place : ℕ} {cells spans boundaries anchors : List ℕ} → read_sheet limit bytes ≡ refused refusal place
-    → Answered (reading_within limit bytes cells spans boundaries anchors) cells spans boundaries anchors (Refused refusal place) cells spans boundaries anchors
-answered-refused limit bytes h = rw h (record { said = refl; cells_left = refl; spans-left = refl; boundaries-left = refl; anchors-left = refl })
+pub answered-refused : (limit : ℕ) (bytes : List ℕ) (refusal : Refusal) {cells spans boundaries anchors : List ℕ} → read_sheet limit bytes ≡ refused (number_of refusal.cause) refusal.place
+    → Answered (reading_within limit bytes cells spans boundaries anchors) cells spans boundaries anchors (Err refusal) cells spans boundaries anchors
+answered-refused limit bytes refusal h = rw h (record { said = refl; cells_left = refl; spans-left = refl; boundaries-left = refl; anchors-left = refl })

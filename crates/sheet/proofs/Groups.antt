@@ -15,6 +15,7 @@ use Rattle.laws.specs.SheetReading.SheetLaws.{groups-bad, groups_more, groups_la
 -- Of the number at `at`, the groups before `next` have this value, and reading on from there gives the number.
 pub record Groups (bytes : List ℕ) (at value scale group next : ℕ) : Type 0 where
   pub inside : next ≤ length bytes
+  pub counted : next ≡ at + group
   pub few : group ≤ 9
   pub scaled : scale ≡ 2 ^ (7 * group)
   pub below : value < 2 ^ (7 * group)
@@ -22,7 +23,7 @@ pub record Groups (bytes : List ℕ) (at value scale group next : ℕ) : Type 0 
 
 pub start : (bytes : List ℕ) (at : ℕ) → at ≤ length bytes → Groups bytes at 0 1 0 at
 unfolding number
-start bytes at h = record { inside = h; few = omega arith; scaled = refl; below = omega arith; same = refl }
+start bytes at h = record { inside = h; counted = omega arith; few = omega arith; scaled = refl; below = omega arith; same = refl }
 
 pub early-end : {bytes : List ℕ} {at value scale group next : ℕ} → Groups bytes at value scale group next → length bytes ≤ next → number at (drop at bytes) ≡ failed 14 (length bytes)
 unfolding groups
@@ -53,6 +54,7 @@ module _ {bytes : List ℕ} {at value scale group next b : ℕ} (G : Groups byte
         rw grown
         (record {
           inside = omega arith;
+          counted = omega (arith, G.counted);
           few = not-tenth group b G.few t k;
           scaled = ap (λ s. s * 128) G.scaled ∙ sym (pow-add 2 (7 * group) 7) ∙ ap (λ n. 2 ^ n) (omega arith);
           below = below_next group value b G.below;

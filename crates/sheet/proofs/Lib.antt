@@ -1,10 +1,10 @@
 pub mod Groups
 pub mod Items
+pub mod Passed
 pub mod Judging
 pub mod Filling
-pub mod Limits
 pub mod Chains
-pub mod Found
+pub mod PartsFound
 pub mod Endpoints
 pub mod Answering
 pub mod ShortNumbers

@@ -1,40 +1,27 @@
 -- The sheet's grammar in three parts, one behind the other, and what the functions on them answer. Assumes nothing.
-use Rattle.std.specs.Prelude.{ℕ, ◌*◌, ◌/◌, ◌≤◌, ◌≡◌, Bool, ◌&&◌, cond, List, [], length, drop, leb}
-use Rattle.definitions.specs.Limits.{max_side, numbers_per_span, numbers_per_boundary, numbers_per_anchor}
-use Rattle.definitions.specs.SheetNumber.{Read, found, failed, number}
+use Rattle.std.specs.Prelude.{ℕ, ◌*◌, ◌/◌, ◌≤◌, ◌≡◌, Bool, ◌&&◌, cond, List, [], length, drop, leb, Result, Ok, Err}
+use Rattle.definitions.specs.Limits.{numbers_per_span, numbers_per_boundary, numbers_per_anchor}
+use Rattle.definitions.specs.SheetNumber.{found, failed, number}
 use Rattle.definitions.specs.Sheet.{Reader, give, ◌>>=◌, times, kind, cell, area, entries, has_spans, spans_held, spans_stated, end, Sheet, well_formed, refused, read_sheet}
 use Rattle.sheet.specs.Numbers.{values_at, Held}
+use Rattle.refusals.specs.declared.Refusal.{Refusal}
+use Rattle.refusals.specs.Refusals as refusals
+use Rattle.sheet.specs.declared.Found.{Found}
+use Rattle.sheet.specs.declared.Heading.{Heading}
+use Rattle.sheet.specs.declared.Extent.{Extent}
 use Rattle.sheet.specs.declared.Part.{Part}
 use Rattle.sheet.specs.declared.Parts.{Parts}
 use Rattle.sheet.specs.declared.Plan.{Plan}
-use Rattle.sheet.specs.declared.OpeningRead.{OpeningRead}
-use Rattle.sheet.specs.declared.OpeningRead.TheVariants.{Opened, Fault}
-use Rattle.sheet.specs.declared.SidesRead.{SidesRead}
-use Rattle.sheet.specs.declared.SidesRead.TheVariants.{Sides, Refused as NoSides}
-use Rattle.sheet.specs.declared.EntriesRead.{EntriesRead}
-use Rattle.sheet.specs.declared.EntriesRead.TheVariants.{Entries, Refused as NoEntries}
-use Rattle.sheet.specs.declared.ListsRead.{ListsRead}
-use Rattle.sheet.specs.declared.ListsRead.TheVariants.{Lists, Refused as NoLists}
-use Rattle.sheet.specs.declared.SheetRead.{SheetRead}
-use Rattle.sheet.specs.declared.SheetRead.TheVariants.{Sound, Refused as NoSheet}
 
 -- ---- the parts
 
-pub record Opening : Type 0 where
-  pub kind : ℕ
-  pub pass : ℕ
-
-unfoldable pub opening : Reader Opening
+-- the kind and the pass
+unfoldable pub opening : Reader Heading
 unfolding kind number
 opening = do
   written ← kind
   pass ← number
   give (record { kind = written; pass = pass })
-
-pub record Extent : Type 0 where
-  pub width : ℕ
-  pub height : ℕ
-  pub cells : ℕ
 
 -- both sides, and how many cells they make
 unfoldable pub sides : ℕ → Reader Extent
@@ -64,19 +51,6 @@ lists own count = do
 
 -- ---- what is answered of each
 
-abbrev pub opening_of : List ℕ → OpeningRead → Read Opening
-opening_of bytes (Opened kind pass next) = found (record { kind = kind; pass = pass }) next (drop next bytes)
-opening_of bytes (Fault place) = failed 14 place
-
-pub record SidesHeld (cellLimit : ℕ) (bytes : List ℕ) (at width height next : ℕ) : Type 0 where
-  pub wide : width ≤ max_side
-  pub high : height ≤ max_side
-  pub same : sides cellLimit at (drop at bytes) ≡ found (record { width = width; height = height; cells = width * height }) next (drop next bytes)
-
-abbrev pub SidesTold : ℕ → List ℕ → ℕ → SidesRead → Type 0
-SidesTold cellLimit bytes at (Sides width height next) = SidesHeld cellLimit bytes at width height next
-SidesTold cellLimit bytes at (NoSides refusal place) = sides cellLimit at (drop at bytes) ≡ failed refusal place
-
 -- the numbers that stand there
 abbrev pub part_of : List ℕ → Part → List ℕ
 part_of bytes part = values_at number bytes part.first part.length
@@ -86,9 +60,9 @@ pub record PartHeld (reader : Reader (List ℕ)) (bytes : List ℕ) (at : ℕ) (
   pub held : Held number bytes part.first part.length
   pub same : reader at (drop at bytes) ≡ found (part_of bytes part) next (drop next bytes)
 
-abbrev pub PartTold : Reader (List ℕ) → List ℕ → ℕ → EntriesRead → Type 0
-PartTold reader bytes at (Entries part next) = PartHeld reader bytes at part next
-PartTold reader bytes at (NoEntries refusal place) = reader at (drop at bytes) ≡ failed refusal place
+abbrev pub PartTold : Reader (List ℕ) → List ℕ → ℕ → Result (Found Part) Refusal → Type 0
+PartTold reader bytes at (Ok read) = PartHeld reader bytes at read.value read.next
+PartTold reader bytes at (Err refusal) = reader at (drop at bytes) ≡ failed (refusals.number_of refusal.cause) refusal.place
 
 abbrev pub cells_in : List ℕ → Parts → List ℕ
 cells_in bytes parts =
@@ -124,9 +98,9 @@ pub record ListsHeld (own : Bool) (bytes : List ℕ) (at count : ℕ) (parts : P
   pub same : lists own count at (drop at bytes) ≡ found (content_of bytes parts) (length bytes) []
   pub spans_stand : SpansStand own bytes at count parts
 
-abbrev pub ListsTold : Bool → List ℕ → ℕ → ℕ → ListsRead → Type 0
-ListsTold own bytes at count (Lists parts) = ListsHeld own bytes at count parts
-ListsTold own bytes at count (NoLists refusal place) = lists own count at (drop at bytes) ≡ failed refusal place
+abbrev pub ListsTold : Bool → List ℕ → ℕ → ℕ → Result Parts Refusal → Type 0
+ListsTold own bytes at count (Ok parts) = ListsHeld own bytes at count parts
+ListsTold own bytes at count (Err refusal) = lists own count at (drop at bytes) ≡ failed (refusals.number_of refusal.cause) refusal.place
 
 -- ---- the sheet
 
@@ -148,7 +122,8 @@ pub record SheetStands (cellLimit : ℕ) (bytes : List ℕ) (plan : Plan) : Type
   pub behind-pass : ℕ
   pub cells_first : ℕ
   pub opened : opening 0 bytes ≡ found (record { kind = plan.kind; pass = plan.pass }) behind-pass (drop behind-pass bytes)
-  pub sided : SidesHeld cellLimit bytes behind-pass plan.width plan.height cells_first
+  pub sided : sides cellLimit behind-pass (drop behind-pass bytes)
+      ≡ found (record { width = plan.width; height = plan.height; cells = plan.width * plan.height }) cells_first (drop cells_first bytes)
   pub spans_stand : SpansStand (has_spans plan.kind) bytes cells_first (plan.width * plan.height) plan.parts
 
 pub record SheetHeld (cellLimit : ℕ) (bytes : List ℕ) (plan : Plan) : Type 0 where
@@ -156,9 +131,9 @@ pub record SheetHeld (cellLimit : ℕ) (bytes : List ℕ) (plan : Plan) : Type 0
   pub same : read_sheet cellLimit bytes ≡ well_formed (sheet_of bytes plan)
   pub stands : SheetStands cellLimit bytes plan
 
-abbrev pub SheetTold : ℕ → List ℕ → SheetRead → Type 0
-SheetTold cellLimit bytes (Sound plan) = SheetHeld cellLimit bytes plan
-SheetTold cellLimit bytes (NoSheet refusal place) = read_sheet cellLimit bytes ≡ refused refusal place
+abbrev pub SheetTold : ℕ → List ℕ → Result Plan Refusal → Type 0
+SheetTold cellLimit bytes (Ok plan) = SheetHeld cellLimit bytes plan
+SheetTold cellLimit bytes (Err refusal) = read_sheet cellLimit bytes ≡ refused (refusals.number_of refusal.cause) refusal.place
 
 -- how many numbers the spans have that such a sheet states
 abbrev pub stated_long : ℕ → Parts → ℕ

@@ -10,53 +10,58 @@ ghost use Rattle.definitions.specs.Lists.{overwrite};
 ghost use Rattle.definitions.specs.Limits.{is_side};
 ghost use Rattle.definitions.specs.Grid.{segment_at};
 ghost use Rattle.definitions.specs.Sheet.{cell, entries, is_map_kind, has_spans, spans_held, spans_stated, endpoints, endpoints_in, read_verdict};
-ghost use Rattle.sheet.specs.Numbers.{number_of, up_to, item_of, items_at, Told, ShortTold, Held, values_at};
+ghost use Rattle.sheet.specs.Numbers.{read_of, up_to, items_at, Told, ShortTold, Held, values_at};
 ghost use Rattle.sheet.specs.Parts as parts;
-ghost use Rattle.sheet.specs.Parts.{opening_of, SidesTold, PartTold, ListsTold, SheetTold, PartsHeld, part_of, cells_in, stated_long, room_in, Room};
+ghost use Rattle.sheet.specs.Parts.{PartTold, ListsTold, SheetTold, PartsHeld, part_of, cells_in, stated_long, room_in, Room};
 ghost use Rattle.sheet.specs.Contract.{header_in, Answered, reading_within};
 
-use plain_numbers::number_of_byte;
+use refusals::{Cause, Refusal};
 
 // ---- one number
 
-// What stands at an offset: a number, with the offset behind it; or one that is too long or padded; or an early end.
+// What was read, and the offset behind it.
 #[derive(Clone, Copy)]
-pub enum NumberRead {
-    Value(u64, usize),
-    Bad,
-    Short,
+pub struct Found<T> {
+    pub value: T,
+    pub next: usize,
 }
 
 // Nine groups have 63 bits, so the tenth byte has one bit to give, and none follows it. A last group of zero, behind others, pads the number.
-fn ill_formed(group: u64, byte: u64) -> bool
+fn ill_formed(group: usize, byte: u64) -> bool
     ensures { result ≡ grammar.ill_formed group byte }
 {
     (group == 9) & (1 < byte) | (0 < group) & (byte == 0)
 }
 
-// The number at an offset, in groups of seven bits, least first.
-pub fn number(bytes: &[u8], at: usize) -> NumberRead
+// The number at an offset, in groups of seven bits, least first. It is refused at its first byte where it is too long or padded, and at the end of the bytes
+// where they end before it does.
+pub fn number(bytes: &[u8], at: usize) -> Result<Found<u64>, Refusal>
     requires { at ≤ length bytes.now }
-    ensures { grammar.number at (drop at bytes.now) ≡ number_of bytes.now at result }
+    ensures { grammar.number at (drop at bytes.now) ≡ read_of bytes.now result }
 {
     let mut value: u64 = 0;
     let mut scale: u64 = 1;
-    let mut group: u64 = 0;
-    let mut next = at;
-    while next < bytes.len() {
-        let byte = number_of_byte(bytes[next]);
-        next += 1;
-        if ill_formed(group, byte) {
-            return NumberRead::Bad;
+    for next in at..bytes.len() {
+        let byte = u64::from(bytes[next]);
+        if ill_formed(next - at, byte) {
+            return Err(Refusal {
+                cause: Cause::Sheet,
+                place: at,
+            });
         }
         value += byte % 128 * scale;
         if byte < 128 {
-            return NumberRead::Value(value, next);
+            return Ok(Found {
+                value,
+                next: next + 1,
+            });
         }
         scale *= 128;
-        group += 1;
     }
-    NumberRead::Short
+    Err(Refusal {
+        cause: Cause::Sheet,
+        place: bytes.len(),
+    })
 }
 
 // A second byte that ends a number and is not 0.
@@ -67,19 +72,25 @@ fn ends_short(byte: u64) -> bool
 }
 
 // The same. Most numbers have one byte or two, which are read without a loop; what begins otherwise, `number` reads.
-pub fn number_at(bytes: &[u8], at: usize) -> NumberRead
+pub fn number_at(bytes: &[u8], at: usize) -> Result<Found<u64>, Refusal>
     requires { at ≤ length bytes.now }
-    ensures { grammar.number at (drop at bytes.now) ≡ number_of bytes.now at result }
+    ensures { grammar.number at (drop at bytes.now) ≡ read_of bytes.now result }
 {
     if at < bytes.len() {
-        let first = number_of_byte(bytes[at]);
+        let first = u64::from(bytes[at]);
         if first < 128 {
-            return NumberRead::Value(first, at + 1);
+            return Ok(Found {
+                value: first,
+                next: at + 1,
+            });
         }
         if at + 1 < bytes.len() {
-            let second = number_of_byte(bytes[at + 1]);
+            let second = u64::from(bytes[at + 1]);
             if ends_short(second) {
-                return NumberRead::Value(first % 128 + second * 128, at + 2);
+                return Ok(Found {
+                    value: first % 128 + second * 128,
+                    next: at + 2,
+                });
             }
         }
     }
@@ -92,80 +103,53 @@ const MOST: u64 = 0xffff_ffff_ffff_ffff;
 
 pub const CELL_MOST: u64 = 255;
 
-// A number, with the offset behind it; or the place where the sheet is refused 14.
-#[derive(Clone, Copy)]
-pub enum ItemRead {
-    Item(u64, usize),
-    Fault(usize),
-}
-
 // The number at an offset, which is to be at most `most`.
-pub fn item(bytes: &[u8], at: usize, most: u64) -> ItemRead
+pub fn item(bytes: &[u8], at: usize, most: u64) -> Result<Found<u64>, Refusal>
     requires { at ≤ length bytes.now }
-    ensures { up_to most at (drop at bytes.now) ≡ item_of bytes.now result }
+    ensures { up_to most at (drop at bytes.now) ≡ read_of bytes.now result }
 {
-    match number_at(bytes, at) {
-        NumberRead::Value(value, next) => {
-            if value <= most {
-                ItemRead::Item(value, next)
-            } else {
-                ItemRead::Fault(at)
-            }
-        }
-        NumberRead::Bad => ItemRead::Fault(at),
-        NumberRead::Short => ItemRead::Fault(bytes.len()),
+    let read = number_at(bytes, at)?;
+    if most < read.value {
+        return Err(Refusal {
+            cause: Cause::Sheet,
+            place: at,
+        });
     }
+    Ok(read)
 }
 
-// The offset behind some numbers; or the place where the sheet is refused 14.
-#[derive(Clone, Copy)]
-pub enum Judged {
-    Behind(usize),
-    Faulty(usize),
-}
-
-// Judges `count` numbers of at most `most` each.
-pub fn judge(bytes: &[u8], at: usize, count: usize, most: u64) -> Judged
+// Judges `count` numbers of at most `most` each, and gives the offset behind them.
+pub fn judge(bytes: &[u8], at: usize, count: usize, most: u64) -> Result<usize, Refusal>
     requires { at ≤ length bytes.now }
     ensures { Told bytes.now (items_at (up_to most) bytes.now at count) result }
 {
     let mut next = at;
-    let mut left = count;
-    while 0 < left {
-        left -= 1;
-        match item(bytes, next, most) {
-            ItemRead::Item(_, behind) => {
-                next = behind;
-            }
-            ItemRead::Fault(place) => {
-                return Judged::Faulty(place);
-            }
-        }
+    for _ in 0..count {
+        next = item(bytes, next, most)?.next;
     }
-    Judged::Behind(next)
+    Ok(next)
 }
 
-// A number of one byte or of two, with the offset behind it; or that the number there is longer.
-#[derive(Clone, Copy)]
-enum ShortRead {
-    Number(u64, usize),
-    Longer,
-}
-
-// The number at an offset where one was judged before: its bytes are there, and its last one is not a 0 that pads it.
-fn short_at(bytes: &[u8], at: usize) -> ShortRead
+// The number at an offset where one was judged before, if it has one byte or two: its bytes are there, and its last one is not a 0 that pads it.
+fn short_at(bytes: &[u8], at: usize) -> Option<Found<u64>>
     requires { Held grammar.number bytes.now at 1 }
     ensures { ShortTold bytes.now at result }
 {
-    let first = number_of_byte(bytes[at]);
+    let first = u64::from(bytes[at]);
     if first < 128 {
-        return ShortRead::Number(first, at + 1);
+        return Some(Found {
+            value: first,
+            next: at + 1,
+        });
     }
-    let second = number_of_byte(bytes[at + 1]);
+    let second = u64::from(bytes[at + 1]);
     if second < 128 {
-        return ShortRead::Number(first % 128 + second * 128, at + 2);
+        return Some(Found {
+            value: first % 128 + second * 128,
+            next: at + 2,
+        });
     }
-    ShortRead::Longer
+    None
 }
 
 // Stores numbers that were judged before, from place `first` of the list up to `count`.
@@ -175,11 +159,11 @@ fn fill_rest(bytes: &[u8], at: usize, first: usize, count: usize, out: &mut [u64
 {
     let mut next = at;
     for i in first..count {
-        let ItemRead::Item(value, behind) = item(bytes, next, MOST) else {
+        let Ok(read) = item(bytes, next, MOST) else {
             return;
         };
-        out[i] = value;
-        next = behind;
+        out[i] = read.value;
+        next = read.next;
     }
 }
 
@@ -190,12 +174,12 @@ pub fn fill_numbers(bytes: &[u8], at: usize, count: usize, out: &mut [u64])
 {
     let mut next = at;
     for i in 0..count {
-        let ShortRead::Number(value, behind) = short_at(bytes, next) else {
+        let Some(read) = short_at(bytes, next) else {
             fill_rest(bytes, next, i, count, &mut *out);
             return;
         };
-        out[i] = value;
-        next = behind;
+        out[i] = read.value;
+        next = read.next;
     }
 }
 
@@ -206,11 +190,11 @@ fn fill_cells(bytes: &[u8], at: usize, count: usize, out: &mut [u8])
 {
     let mut next = at;
     for i in 0..count {
-        let ItemRead::Item(value, behind) = item(bytes, next, CELL_MOST) else {
+        let Ok(read) = item(bytes, next, CELL_MOST) else {
             return;
         };
-        out[i] = value as u8;
-        next = behind;
+        out[i] = read.value as u8;
+        next = read.next;
     }
 }
 
@@ -222,29 +206,31 @@ fn is_map_kind(kind: u64) -> bool
     (kind == 1) | (kind == 3)
 }
 
-// The kind, the pass and the offset behind them; or the place where the sheet is refused 14.
+// What a sheet opens with.
 #[derive(Clone, Copy)]
-enum OpeningRead {
-    Opened(u64, u64, usize),
-    Fault(usize),
+pub struct Heading {
+    pub kind: u64,
+    pub pass: u64,
 }
 
-fn opening(bytes: &[u8]) -> OpeningRead
-    ensures { parts.opening 0 bytes.now ≡ opening_of bytes.now result }
+fn opening(bytes: &[u8]) -> Result<Found<Heading>, Refusal>
+    ensures { parts.opening 0 bytes.now ≡ read_of bytes.now result }
 {
-    match item(bytes, 0, MOST) {
-        ItemRead::Item(kind, next) => {
-            if is_map_kind(kind) {
-                match item(bytes, next, MOST) {
-                    ItemRead::Item(pass, behind) => OpeningRead::Opened(kind, pass, behind),
-                    ItemRead::Fault(place) => OpeningRead::Fault(place),
-                }
-            } else {
-                OpeningRead::Fault(0)
-            }
-        }
-        ItemRead::Fault(place) => OpeningRead::Fault(place),
+    let kind = item(bytes, 0, MOST)?;
+    if !is_map_kind(kind.value) {
+        return Err(Refusal {
+            cause: Cause::Sheet,
+            place: 0,
+        });
     }
+    let pass = item(bytes, kind.next, MOST)?;
+    Ok(Found {
+        value: Heading {
+            kind: kind.value,
+            pass: pass.value,
+        },
+        next: pass.next,
+    })
 }
 
 const SIDE_MOST: u64 = 1024;
@@ -252,46 +238,44 @@ const SIDE_MOST: u64 = 1024;
 fn is_side(side: u64) -> bool
     ensures { result ≡ is_side side }
 {
-    1 <= side && side <= SIDE_MOST
+    (1..=SIDE_MOST).contains(&side)
 }
 
 // Both sides are in range, and the cells are not too many.
 fn area_allowed(width: u64, height: u64, limit: u64) -> bool
     ensures { result ≡ (is_side width && is_side height && leb (width * height) limit) }
 {
-    if !is_side(width) {
-        return false;
-    }
-    if !is_side(height) {
-        return false;
-    }
-    width * height <= limit
+    is_side(width) && is_side(height) && width * height <= limit
 }
 
-// The width, the height and the offset behind them; or the refusal, its number and its place.
+// Both sides, and how many cells they make.
 #[derive(Clone, Copy)]
-enum SidesRead {
-    Sides(usize, usize, usize),
-    Refused(u32, usize),
+pub struct Extent {
+    pub width: usize,
+    pub height: usize,
+    pub cells: usize,
 }
 
-fn sides(bytes: &[u8], at: usize, limit: u64) -> SidesRead
+fn sides(bytes: &[u8], at: usize, limit: u64) -> Result<Found<Extent>, Refusal>
     requires { at ≤ length bytes.now }
-    ensures { SidesTold limit bytes.now at result }
+    ensures { parts.sides limit at (drop at bytes.now) ≡ read_of bytes.now result }
 {
-    match item(bytes, at, MOST) {
-        ItemRead::Item(width, then) => match item(bytes, then, MOST) {
-            ItemRead::Item(height, next) => {
-                if area_allowed(width, height, limit) {
-                    SidesRead::Sides(width as usize, height as usize, next)
-                } else {
-                    SidesRead::Refused(1, 0)
-                }
-            }
-            ItemRead::Fault(place) => SidesRead::Refused(14, place),
-        },
-        ItemRead::Fault(place) => SidesRead::Refused(14, place),
+    let width = item(bytes, at, MOST)?;
+    let height = item(bytes, width.next, MOST)?;
+    if !area_allowed(width.value, height.value, limit) {
+        return Err(Refusal {
+            cause: Cause::Sides,
+            place: 0,
+        });
     }
+    Ok(Found {
+        value: Extent {
+            width: width.value as usize,
+            height: height.value as usize,
+            cells: (width.value * height.value) as usize,
+        },
+        next: height.next,
+    })
 }
 
 // Where the numbers of a list stand, and how many there are.
@@ -301,34 +285,27 @@ pub struct Part {
     pub length: usize,
 }
 
-// A list and the offset behind it; or the refusal.
-#[derive(Clone, Copy)]
-enum EntriesRead {
-    Entries(Part, usize),
-    Refused(u32, usize),
-}
-
 const ENTRIES_MOST: u64 = 256;
 
 // A count and so many entries, each of `size` numbers.
-fn entries(bytes: &[u8], at: usize, size: usize) -> EntriesRead
+fn entries(bytes: &[u8], at: usize, size: usize) -> Result<Found<Part>, Refusal>
     requires { (at ≤ length bytes.now) × (size ≤ 9) }
     ensures { PartTold (entries size) bytes.now at result }
 {
-    match item(bytes, at, MOST) {
-        ItemRead::Item(written, first) => {
-            if written <= ENTRIES_MOST {
-                let length = written as usize * size;
-                match judge(bytes, first, length, MOST) {
-                    Judged::Behind(next) => EntriesRead::Entries(Part { first, length }, next),
-                    Judged::Faulty(place) => EntriesRead::Refused(14, place),
-                }
-            } else {
-                EntriesRead::Refused(3, 0)
-            }
-        }
-        ItemRead::Fault(place) => EntriesRead::Refused(14, place),
+    let count = item(bytes, at, MOST)?;
+    if ENTRIES_MOST < count.value {
+        return Err(Refusal {
+            cause: Cause::Entries,
+            place: 0,
+        });
     }
+    let first = count.next;
+    let length = count.value as usize * size;
+    let next = judge(bytes, first, length, MOST)?;
+    Ok(Found {
+        value: Part { first, length },
+        next,
+    })
 }
 
 const SPAN_SIZE: usize = 4;
@@ -338,20 +315,20 @@ const BOUNDARY_SIZE: usize = 9;
 const ANCHOR_SIZE: usize = 2;
 
 // The spans that a sheet holds, which is none where its boundaries serve as spans.
-fn spans_held(bytes: &[u8], at: usize, own: bool) -> EntriesRead
+fn spans_held(bytes: &[u8], at: usize, own: bool) -> Result<Found<Part>, Refusal>
     requires { at ≤ length bytes.now }
     ensures { PartTold (spans_held own) bytes.now at result }
 {
     if own {
         entries(bytes, at, SPAN_SIZE)
     } else {
-        EntriesRead::Entries(
-            Part {
+        Ok(Found {
+            value: Part {
                 first: at,
                 length: 0,
             },
-            at,
-        )
+            next: at,
+        })
     }
 }
 
@@ -366,47 +343,32 @@ pub struct Parts {
     pub back: usize,
 }
 
-// Where the lists stand; or the refusal.
-#[derive(Clone, Copy)]
-enum ListsRead {
-    Lists(Parts),
-    Refused(u32, usize),
-}
-
 // The cells, the lists, and the end of the bytes behind them; with spans or without.
-fn lists(bytes: &[u8], at: usize, area: usize, own: bool) -> ListsRead
+fn lists(bytes: &[u8], at: usize, area: usize, own: bool) -> Result<Parts, Refusal>
     requires { at ≤ length bytes.now }
     ensures { ListsTold own bytes.now at area result }
 {
-    match judge(bytes, at, area, CELL_MOST) {
-        Judged::Behind(a) => match spans_held(bytes, a, own) {
-            EntriesRead::Entries(spans, b) => match entries(bytes, b, BOUNDARY_SIZE) {
-                EntriesRead::Entries(boundaries, c) => match entries(bytes, c, ANCHOR_SIZE) {
-                    EntriesRead::Entries(anchors, d) => {
-                        if d < bytes.len() {
-                            ListsRead::Refused(14, d)
-                        } else {
-                            ListsRead::Lists(Parts {
-                                cells: Part {
-                                    first: at,
-                                    length: area,
-                                },
-                                spans,
-                                boundaries,
-                                anchors,
-                                front: a,
-                                back: b,
-                            })
-                        }
-                    }
-                    EntriesRead::Refused(refusal, place) => ListsRead::Refused(refusal, place),
-                },
-                EntriesRead::Refused(refusal, place) => ListsRead::Refused(refusal, place),
-            },
-            EntriesRead::Refused(refusal, place) => ListsRead::Refused(refusal, place),
-        },
-        Judged::Faulty(place) => ListsRead::Refused(14, place),
+    let front = judge(bytes, at, area, CELL_MOST)?;
+    let spans = spans_held(bytes, front, own)?;
+    let boundaries = entries(bytes, spans.next, BOUNDARY_SIZE)?;
+    let anchors = entries(bytes, boundaries.next, ANCHOR_SIZE)?;
+    if anchors.next < bytes.len() {
+        return Err(Refusal {
+            cause: Cause::Sheet,
+            place: anchors.next,
+        });
     }
+    Ok(Parts {
+        cells: Part {
+            first: at,
+            length: area,
+        },
+        spans: spans.value,
+        boundaries: boundaries.value,
+        anchors: anchors.value,
+        front,
+        back: spans.next,
+    })
 }
 
 // ---- the sheet
@@ -421,38 +383,22 @@ pub struct Plan {
     pub parts: Parts,
 }
 
-// A plan; or the refusal.
-#[derive(Clone, Copy)]
-pub enum SheetRead {
-    Sound(Plan),
-    Refused(u32, usize),
-}
-
 // Judges the whole of the bytes, with at most `limit` cells.
-pub fn judge_sheet(bytes: &[u8], limit: u64) -> SheetRead
+pub fn judge_sheet(bytes: &[u8], limit: u64) -> Result<Plan, Refusal>
     ensures { SheetTold limit bytes.now result }
 {
-    match opening(bytes) {
-        OpeningRead::Opened(kind, pass, at) => match sides(bytes, at, limit) {
-            SidesRead::Sides(width, height, cells) => match lists(
-                bytes,
-                cells,
-                width * height,
-                kind == 1,
-            ) {
-                ListsRead::Lists(parts) => SheetRead::Sound(Plan {
-                    kind,
-                    pass,
-                    width,
-                    height,
-                    parts,
-                }),
-                ListsRead::Refused(refusal, place) => SheetRead::Refused(refusal, place),
-            },
-            SidesRead::Refused(refusal, place) => SheetRead::Refused(refusal, place),
-        },
-        OpeningRead::Fault(place) => SheetRead::Refused(14, place),
-    }
+    let opening = opening(bytes)?;
+    let heading = opening.value;
+    let sides = sides(bytes, opening.next, limit)?;
+    let extent = sides.value;
+    let parts = lists(bytes, sides.next, extent.cells, heading.kind == 1)?;
+    Ok(Plan {
+        kind: heading.kind,
+        pass: heading.pass,
+        width: extent.width,
+        height: extent.height,
+        parts,
+    })
 }
 
 // ---- reading
@@ -467,23 +413,14 @@ pub struct Header {
     pub anchors: usize,
 }
 
-// The sheet was read into the lists; or the refusal, its number and its place, with the lists as they were.
-#[derive(Clone, Copy)]
-pub enum Answer {
-    Read(Header),
-    Refused(u32, usize),
-}
-
 // How many numbers the spans have: those that the sheet holds, or four for each boundary.
 fn stated_length(kind: u64, parts: Parts) -> usize
     ensures { result ≡ stated_long kind parts }
 {
-    let b = parts.spans;
-    let c = parts.boundaries;
     if kind == 1 {
-        b.length
+        parts.spans.length
     } else {
-        c.length / BOUNDARY_SIZE * SPAN_SIZE
+        parts.boundaries.length / BOUNDARY_SIZE * SPAN_SIZE
     }
 }
 
@@ -498,19 +435,10 @@ fn fits(
 ) -> bool
     ensures { result ≡ room_in parts stated cells spans boundaries anchors }
 {
-    let a = parts.cells;
-    let c = parts.boundaries;
-    let d = parts.anchors;
-    if cells < a.length {
-        return false;
-    }
-    if spans < stated {
-        return false;
-    }
-    if boundaries < c.length {
-        return false;
-    }
-    d.length <= anchors
+    parts.cells.length <= cells
+        && stated <= spans
+        && parts.boundaries.length <= boundaries
+        && parts.anchors.length <= anchors
 }
 
 // Stores the endpoints of boundary i as span i.
@@ -609,7 +537,7 @@ fn header_of(plan: Plan, stated: usize) -> Header
     }
 }
 
-// Reads a sheet of at most `limit` cells into the lists.
+// Reads a sheet of at most `limit` cells into the lists; or refuses it, with the lists as they were.
 pub fn read_within(
     bytes: &[u8],
     limit: u64,
@@ -617,39 +545,37 @@ pub fn read_within(
     spans: &mut [u64],
     boundaries: &mut [u64],
     anchors: &mut [u64],
-) -> Answer
+) -> Result<Header, Refusal>
     ensures { Answered (reading_within limit bytes.now cells.old spans.old boundaries.old
         anchors.old) cells.old spans.old boundaries.old anchors.old result
         cells.new spans.new boundaries.new anchors.new }
 {
-    match judge_sheet(bytes, limit) {
-        SheetRead::Sound(plan) => {
-            let parts = plan.parts;
-            let stated = stated_length(plan.kind, parts);
-            if fits(
-                parts,
-                stated,
-                cells.len(),
-                spans.len(),
-                boundaries.len(),
-                anchors.len(),
-            ) {
-                fill(
-                    bytes,
-                    plan.kind,
-                    parts,
-                    &mut *cells,
-                    &mut *spans,
-                    &mut *boundaries,
-                    &mut *anchors,
-                );
-                Answer::Read(header_of(plan, stated))
-            } else {
-                Answer::Refused(10, 0)
-            }
-        }
-        SheetRead::Refused(refusal, place) => Answer::Refused(refusal, place),
+    let plan = judge_sheet(bytes, limit)?;
+    let parts = plan.parts;
+    let stated = stated_length(plan.kind, parts);
+    if !fits(
+        parts,
+        stated,
+        cells.len(),
+        spans.len(),
+        boundaries.len(),
+        anchors.len(),
+    ) {
+        return Err(Refusal {
+            cause: Cause::Room,
+            place: 0,
+        });
     }
+    fill(
+        bytes,
+        plan.kind,
+        parts,
+        &mut *cells,
+        &mut *spans,
+        &mut *boundaries,
+        &mut *anchors,
+    );
+    Ok(header_of(plan, stated))
 }
 
 pub const PLAIN_CELL_LIMIT: u64 = 1_048_576;
@@ -661,7 +587,7 @@ pub fn read_sheet(
     spans: &mut [u64],
     boundaries: &mut [u64],
     anchors: &mut [u64],
-) -> Answer
+) -> Result<Header, Refusal>
     ensures { Answered (read_verdict bytes.now (length cells.old) (length spans.old)
         (length boundaries.old) (length anchors.old)) cells.old spans.old boundaries.old
         anchors.old result cells.new spans.new boundaries.new anchors.new }

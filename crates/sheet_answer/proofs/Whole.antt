@@ -24,8 +24,7 @@ use Rattle.sheet.specs.Contract.{header_of}
 use Rattle.sheet.specs.declared.Header.{Header}
 use Rattle.printed.specs.Contract.{Printed}
 use Rattle.sheet_answer.specs.Contract.{keptlist_reading, Begun, RowsFit, AnswerPrinted, sheet_from, sheet_in, Inside, SheetHeld}
-use Rattle.sheet_answer.specs.declared.Before.{Before}
-use Rattle.sheet_answer.specs.declared.Before.TheVariants.{Printed as WasPrinted, Ready}
+use Rattle.std.specs.Prelude.{Result, Ok, Err}
 
 pub keptlist_reading_lem : (bytes : List ℕ) → keptlist bytes ≡ printed_reading (keptlist_reading bytes)
 unfolding keptlist keptlist_reading printed_reading
@@ -64,10 +63,10 @@ reading-sized bytes {s} h = go (ltb max_sheet_bytes (length bytes)) h
     go true e = absurd (let z : ◌≡◌ {A = ℕ} 0 1 = cc in omega arith)
     go false e = sized keptlist_cell_limit bytes e
 
-module _ (bytes : List ℕ) {cells spans boundaries anchors out cells' spans' boundaries' anchors' out' : List ℕ} {answer : Before}
+module _ (bytes : List ℕ) {cells spans boundaries anchors out cells' spans' boundaries' anchors' out' : List ℕ} {answer : Result Header ℕ}
     (B : Begun (keptlist_reading bytes) cells spans boundaries anchors out answer cells' spans' boundaries' anchors' out') where
   -- what was printed
-  pub begun-printed : {n : ℕ} → answer ≡ WasPrinted n → Printed (keptlist bytes) out out' n
+  pub begun-printed : {n : ℕ} → answer ≡ Err n → Printed (keptlist bytes) out out' n
   unfolding printed_reading
   begun-printed {n} e = rw (keptlist_reading_lem bytes) (go (keptlist_reading bytes) B)
     where
@@ -75,7 +74,7 @@ module _ (bytes : List ℕ) {cells spans boundaries anchors out cells' spans' bo
       go (well_formed s) C = absurd (let z : ◌≡◌ {A = ℕ} 0 1 = cc C.said in omega arith)
       go (refused number place) C = record { stored = C.out-left; length_is = cc C.said }
 
-  pub begun-ready : {header : Header} → answer ≡ Ready header → SheetRead bytes header cells' spans' boundaries' anchors' out out'
+  pub begun-ready : {header : Header} → answer ≡ Ok header → SheetRead bytes header cells' spans' boundaries' anchors' out out'
   begun-ready {header} f = go (keptlist_reading bytes) refl B
     where
       go : (r : Reading) → keptlist_reading bytes ≡ r → Begun r cells spans boundaries anchors out answer cells' spans' boundaries' anchors' out'

@@ -1,5 +1,5 @@
 -- What is answered before the call that runs a pass and after it, and what the lent lists hold then. Definitions only; assumes nothing.
-use Rattle.std.specs.Prelude.{ℕ, zero, suc, ◌+◌, ◌*◌, ◌≤◌, ◌≡◌, cond, List, length, take, ltb}
+use Rattle.std.specs.Prelude.{ℕ, zero, suc, ◌+◌, ◌*◌, ◌≤◌, ◌≡◌, cond, List, length, take, ltb, Result, Ok, Err}
 use Rattle.definitions.specs.Limits.{max_entries, numbers_per_span, numbers_per_boundary, numbers_per_anchor, numbers_per_row}
 use Rattle.definitions.specs.Lists.{overwrite}
 use Rattle.definitions.specs.Sheet.{Sheet, Reading, well_formed, refused, read_sheet, at_exit, keptlist_cell_limit}
@@ -7,8 +7,6 @@ use Rattle.definitions.specs.Printed.{max_sheet_bytes, refused_line}
 use Rattle.sheet.specs.Contract.{header_of}
 use Rattle.sheet.specs.declared.Header.{Header}
 use Rattle.printed.specs.Contract.{line_room, row_room, Printed, KeptPrinted}
-use Rattle.sheet_answer.specs.declared.Before.{Before}
-use Rattle.sheet_answer.specs.declared.Before.TheVariants.{Printed as WasPrinted, Ready}
 
 -- ---- before the call
 
@@ -28,9 +26,9 @@ pub record ListsLong (cells spans boundaries anchors : ℕ) : Type 0 where
 abbrev pub out_room : ℕ
 out_room = line_room + row_room * max_entries
 
-abbrev pub before_of : Reading → Before
-before_of (well_formed s) = Ready (header_of s)
-before_of (refused number place) = WasPrinted (length (refused_line number place))
+abbrev pub before_of : Reading → Result Header ℕ
+before_of (well_formed s) = Ok (header_of s)
+before_of (refused number place) = Err (length (refused_line number place))
 
 -- a refusal is printed, a sheet not yet answered
 abbrev pub printed_at_exit : Reading → List ℕ → List ℕ
@@ -38,7 +36,7 @@ printed_at_exit (well_formed s) out = out
 printed_at_exit (refused number place) out = overwrite (refused_line number place) out
 
 -- The answer to a reading, and each lent list at exit. Lists at entry come first, those at exit after the answer.
-pub record Begun (reading : Reading) (cells spans boundaries anchors out : List ℕ) (answer : Before) (cells' spans' boundaries' anchors' out' : List ℕ) : Type 0 where
+pub record Begun (reading : Reading) (cells spans boundaries anchors out : List ℕ) (answer : Result Header ℕ) (cells' spans' boundaries' anchors' out' : List ℕ) : Type 0 where
   pub said : answer ≡ before_of reading
   pub cells_left : cells' ≡ at_exit (λ s. s.cells) reading cells
   pub spans-left : spans' ≡ at_exit (λ s. s.spans) reading spans

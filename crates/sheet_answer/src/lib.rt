@@ -10,7 +10,8 @@ ghost use Rattle.printed.specs.Contract.{Printed};
 ghost use Rattle.sheet_answer.specs.Contract.{out_room, keptlist_reading, ListsLong, Begun, RowsFit, AnswerPrinted, sheet_from, sheet_in, Inside, SheetHeld};
 
 use printed::{print_kept, print_refused};
-use sheet::{Answer, Header, read_within};
+use refusals::Cause;
+use sheet::{Header, read_within};
 use topology::own_records::kept_boundaries_here;
 
 const SHEET_BYTES_MOST: usize = 65_536;
@@ -20,14 +21,7 @@ const CELLS_MOST: u64 = 4096;
 // A line of 64 bytes and 256 rows of 105.
 pub const OUTPUT_ROOM: usize = 26_944;
 
-// A refusal was printed, of so many bytes; or the lists hold the sheet.
-#[derive(Clone, Copy)]
-enum Before {
-    Printed(usize),
-    Ready(Header),
-}
-
-// Reads a sheet into the lists, or prints why it is refused.
+// Reads a sheet into the lists; or prints why it is refused, and gives how many bytes that has.
 fn read(
     bytes: &[u8],
     cells: &mut [u8],
@@ -35,7 +29,7 @@ fn read(
     boundaries: &mut [u64],
     anchors: &mut [u64],
     out: &mut [u8],
-) -> Before
+) -> Result<Header, usize>
     requires lists_long { ListsLong (length cells.old) (length spans.old) (length boundaries.old) (length anchors.old) }
     requires out_room { out_room ≤ length out.old }
     ensures { Begun (keptlist_reading bytes.now) cells.old spans.old boundaries.old
@@ -43,7 +37,11 @@ fn read(
         out.new }
 {
     if SHEET_BYTES_MOST < bytes.len() {
-        return Before::Printed(print_refused(&mut *out, 14, SHEET_BYTES_MOST as u64));
+        return Err(print_refused(
+            &mut *out,
+            Cause::Sheet.number(),
+            SHEET_BYTES_MOST as u64,
+        ));
     }
     match read_within(
         bytes,
@@ -53,11 +51,11 @@ fn read(
         &mut *boundaries,
         &mut *anchors,
     ) {
-        Answer::Read(header) => Before::Ready(header),
-        Answer::Refused(number, place) => Before::Printed(print_refused(
+        Ok(header) => Ok(header),
+        Err(refusal) => Err(print_refused(
             &mut *out,
-            number as u64,
-            place as u64,
+            refusal.cause.number(),
+            refusal.place as u64,
         )),
     }
 }
@@ -185,8 +183,8 @@ pub fn keptlist(bytes: &[u8], out: &mut [u8; OUTPUT_ROOM]) -> usize
         &mut anchors,
         &mut *out,
     ) {
-        Before::Printed(count) => count,
-        Before::Ready(header) => answer_held(
+        Err(count) => count,
+        Ok(header) => answer_held(
             header,
             &cells,
             &spans,

@@ -10,7 +10,7 @@ use Rattle.map_sheets.specs.SheetBytes.{sheet_bytes}
 use Rattle.map_sheets.specs.Writing.{stating}
 use Rattle.put_shortest.specs.Contract.{Put}
 use Rattle.result_writer.specs.Contract.{spent}
-use Rattle.result_writer.specs.declared.Room.{Room}
+use Rattle.std.specs.Prelude.{Option}
 use Rattle.result_writer.proofs.Spending.{spent-then}
 use Rattle.result_writer.proofs.Placing.{put_then}
 use Rattle.sheet_writer.specs.Contract.{opening}
@@ -56,7 +56,7 @@ module _ (pass width height : ℕ) (cells boundaries anchors : List ℕ) where
       let all : Put o 0 parts d l = put_then (put_then (put_then p q) s) t in
       rw in_parts all
 
-  pub sheet-spent : (room : Room) {a b c d e f g : Room} → a ≡ spent room (length (shortest 3)) → b ≡ spent a (length (shortest pass))
+  pub sheet-spent : (room : Option ℕ) {a b c d e f g : Option ℕ} → a ≡ spent room (length (shortest 3)) → b ≡ spent a (length (shortest pass))
       → c ≡ spent b (length (shortest width)) → d ≡ spent c (length (shortest height)) → e ≡ spent d (length (concat_map shortest cells))
       → f ≡ spent e (length (list_bytes numbers_per_boundary boundaries)) → g ≡ spent f (length (list_bytes numbers_per_anchor anchors))
       → g ≡ spent room (length (sheet_bytes 3 (stating pass width height cells boundaries anchors)))

@@ -15,9 +15,9 @@ ghost use Rattle.sheet_writer.specs.Contract.{opening};
 
 use checks::limits::{NUMBERS_PER_ANCHOR, NUMBERS_PER_BOUNDARY};
 use checks::sizes::{cells_fit, is_whole, sides_fit};
-use plain_numbers::number_of_byte;
 use put_shortest::put_shortest;
-use result_writer::{Answer, Room, group_count, put_list, spend_list, spend_number};
+use refusals::Cause;
+use result_writer::{Answer, group_count, put_list, refused, spend_list, spend_number};
 
 // No last boundary or anchor is unfinished, and there are at most 256 of each, in lists of these lengths.
 fn are_whole(boundaries: usize, anchors: usize) -> bool
@@ -31,21 +31,14 @@ fn are_whole(boundaries: usize, anchors: usize) -> bool
 // ---- the room
 
 // Takes the size of each of these cells.
-fn spend_cells(room: Room, cells: &[u8]) -> Room
+fn spend_cells(room: Option<usize>, cells: &[u8]) -> Option<usize>
     ensures { result ≡ spent room (length (concat_map shortest cells.now)) }
 {
-    let Room::Left(whole) = room else {
-        return Room::Short;
-    };
-    let mut left = whole;
+    let mut left = room?;
     for i in 0..cells.len() {
-        let size = group_count(number_of_byte(cells[i]));
-        if left < size {
-            return Room::Short;
-        }
-        left -= size;
+        left = left.checked_sub(group_count(u64::from(cells[i])))?;
     }
-    Room::Left(left)
+    Some(left)
 }
 
 const KIND: u64 = 3;
@@ -63,16 +56,13 @@ fn fits(
     ensures { result
         ≡ leb (length (sheet_bytes 3 (stating pass width height cells.now boundaries.now anchors.now))) room }
 {
-    let a = spend_number(Room::Left(room), KIND);
+    let a = spend_number(Some(room), KIND);
     let b = spend_number(a, pass);
     let c = spend_number(b, width);
     let d = spend_number(c, height);
     let e = spend_cells(d, cells);
     let f = spend_list(e, NUMBERS_PER_BOUNDARY, boundaries);
-    match spend_list(f, NUMBERS_PER_ANCHOR, anchors) {
-        Room::Left(_) => true,
-        Room::Short => false,
-    }
+    spend_list(f, NUMBERS_PER_ANCHOR, anchors).is_some()
 }
 
 // ---- writing
@@ -84,7 +74,7 @@ fn put_cells(out: &mut [u8], at: usize, cells: &[u8]) -> usize
 {
     let mut next = at;
     for i in 0..cells.len() {
-        next = put_shortest(&mut *out, next, number_of_byte(cells[i]));
+        next = put_shortest(&mut *out, next, u64::from(cells[i]));
     }
     next
 }
@@ -134,28 +124,16 @@ pub fn sheet_writer_write_sheet(
         out.old (answer_in result) out.new }
 {
     if !sides_fit(width, height) {
-        return Answer {
-            number: 1,
-            value: 0,
-        };
+        return refused(Cause::Sides);
     }
     if !cells_fit(width, height, cells) {
-        return Answer {
-            number: 2,
-            value: 0,
-        };
+        return refused(Cause::Cells);
     }
     if !are_whole(boundaries.len(), anchors.len()) {
-        return Answer {
-            number: 3,
-            value: 0,
-        };
+        return refused(Cause::Entries);
     }
     if !fits(pass, width, height, cells, boundaries, anchors, out.len()) {
-        return Answer {
-            number: 10,
-            value: 0,
-        };
+        return refused(Cause::Room);
     }
     let size = put_sheet(pass, width, height, cells, boundaries, anchors, out);
     Answer {

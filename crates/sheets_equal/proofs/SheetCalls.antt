@@ -9,21 +9,22 @@ use Rattle.definitions.specs.Lists.{overwrite}
 use Rattle.definitions.specs.SheetNumber.{Read, found, failed}
 use Rattle.definitions.specs.Sheet.{Sheet, Reading, well_formed, refused, reading, sheet, read_sheet, plain_cell_limit, read_verdict, room_for, reading_number, at_exit}
 use Rattle.laws.specs.SheetReading.SheetSizes.{Sized, sized}
-use Rattle.sheet.specs.Contract.{Answered, answer_of, answer_number, answer_number_lem}
-use Rattle.sheet.specs.declared.Answer.{Answer}
-use Rattle.sheet.specs.declared.Answer.TheVariants as answers
+use Rattle.std.specs.Prelude.{Result, Ok, Err}
+use Rattle.refusals.specs.declared.Refusal.{Refusal}
+use Rattle.sheet.specs.Contract.{Answered, answer_of, by_number, answer_number, answer_number_lem}
+use Rattle.sheet.specs.declared.Header.{Header}
 use Rattle.sheets_equal.specs.NumberBytes.{Bytes}
 use Rattle.sheets_equal.specs.Refusing.{refuses-sheet}
 use Rattle.sheets_equal.proofs.SheetsEqual.{kind_of, sheets_equal}
 
 -- a call: the bytes, the lists at entry, the answer, and the lists at exit
-abbrev pub Called : List ℕ → List ℕ → List ℕ → List ℕ → List ℕ → Answer → List ℕ → List ℕ → List ℕ → List ℕ → Type 0
+abbrev pub Called : List ℕ → List ℕ → List ℕ → List ℕ → List ℕ → Result Header Refusal → List ℕ → List ℕ → List ℕ → List ℕ → Type 0
 Called bytes cells spans boundaries anchors =
     Answered (read_verdict bytes (length cells) (length spans) (length boundaries) (length anchors)) cells spans boundaries anchors
 
 -- What the caller then has: the pass and the sides of the answer, and of each list as much as the answer counts. A refusal gives nothing.
-abbrev pub held : Answer → List ℕ → List ℕ → List ℕ → List ℕ → Sheet
-held (answers.Read header) cells spans boundaries anchors =
+abbrev pub held : {E : Type 0} → Result Header E → List ℕ → List ℕ → List ℕ → List ℕ → Sheet
+held (Ok header) cells spans boundaries anchors =
     record {
       pass = header.pass;
       width = header.width;
@@ -33,8 +34,13 @@ held (answers.Read header) cells spans boundaries anchors =
       boundaries = take (header.boundaries * numbers_per_boundary) boundaries;
       anchors = take (header.anchors * numbers_per_anchor) anchors;
     }
-held (answers.Refused refusal place) cells spans boundaries anchors =
+held (Err refusal) cells spans boundaries anchors =
     record { pass = 0; width = 0; height = 0; cells = []; spans = []; boundaries = []; anchors = [] }
+
+-- the same of the answer by its number
+held-same : (answer : Result Header Refusal) (cells spans boundaries anchors : List ℕ) → held answer cells spans boundaries anchors ≡ held (by_number answer) cells spans boundaries anchors
+held-same (Ok header) cells spans boundaries anchors = refl
+held-same (Err refusal) cells spans boundaries anchors = refl
 
 -- ---- one call
 
@@ -62,8 +68,8 @@ held_is {limit} {s} S cells spans boundaries anchors =
     λ i. record { pass = s.pass; width = s.width; height = s.height; cells = a i; spans = b i; boundaries = c i; anchors = d i }
 
 -- the bytes of a call that answered 0 read as what its caller then has
-pub call-reads : (bytes : List ℕ) {cells spans boundaries anchors : List ℕ} {answer : Answer} {cells' spans' boundaries' anchors' : List ℕ}
-    → Called bytes cells spans boundaries anchors answer cells' spans' boundaries' anchors' → answer_number answer ≡ 0
+pub call-reads : (bytes : List ℕ) {cells spans boundaries anchors : List ℕ} {answer : Result Header Refusal} {cells' spans' boundaries' anchors' : List ℕ}
+    → Called bytes cells spans boundaries anchors answer cells' spans' boundaries' anchors' → answer_number (by_number answer) ≡ 0
     → read_sheet plain_cell_limit bytes ≡ well_formed (held answer cells' spans' boundaries' anchors')
 unfolding read_verdict
 call-reads bytes {cells} {spans} {boundaries} {anchors} {answer} {cells'} {spans'} {boundaries'} {anchors'} C zero = go (read_sheet plain_cell_limit bytes) refl
@@ -77,7 +83,8 @@ call-reads bytes {cells} {spans} {boundaries} {anchors} {answer} {cells'} {spans
     left : {s : Sheet} → verdict ≡ well_formed s → read_sheet plain_cell_limit bytes ≡ well_formed s → read_sheet plain_cell_limit bytes ≡ well_formed (held answer cells' spans' boundaries' anchors')
     left {s} v e =
         let all : held answer cells' spans' boundaries' anchors' ≡ s =
-        (λ i. held (C.said i) (C.cells_left i) (C.spans-left i) (C.boundaries-left i) (C.anchors-left i))
+        held-same answer cells' spans' boundaries' anchors'
+        ∙ (λ i. held (C.said i) (C.cells_left i) (C.spans-left i) (C.boundaries-left i) (C.anchors-left i))
         ∙ ap (λ r. held (answer_of r) (at_exit (λ s. s.cells) r cells) (at_exit (λ s. s.spans) r spans) (at_exit (λ s. s.boundaries) r boundaries) (at_exit (λ s. s.anchors) r anchors)) v
         ∙ held_is (sized plain_cell_limit bytes e) cells spans boundaries anchors in
         e ∙ ap well_formed (sym all)
@@ -101,10 +108,10 @@ call-reads bytes {cells} {spans} {boundaries} {anchors} {answer} {cells'} {spans
 -- ---- two calls
 
 -- "equal bytes exactly when they state the same pass, sides and map lists", of two sheets of one kind
-pub calls_equal : (a : List ℕ) {cells spans boundaries anchors : List ℕ} {answer : Answer} {cells' spans' boundaries' anchors' : List ℕ}
-    (b : List ℕ) {cells₂ spans₂ boundaries₂ anchors₂ : List ℕ} {answer₂ : Answer} {cells₂' spans₂' boundaries₂' anchors₂' : List ℕ}
-    → Called a cells spans boundaries anchors answer cells' spans' boundaries' anchors' → answer_number answer ≡ 0
-    → Called b cells₂ spans₂ boundaries₂ anchors₂ answer₂ cells₂' spans₂' boundaries₂' anchors₂' → answer_number answer₂ ≡ 0
+pub calls_equal : (a : List ℕ) {cells spans boundaries anchors : List ℕ} {answer : Result Header Refusal} {cells' spans' boundaries' anchors' : List ℕ}
+    (b : List ℕ) {cells₂ spans₂ boundaries₂ anchors₂ : List ℕ} {answer₂ : Result Header Refusal} {cells₂' spans₂' boundaries₂' anchors₂' : List ℕ}
+    → Called a cells spans boundaries anchors answer cells' spans' boundaries' anchors' → answer_number (by_number answer) ≡ 0
+    → Called b cells₂ spans₂ boundaries₂ anchors₂ answer₂ cells₂' spans₂' boundaries₂' anchors₂' → answer_number (by_number answer₂) ≡ 0
     → Bytes a → Bytes b → kind_of a ≡ kind_of b
     → (a ≡ b) ↔ (held answer cells' spans' boundaries' anchors' ≡ held answer₂ cells₂' spans₂' boundaries₂' anchors₂')
 calls_equal a b C c D d A B k = sheets_equal plain_cell_limit a b A B k (call-reads a C c) (call-reads b D d)

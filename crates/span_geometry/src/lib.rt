@@ -16,23 +16,21 @@ ghost use Rattle.definitions.specs.Spans.{cuts};
 ghost use Rattle.span_geometry.specs.Shapes.{max_pixel, InLimits, Sound, Made, point_of, segment_of, segment_from};
 
 use numbers::not_negative;
-use plain_numbers::{max, min};
 use segments::{cell_center, cross, segments_intersect};
 
 pub const PIXELS_PER_WALK_CELL: u64 = 8;
 
-// A point in pixels.
-#[derive(Clone, Copy)]
+// A point in pixels. Positions compare by x, then y.
+#[derive(Clone, Copy, PartialEq, Eq, PartialOrd, Ord)]
 pub struct PixelPosition {
     pub x: u64,
     pub y: u64,
 }
 
-// Positions compare by x, then y.
 pub fn precedes(p: PixelPosition, q: PixelPosition) -> bool
     ensures { result ≡ position_lt (point_of p) (point_of q) }
 {
-    (p.x < q.x) | ((p.x == q.x) & (p.y < q.y))
+    p < q
 }
 
 // A span: its endpoints, the lesser first, and the least and greatest of their coordinates.
@@ -82,11 +80,11 @@ fn between(a: PixelPosition, b: PixelPosition) -> SpanGeometry
     ensures { (result.a ≡ a) × (result.b ≡ b) × Sound result }
 {
     SpanGeometry {
-        a: a,
-        b: b,
-        min_x: min(a.x, b.x),
-        max_x: max(a.x, b.x),
-        min_y: min(a.y, b.y),
-        max_y: max(a.y, b.y),
+        a,
+        b,
+        min_x: a.x.min(b.x),
+        max_x: a.x.max(b.x),
+        min_y: a.y.min(b.y),
+        max_y: a.y.max(b.y),
     }
 }

@@ -4,19 +4,6 @@ ghost use Rattle.std.specs.Int.Signed.{non_neg, shr_z};
 ghost use Rattle.definitions.specs.Spans.{diff, distance_between, is_zero, strictly_opposite};
 ghost use Rattle.span_geometry.specs.Shapes.{max_pixel};
 
-// m - n, and 0 where that would be negative.
-pub fn saturating_sub(m: u64, n: u64) -> u64
-    ensures { result ≡ m - n }
-{
-    if n <= m { m - n } else { 0 }
-}
-
-pub fn abs_diff(m: u64, n: u64) -> u64
-    ensures { result ≡ distance_between m n }
-{
-    if n <= m { m - n } else { n - m }
-}
-
 // m - n, of either sign.
 pub fn difference(m: u64, n: u64) -> i64
     requires { (m ≤ max_pixel) × (n ≤ max_pixel) }

@@ -7,7 +7,6 @@ ghost use Rattle.span_geometry.specs.Shapes.{InLimits, point_of};
 
 use super::numbers::{difference, is_zero, strictly_opposite};
 use super::{PIXELS_PER_WALK_CELL, PixelPosition};
-use plain_numbers::{max, min};
 
 // The pixel in the middle of column, or row, k.
 pub fn middle_of(k: u64) -> u64
@@ -41,10 +40,10 @@ pub fn cross(a: PixelPosition, b: PixelPosition, point: PixelPosition) -> i64
 pub fn on_segment(a: PixelPosition, b: PixelPosition, point: PixelPosition) -> bool
     ensures { result ≡ on_segment (point_of a) (point_of b) (point_of point) }
 {
-    (min(a.x, b.x) <= point.x)
-        & (point.x <= max(a.x, b.x))
-        & (min(a.y, b.y) <= point.y)
-        & (point.y <= max(a.y, b.y))
+    (a.x.min(b.x) <= point.x)
+        & (point.x <= a.x.max(b.x))
+        & (a.y.min(b.y) <= point.y)
+        & (point.y <= a.y.max(b.y))
 }
 
 // Whether a point whose side is given lies on the segment.

@@ -6,10 +6,9 @@ ghost use Rattle.definitions.specs.Spans.{candidate_axis_range, candidate_minor_
 ghost use Rattle.span_geometry.specs.Shapes.{max_pixel, Sound, segment_of};
 ghost use Rattle.span_geometry.specs.Strips.{Walks, Usable, strip_of, line_of};
 
-use super::numbers::{abs_diff, difference, div_euclid, saturating_sub};
+use super::numbers::{difference, div_euclid};
 use super::segments::middle_of;
 use super::{PIXELS_PER_WALK_CELL, SpanGeometry};
-use plain_numbers::{max, min};
 
 const CANDIDATE_MARGIN_PIXELS: u64 = 16;
 
@@ -27,11 +26,8 @@ pub fn candidate_axis_range(minimum: u64, maximum: u64, limit: u64) -> RangeIncl
     ensures { Walks result (candidate_axis_range minimum maximum limit) limit }
 {
     RangeInclusive {
-        first: saturating_sub(minimum, CANDIDATE_MARGIN_PIXELS) / PIXELS_PER_WALK_CELL,
-        last: min(
-            (maximum + CANDIDATE_MARGIN_PIXELS) / PIXELS_PER_WALK_CELL,
-            limit - 1,
-        ),
+        first: minimum.saturating_sub(CANDIDATE_MARGIN_PIXELS) / PIXELS_PER_WALK_CELL,
+        last: ((maximum + CANDIDATE_MARGIN_PIXELS) / PIXELS_PER_WALK_CELL).min(limit - 1),
     }
 }
 
@@ -41,8 +37,8 @@ pub fn candidate_minor_range(reference: u64, limit: u64) -> RangeInclusive
 {
     let center = reference / PIXELS_PER_WALK_CELL;
     RangeInclusive {
-        first: saturating_sub(center, CANDIDATE_MINOR_RADIUS_CELLS),
-        last: min(center + CANDIDATE_MINOR_RADIUS_CELLS, limit - 1),
+        first: center.saturating_sub(CANDIDATE_MINOR_RADIUS_CELLS),
+        last: (center + CANDIDATE_MINOR_RADIUS_CELLS).min(limit - 1),
     }
 }
 
@@ -61,7 +57,7 @@ impl Strip {
         requires { Sound g × (endpoints_differ (segment_of g) ≡ true) }
         ensures { (result ≡ strip_of (segment_of g)) × Usable result }
     {
-        if abs_diff(g.a.y, g.b.y) <= abs_diff(g.a.x, g.b.x) {
+        if g.a.y.abs_diff(g.b.y) <= g.a.x.abs_diff(g.b.x) {
             Strip {
                 columns: true,
                 major0: g.min_x,
@@ -102,7 +98,7 @@ impl Strip {
         ensures { result ≡ line_of self k }
     {
         let run = self.major1 - self.major0;
-        let reached = max(self.major0, min(middle_of(k), self.major1));
+        let reached = self.major0.max(middle_of(k).min(self.major1));
         let start = self.minor0 * run;
         let line = start as i64
             + difference(self.minor1, self.minor0) * difference(reached, self.major0);

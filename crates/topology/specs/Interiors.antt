@@ -1,11 +1,12 @@
 -- The words of the contracts of `interior_fits`, `judge_interiors` and `collapse_ramp_interiors`. Definitions only; assumes nothing.
-use Rattle.std.specs.Prelude.{ℕ, ◌≤◌, ◌<◌, ◌≡◌, Bool, false, List, length, get_or}
+use Rattle.std.specs.Prelude.{ℕ, ◌≤◌, ◌<◌, ◌≡◌, Bool, false, List, length, get_or, Option}
 use Rattle.definitions.specs.Scan.{member}
 use Rattle.definitions.specs.Context.{Context}
 use Rattle.definitions.specs.RampInteriors.{removed}
 use Rattle.laws.specs.FloatLaws.Pixels.{PixelContext}
 use Rattle.context.specs.declared.Region.{Region}
 use Rattle.context.specs.Shown.{ShownBoundaries}
+use Rattle.interior_proposals.specs.declared.ports.Ports.{Ports}
 use Rattle.interior_proposals.specs.Given.{Lent}
 use Rattle.interior_regions.specs.declared.Interior.{Interior}
 use Rattle.interior_regions.specs.Places.{AllReadable}
@@ -24,10 +25,10 @@ pub record Asks (C : Context) (records : List Region) (boundaries pairs names : 
   pub second : x.second < C.count
 
 -- the lists hold what was found of the components of C, and the records are its records
-pub record Judges (C : Context) (records : List Region) (boundaries pairs starts names owners firsts seconds : List ℕ) (count : ℕ) : Type 0 where
+pub record Judges (C : Context) (records : List Region) (boundaries pairs starts names owners : List ℕ) (found : List (Option Ports)) (count : ℕ) : Type 0 where
   pub held : HoldsRecords C records
   pub tallies : List ℕ
-  pub interiors : interiors.Interiors C boundaries tallies pairs starts names owners firsts seconds count
+  pub interiors : interiors.Interiors C boundaries tallies pairs starts names owners found count
 
 -- the lists and the records show C, a context of a map
 pub record Collapses (C : Context) (records : List Region) (boundaries tallies pairs starts : List ℕ) (count regions : ℕ) (marks counts : List ℕ) : Type 0 where

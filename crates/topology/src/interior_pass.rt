@@ -9,8 +9,9 @@ ghost use Rattle.topology.specs.Proposals.{Unmarked};
 use crate::slice::record_at;
 use context::Region;
 use interior_proposals::fits::{reach_of, region_fits};
+use interior_proposals::ports::Ports;
 use interior_regions::{
-    Interior, find_interiors, interior_at, mark_edges, next_inside, record_place,
+    Interior, find_interiors, interior_at, is_inside, mark_edges, record_place,
 };
 
 // Whether every region of an interior fits its ports, and one has a ramp.
@@ -30,12 +31,12 @@ pub fn interior_fits(
     let reach = reach_of(boundaries, interior.first, interior.second);
     let mut fits = true;
     let mut ramp = false;
-    let mut k = next_inside(pairs, names, interior.name, interior.begin, interior.end);
-    while k < interior.end {
-        let region = record_at(records, record_place(pairs, k));
-        fits = fits & region_fits(reach, region);
-        ramp = ramp | (0 < region.ramp_cells);
-        k = next_inside(pairs, names, interior.name, k + 1, interior.end);
+    for k in interior.begin..interior.end {
+        if is_inside(pairs, names, interior.name, k) {
+            let region = record_at(records, record_place(pairs, k));
+            fits = fits & region_fits(reach, region);
+            ramp = ramp | (0 < region.ramp_cells);
+        }
     }
     fits & ramp
 }
@@ -48,23 +49,23 @@ pub fn judge_interiors(
     starts: &[usize; 257],
     names: &[u32],
     owners: &[u32; 256],
-    firsts: &[usize; 256],
-    seconds: &[usize; 256],
+    found: &[Option<Ports>; 256],
     count: usize,
     removed: &mut [bool; 256],
 )
     requires interiors_found { (C : Context) × Judges C records.now boundaries.now pairs.now starts.now names.now
-        owners.now firsts.now seconds.now count }
+        owners.now found.now count }
     requires none_marked { (length removed.old ≡ max_entries) × Unmarked removed.old count }
     ensures { (C : Context) →
         Judges C records.now boundaries.now pairs.now starts.now names.now
-        owners.now firsts.now seconds.now count →
+        owners.now found.now count →
         Collapsed C count removed.new }
 {
     for i in 0..count {
-        let interior = interior_at(pairs, starts, owners, firsts, seconds, count, i);
-        let fits = interior_fits(records, boundaries, pairs, names, interior);
-        mark_edges(owners, count, interior.name, fits, removed);
+        if let Some(interior) = interior_at(pairs, starts, owners, found, count, i) {
+            let fits = interior_fits(records, boundaries, pairs, names, interior);
+            mark_edges(owners, count, interior.name, fits, removed);
+        }
     }
 }
 
@@ -90,8 +91,7 @@ pub fn collapse_ramp_interiors(
         Collapsed C count removed.new }
 {
     let mut owners = [0u32; 256];
-    let mut firsts = [0usize; 256];
-    let mut seconds = [0usize; 256];
+    let mut found = [None; 256];
     find_interiors(
         boundaries,
         tallies,
@@ -102,10 +102,9 @@ pub fn collapse_ramp_interiors(
         marks,
         counts,
         &mut owners,
-        &mut firsts,
-        &mut seconds,
+        &mut found,
     );
     judge_interiors(
-        records, boundaries, pairs, starts, counts, &owners, &firsts, &seconds, count, removed,
+        records, boundaries, pairs, starts, counts, &owners, &found, count, removed,
     );
 }

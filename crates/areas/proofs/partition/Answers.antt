@@ -1,17 +1,17 @@
 -- `areas::partition` meets its contract: a check before it refuses, or the lists fit and are divided. Assumes nothing.
-use mathlib.Core.Path.{sym}
+use Rattle.std.proofs.Common.{rules, sym, ◌≡◌}
+use Rattle.std.specs.Prelude.{Err}
 use Rattle.areas.proofs.Early.{early-fit}
 use Rattle.areas.proofs.Exits.{ran-refused}
-use Rattle.areas.proofs.Chain.{says}
 use Rattle.areas.proofs.partition.Goals as goal
 
 pub divide-requires : goal.divide-requires
-divide-requires c =
-    early-fit _ _ _ _ _ _ _ _ (sym (says c.checks_before-check.ensures c.in-Fit.is))
+divide-requires c = early-fit _ _ _ _ _ _ _ _ (sym c.in_ok-checks_before.ensures)
 
-pub returns-in-Refused : goal.returns-in-Refused
-returns-in-Refused c = ran-refused _ _ _ _ _ _ _ _ _ _ _ (says c.checks_before-check.ensures c.in-Refused.is)
+pub returns-in_err-checks_before : goal.returns-in_err-checks_before
+returns-in_err-checks_before c =
+    let r : c.from_residual.result ≡ Err c.in_err-checks_before.field-0.0 = search rules in
+    rw r (ran-refused _ _ _ _ _ _ _ _ _ c.in_err-checks_before.field-0.0 c.in_err-checks_before.ensures)
 
-pub returns-in-Fit : goal.returns-in-Fit
-returns-in-Fit c =
-    c.divide.ensures (says c.checks_before-check.ensures c.in-Fit.is)
+pub returns : goal.returns
+returns c = c.divide.ensures c.in_ok-checks_before.ensures

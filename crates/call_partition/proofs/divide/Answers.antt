@@ -1,21 +1,22 @@
 -- `call_partition::divide` meets its contract: labels, scratch and assessed spans, put together in Preparing. Assumes nothing.
-use Rattle.areas.proofs.Dividing.{assess_asked}
+use Rattle.std.proofs.Common.{rules, ◌≡◌, ◌*◌, ◌/◌}
+use lib.ListN.{take, replicate, length}
+use Rattle.definitions.specs.Limits.{numbers_per_span, tallies_per_span}
+use Rattle.areas.proofs.Clearing.{cleared_front, cleared_all}
 use Rattle.call_partition.proofs.Preparing.{refused-records, refused-pairs, all-ready}
-use native.Mathlib.Omega.{arith}
 use Rattle.call_partition.proofs.divide.Goals as goal
 
 pub returns-then-room-regions : goal.returns-then-room-regions
 returns-then-room-regions c =
-    record { divided = λ pass boundaries anchors output e. refused-records pass _ _ _ _ boundaries anchors _ output _ _ _ _ _ e c.label_regions-regions.ensures c.if-room-regions.true c.clear_scratch.ensures.0 c.clear_scratch.ensures.1 c.clear_numbers.ensures; late = omega arith }
+    let n = tallies_per_span * (length c.args.spans.now / numbers_per_span) in
+    let t : c.fill.new.self ≡ replicate (length (take n c.args.tallies.now)) 0 = search rules in
+    λ pass boundaries anchors output e. refused-records pass _ _ _ _ boundaries anchors _ output _ _ _ _ _ e c.label_regions-regions.ensures c.if-room-regions.true c.clear_scratch.ensures.0 c.clear_scratch.ensures.1 (cleared_front n c.args.tallies.now c.requires.tallies_long t)
 
-pub assess_spans-requires : goal.assess_spans-requires
-assess_spans-requires c =
-    record { checked = c.requires.checked; asked = assess_asked c.requires c.label_regions-regions.ensures.shown c.label_regions-regions.auto.labels }
+pub returns-in-Some : goal.returns-in-Some
+returns-in-Some c =
+    λ pass boundaries anchors output e. all-ready pass _ _ _ _ boundaries anchors _ output _ _ _ _ _ e c.label_regions-regions.ensures c.if-room-regions.false c.assess_spans.ensures c.in-Some.is
 
-pub returns-in-Rows : goal.returns-in-Rows
-returns-in-Rows c =
-    record { divided = λ pass boundaries anchors output e. all-ready pass _ _ _ _ boundaries anchors _ output _ _ _ _ _ e c.label_regions-regions.ensures c.if-room-regions.false c.assess_spans.ensures c.in-Rows.is; late = tt }
-
-pub returns-in-TooMany : goal.returns-in-TooMany
-returns-in-TooMany c =
-    record { divided = λ pass boundaries anchors output e. refused-pairs pass _ _ _ _ boundaries anchors _ output _ _ _ _ _ e c.label_regions-regions.ensures c.if-room-regions.false c.assess_spans.ensures c.in-TooMany.is c.clear_scratch-in-TooMany.ensures.0 c.clear_scratch-in-TooMany.ensures.1 c.clear_numbers-in-TooMany.ensures; late = omega arith }
+pub returns-in-None : goal.returns-in-None
+returns-in-None c =
+    let p : c.fill-in-None.new.self ≡ replicate (length c.assess_spans.new.pairs) 0 = search rules in
+    λ pass boundaries anchors output e. refused-pairs pass _ _ _ _ boundaries anchors _ output _ _ _ _ _ e c.label_regions-regions.ensures c.if-room-regions.false c.assess_spans.ensures c.in-None.is c.clear_scratch-in-None.ensures.0 c.clear_scratch-in-None.ensures.1 (cleared_all c.assess_spans.new.pairs p)

@@ -1,17 +1,17 @@
 -- `call_partition::prepare` meets its contract: a check before it refuses, or the lists fit and are divided. Assumes nothing.
-use mathlib.Core.Path.{sym}
+use Rattle.std.proofs.Common.{rules, sym, ◌≡◌}
+use Rattle.std.specs.Prelude.{Err}
 use Rattle.call_partition.proofs.EarlyFits.{early-fits}
 use Rattle.call_partition.proofs.Preparing.{refused-before}
-use Rattle.areas.proofs.Chain.{says}
 use Rattle.call_partition.proofs.prepare.Goals as goal
 
 pub divide-requires : goal.divide-requires
-divide-requires c =
-    early-fits _ _ _ _ _ _ _ _ _ _ _ _ (sym (says c.checks_before-check.ensures c.in-Fit.is))
+divide-requires c = early-fits _ _ _ _ _ _ _ _ _ _ _ _ (sym c.in_ok-checks_before.ensures)
 
-pub returns-in-Refused : goal.returns-in-Refused
-returns-in-Refused c = refused-before _ _ _ _ _ _ _ _ _ _ _ _ _ _ _ _ (says c.checks_before-check.ensures c.in-Refused.is)
+pub returns-in_err-checks_before : goal.returns-in_err-checks_before
+returns-in_err-checks_before c =
+    let r : c.from_residual.result ≡ Err c.in_err-checks_before.field-0.0 = search rules in
+    rw r (refused-before _ _ _ _ _ _ _ _ _ _ _ _ _ _ _ _ c.in_err-checks_before.ensures)
 
-pub returns-in-Fit : goal.returns-in-Fit
-returns-in-Fit c =
-    c.divide.ensures.divided _ _ _ _ (says c.checks_before-check.ensures c.in-Fit.is)
+pub returns : goal.returns
+returns c = c.divide.ensures _ _ _ _ c.in_ok-checks_before.ensures

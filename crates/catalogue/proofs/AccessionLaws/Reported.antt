@@ -1,8 +1,7 @@
 -- The same of what a call returned. The premise is that the answer and the output at exit are those of the contract, and that the number is 0; what is said is
 -- of the numbers that stand in the output, read back four by four, as many records as the answer counts. Assumes nothing.
-use Rattle.std.specs.Prelude.{ℕ, zero, suc, ◌*◌, ◌<◌, ◌≡◌, refl, ◌↔◌, Bool, true, false, drop, leb}
+use Rattle.std.specs.Prelude.{ℕ, zero, suc, ◌*◌, ◌<◌, ◌≡◌, refl, ◌↔◌, Bool, true, false, drop, leb, Option, None, Some}
 use Rattle.std.proofs.Common.{arith, sym, ap, ◌∙◌}
-use Rattle.std.specs.Prelude.{Option, None, Some}
 use mathlib.Core.List.{List, [], ◌∷◌, ◌++◌, Memᴰ}
 use Rattle.std.proofs.Math.ListN.{length}
 use Rattle.definitions.specs.Scan.{concat_map}

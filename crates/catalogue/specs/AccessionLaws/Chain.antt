@@ -3,10 +3,9 @@
 -- and the last has the latest day. So a check may look for the last record of the map alone. Assumes nothing.
 use Prim.Native.Nat.{ℕ, zero, suc, ◌<◌, ◌≤◌}
 use Rattle.std.proofs.Common.{arith, ap₂, ◌∙◌, true≢false}
-use Rattle.std.specs.Prelude.{◌≡◌, ◌&&◌, List, leb}
+use Rattle.std.specs.Prelude.{◌≡◌, ◌&&◌, List, leb, None}
 use Rattle.std.proofs.Math.Path.{refl, sym, ap}
 use Rattle.std.proofs.Math.Bool.{Bool, true, false, not, cond}
-use Rattle.std.specs.Prelude.{None}
 use Rattle.std.proofs.Math.Dec.{eqb, ltb}
 use borrow.Author.Tests.{eqb-true, eqb-false, eq-eqb, ne_eqb, ltb-true, ltb-false, le-ltb, le-leb, leb-true, not-true}
 use Rattle.definitions.specs.Scan.{any_below_lem}

@@ -1,10 +1,9 @@
 -- The line of an own number is that of its record's map: own numbers differ, so one record has it, and none has an unknown one. Assumes nothing.
 use Prim.Native.Nat.{ℕ, ◌<◌}
 use Rattle.std.proofs.Common.{arith, sym, ap₂, ◌∙◌, eqb-true, eq-eqb, ne_eqb}
-use Rattle.std.specs.Prelude.{◌≡◌, true, ◌&&◌, List, []}
+use Rattle.std.specs.Prelude.{◌≡◌, true, ◌&&◌, List, [], None}
 use Rattle.std.proofs.Math.Path.{ap}
 use Rattle.std.proofs.Math.Bool.{Bool, false}
-use Rattle.std.specs.Prelude.{None}
 use Rattle.std.proofs.Math.Dec.{eqb}
 use Rattle.definitions.specs.Scan.{collect}
 use Rattle.laws.specs.ListLaws.Tests.{both, same_test}

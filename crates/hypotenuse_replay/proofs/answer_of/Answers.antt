@@ -14,19 +14,19 @@ unfolding is_nan
 float_to_bits-result c =
     let x : ℕ = c.args.x in
     let y : ℕ = c.args.y in
-    let value_is : c.in-Root.value ≡ hypot_value (of_bits binary64 x) (of_bits binary64 y) = c.in-Root.ensures.1 ∙ (λ i. hypot_value (c.double.ensures i) (c.double-2.ensures i)) in
+    let value_is : c.in-Some.value ≡ hypot_value (of_bits binary64 x) (of_bits binary64 y) = c.in-Some.ensures.1 ∙ (λ i. hypot_value (c.double.ensures i) (c.double-2.ensures i)) in
     subst (λ (v : Float). T (not (is_nan v))) (sym (value_is ∙ (hypot_value-clear (of_bits binary64 x) (of_bits binary64 y)).2)) tt
 
-pub returns-in-Root : goal.returns-in-Root
+pub returns-in-Some : goal.returns-in-Some
 unfolding number_of_bits root_of_bits
-returns-in-Root c = (
-  c.in-Root.ensures.0 ∙ (λ i. hypot_number (c.double.ensures i) (c.double-2.ensures i)),
-  ap (to_bits binary64) (c.in-Root.ensures.1 ∙ (λ i. hypot_value (c.double.ensures i) (c.double-2.ensures i))),
+returns-in-Some c = (
+  c.in-Some.ensures.0 ∙ (λ i. hypot_number (c.double.ensures i) (c.double-2.ensures i)),
+  ap (to_bits binary64) (c.in-Some.ensures.1 ∙ (λ i. hypot_value (c.double.ensures i) (c.double-2.ensures i))),
 )
 
-pub returns-in-Refused : goal.returns-in-Refused
+pub returns-in-None : goal.returns-in-None
 unfolding to_bits number_of_bits root_of_bits
-returns-in-Refused c = (
-  c.in-Refused.ensures.0 ∙ (λ i. hypot_number (c.double.ensures i) (c.double-2.ensures i)),
-  ap (to_bits binary64) (c.in-Refused.ensures.1 ∙ (λ i. hypot_value (c.double.ensures i) (c.double-2.ensures i))),
+returns-in-None c = (
+  c.in-None.ensures.0 ∙ (λ i. hypot_number (c.double.ensures i) (c.double-2.ensures i)),
+  ap (to_bits binary64) (c.in-None.ensures.1 ∙ (λ i. hypot_value (c.double.ensures i) (c.double-2.ensures i))),
 )

@@ -48,9 +48,6 @@ overflow_add-n c =
     let l = c.loop-i in
     omega (arith, grows l.n c.args.base c.digit.result l.i l.invariant.1 c.requires.1 c.digit.ensures.1, word (l.i + 1) (omega (arith, c.requires.0)))
 
-pub overflow_add-i : goal.overflow_add-i
-overflow_add-i c = omega arith
-
 pub loop-i-smaller : goal.loop-i-smaller
 loop-i-smaller c = omega arith
 

@@ -8,6 +8,3 @@ use Rattle.interior_regions.proofs.end_of.Given as goal
 
 abbrev pub invariant-loop-j : goal.invariant-loop-j
 invariant-loop-j l = (l.j ≤ l.count) × ((k : ℕ) → l.j ≤ k → k < l.count → eqb (get_or l.owners k 0) l.name ≡ false)
-
-abbrev pub decreases-loop-j : goal.decreases-loop-j
-decreases-loop-j l = l.j

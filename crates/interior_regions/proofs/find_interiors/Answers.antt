@@ -17,7 +17,7 @@ propose_all-requires c =
     let K = c.name_components.ensures.known _ L in
     record {
       progress = (c.requires.lent.0, (lent-owning L (c.find_owners.ensures _ (lent-kept L K) L.counted), known-progress _ K));
-      room = (c.requires.room.1.0, c.requires.room.1.1);
+      room = c.requires.room.1;
     }
 
 pub returns : goal.returns

@@ -2,85 +2,60 @@
 use Prim.Native.Nat.{ℕ, ◌+◌, ◌*◌, ◌≤◌, ◌<◌, min, max}
 use native.Mathlib.Omega.{arith}
 use mathlib.Core.Path.{◌≡◌, ap, ◌∙◌}
+use mathlib.Core.List.{List}
 use lib.ListN.{length, get_or}
+use borrow.Author.Rules.{rules}
+use Rattle.std.specs.Prelude.{Option, None, Some}
 use Rattle.definitions.specs.Limits.{max_entries}
-use Rattle.interior_proposals.specs.Proposals.{no_port}
+use Rattle.interior_proposals.specs.declared.ports.Ports.{Ports}
+use Rattle.interior_regions.specs.Marks.{SomeInteriors, EndOf}
 use Rattle.interior_regions.proofs.PlaceLaws.{starts_fit}
 use Rattle.interior_regions.proofs.Stretches.{stretched_none, ports-below, stretched_two}
-use borrow.Author.Rules.{rules}
 use Rattle.interior_regions.proofs.interior_at.Goals as goal
 
-pub returns-then-a-eq-NO_PORT : goal.returns-then-a-eq-NO_PORT
-returns-then-a-eq-NO_PORT c =
-    λ C b t n I. stretched_none I _ (omega (arith, I.owning.counted, c.requires.i_within)) c.if-a-eq-NO_PORT.true
+-- what the bounds need, over plain variables
+module _ {pairs starts owners : List ℕ} {found : List (Option Ports)} {count i : ℕ} (pre : SomeInteriors pairs starts owners found count) (l : i < count) where
+  few : count ≤ max_entries
+  few = let I = pre.1.1.1.1 in omega (arith, I.owning.counted, I.owning.given.paired.few)
 
-pub end_of-requires : goal.end_of-requires
-end_of-requires c =
-    let few : c.args.count ≤ max_entries = let I = c.requires.interiors.1.1.1.1 in
-    omega (arith, I.owning.counted, I.owning.given.paired.few) in
-    few
+  short : (j : ℕ) → j ≤ count → 2 * get_or starts j 0 ≤ length pairs
+  short j h = let I = pre.1.1.1.1 in starts_fit I.owning.given.paired j (omega (arith, I.owning.counted))
 
-pub overflow_add-most : goal.overflow_add-most
-overflow_add-most c =
-    let first : ℕ = get_or c.args.firsts.now c.args.i 0 in
-    let second : ℕ = get_or c.args.seconds.now c.args.i 0 in
-    let few : c.args.count ≤ max_entries = let I = c.requires.interiors.1.1.1.1 in
-    omega (arith, I.owning.counted, I.owning.given.paired.few) in
-    let below : (first ≡ no_port → ⊥) → (first < c.args.count) × (second < c.args.count) = λ e. let I = c.requires.interiors.1.1.1.1 in
-    ports-below I c.args.i (omega (arith, I.owning.counted, c.requires.i_within)) e in
-    let after : c.most.result < c.args.count = omega (arith, c.most.ensures, below c.if-a-eq-NO_PORT.false) in
-    omega (arith, after, few)
+  module _ {p : Ports} (e : get_or found i None ≡ Some p) where
+    after : max p.first p.second < count
+    after = let I = pre.1.1.1.1 in omega (arith, ports-below I i (omega (arith, I.owning.counted)) e)
+
+    high : {n : ℕ} → EndOf owners count (get_or owners i 0) n → max n (max p.first p.second + 1) ≤ count
+    high E = omega (arith, after, E.upto)
+
+pub returns-in_err-ports : goal.returns-in_err-ports
+returns-in_err-ports c =
+    λ C b t n I. rw c.from_residual.ensures (stretched_none I _ (omega (arith, I.owning.counted, c.requires.i_within)) c.in_err-ports.was)
+
+pub overflow_add-max : goal.overflow_add-max
+overflow_add-max c =
+    omega (arith, c.max.ensures, after c.requires.interiors c.requires.i_within c.in_ok-ports.was, few c.requires.interiors c.requires.i_within)
 
 pub overflow_mul-result : goal.overflow_mul-result
 overflow_mul-result c =
-    let short : (j : ℕ) → j ≤ c.args.count → 2 * get_or c.args.starts.now j 0 ≤ length c.args.pairs.now = λ j h. let I = c.requires.interiors.1.1.1.1 in
-    starts_fit I.owning.given.paired j (omega (arith, I.owning.counted)) in
-    let low : c.least-low.result ≤ c.args.count = omega (arith, c.least-low.ensures, c.requires.i_within) in
-    search (rules, short c.least-low.result low)
+    let low : c.min-low.result ≤ c.args.count = omega (arith, c.min-low.ensures, c.requires.i_within) in
+    search (rules, short c.requires.interiors c.requires.i_within c.min-low.result low)
 
 pub offset_bounds-starts-high : goal.offset_bounds-starts-high
 offset_bounds-starts-high c =
-    let first : ℕ = get_or c.args.firsts.now c.args.i 0 in
-    let second : ℕ = get_or c.args.seconds.now c.args.i 0 in
-    let few : c.args.count ≤ max_entries = let I = c.requires.interiors.1.1.1.1 in
-    omega (arith, I.owning.counted, I.owning.given.paired.few) in
-    let below : (first ≡ no_port → ⊥) → (first < c.args.count) × (second < c.args.count) = λ e. let I = c.requires.interiors.1.1.1.1 in
-    ports-below I c.args.i (omega (arith, I.owning.counted, c.requires.i_within)) e in
-    let after : c.most.result < c.args.count = omega (arith, c.most.ensures, below c.if-a-eq-NO_PORT.false) in
-    let high : c.most-high.result ≤ c.args.count = omega (arith, c.most-high.ensures, after, c.end_of.ensures.upto) in
-    omega (arith, high, few)
+    omega (arith, c.max.ensures, c.max-high.ensures, high c.requires.interiors c.requires.i_within c.in_ok-ports.was c.end_of.ensures, few c.requires.interiors c.requires.i_within)
 
 pub bounds-starts-high : goal.bounds-starts-high
 bounds-starts-high c =
-    let first : ℕ = get_or c.args.firsts.now c.args.i 0 in
-    let second : ℕ = get_or c.args.seconds.now c.args.i 0 in
-    let few : c.args.count ≤ max_entries = let I = c.requires.interiors.1.1.1.1 in
-    omega (arith, I.owning.counted, I.owning.given.paired.few) in
-    let below : (first ≡ no_port → ⊥) → (first < c.args.count) × (second < c.args.count) = λ e. let I = c.requires.interiors.1.1.1.1 in
-    ports-below I c.args.i (omega (arith, I.owning.counted, c.requires.i_within)) e in
-    let after : c.most.result < c.args.count = omega (arith, c.most.ensures, below c.if-a-eq-NO_PORT.false) in
-    let high : c.most-high.result ≤ c.args.count = omega (arith, c.most-high.ensures, after, c.end_of.ensures.upto) in
-    omega (arith, high, few)
+    omega (arith, c.max.ensures, c.max-high.ensures, high c.requires.interiors c.requires.i_within c.in_ok-ports.was c.end_of.ensures, few c.requires.interiors c.requires.i_within)
 
 pub overflow_mul-result-2 : goal.overflow_mul-result-2
 overflow_mul-result-2 c =
-    let first : ℕ = get_or c.args.firsts.now c.args.i 0 in
-    let second : ℕ = get_or c.args.seconds.now c.args.i 0 in
-    let below : (first ≡ no_port → ⊥) → (first < c.args.count) × (second < c.args.count) = λ e. let I = c.requires.interiors.1.1.1.1 in
-    ports-below I c.args.i (omega (arith, I.owning.counted, c.requires.i_within)) e in
-    let short : (j : ℕ) → j ≤ c.args.count → 2 * get_or c.args.starts.now j 0 ≤ length c.args.pairs.now = λ j h. let I = c.requires.interiors.1.1.1.1 in
-    starts_fit I.owning.given.paired j (omega (arith, I.owning.counted)) in
-    let after : c.most.result < c.args.count = omega (arith, c.most.ensures, below c.if-a-eq-NO_PORT.false) in
-    let high : c.most-high.result ≤ c.args.count = omega (arith, c.most-high.ensures, after, c.end_of.ensures.upto) in
-    search (rules, short c.most-high.result high)
+    let upto : c.max-high.result ≤ c.args.count = omega (arith, c.max.ensures, c.max-high.ensures, high c.requires.interiors c.requires.i_within c.in_ok-ports.was c.end_of.ensures) in
+    search (rules, short c.requires.interiors c.requires.i_within c.max-high.result upto)
 
 pub returns : goal.returns
 returns c =
-    let n = c.end_of.result in
-    let a = c.least in
-    let b = c.least-low in
-    let d = c.most in
-    let e = c.most-high in
     λ C bs t ns I.
-    stretched_two I c.args.i (omega (arith, I.owning.counted, c.requires.i_within)) c.end_of.ensures (b.ensures ∙ ap (λ m. min c.args.i m) a.ensures) (e.ensures ∙ ap (λ m. max n (m + 1)) d.ensures)
-    c.if-a-eq-NO_PORT.false
+    stretched_two I c.args.i (omega (arith, I.owning.counted, c.requires.i_within)) c.in_ok-ports.was c.end_of.ensures
+    (c.min-low.ensures ∙ ap (min c.args.i) c.min.ensures) (c.max-high.ensures ∙ ap (λ m. max c.end_of.result (m + 1)) c.max.ensures)

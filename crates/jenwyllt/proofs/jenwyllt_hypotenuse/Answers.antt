@@ -4,15 +4,15 @@ use lib.Ieee.{of_bits}
 use Rattle.hypotenuse.specs.Contract.{number_of, value_of}
 use Rattle.jenwyllt.proofs.jenwyllt_hypotenuse.Goals as goal
 
-pub returns-in-Root : goal.returns-in-Root
-returns-in-Root c =
-    let e = sym c.in-Root.is in
+pub returns-in-Some : goal.returns-in-Some
+returns-in-Some c =
+    let e = sym c.in-Some.is in
     let h = c.hypotenuse.ensures in
     (ap number_of e ∙ h.0, ap value_of e ∙ h.1)
 
-pub returns-in-Refused : goal.returns-in-Refused
+pub returns-in-None : goal.returns-in-None
 unfolding of_bits
-returns-in-Refused c =
-    let e = sym c.in-Refused.is in
+returns-in-None c =
+    let e = sym c.in-None.is in
     let h = c.hypotenuse.ensures in
     (ap number_of e ∙ h.0, ap value_of e ∙ h.1)

@@ -2,10 +2,10 @@
 use Rattle.jenwyllt.proofs.Answering.{sheet-answered}
 use Rattle.jenwyllt.proofs.jenwyllt_read_sheet.Goals as goal
 
-pub returns-in-Read : goal.returns-in-Read
-returns-in-Read c =
-    sheet-answered c.read_sheet.ensures c.in-Read.is c.opened.ensures
+pub returns-in-Ok : goal.returns-in-Ok
+returns-in-Ok c =
+    sheet-answered c.read_sheet.ensures c.in-Ok.is c.opened.ensures
 
-pub returns-in-Refused : goal.returns-in-Refused
-returns-in-Refused c =
-    sheet-answered c.read_sheet.ensures c.in-Refused.is c.refused.ensures
+pub returns-in-Err : goal.returns-in-Err
+returns-in-Err c =
+    sheet-answered c.read_sheet.ensures c.in-Err.is c.refused.ensures

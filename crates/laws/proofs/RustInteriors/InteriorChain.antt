@@ -1,12 +1,10 @@
 -- The proposal that the Rust pushes from the ports of a component, if its `retain` leaves it, is `interior_from`'s: the two ends of a ramp are a set of two sides
 -- exactly where they differ, the walk over the ports is `expand_port` twice (Leaves), and every region of an expansion is named by a pair, so that it has
 -- statistics. Assumes nothing.
-use Rattle.std.specs.Prelude.{ℕ, zero, suc, ◌<◌, ◌≤◌, ◌≡◌, ◌||◌, ltb}
+use Rattle.std.specs.Prelude.{ℕ, zero, suc, ◌<◌, ◌≤◌, ◌≡◌, ◌||◌, ltb, None, Some, option_map}
 use Rattle.std.proofs.Common.{arith, ◌∙◌, true≢false, lt-ltb}
 use Rattle.std.proofs.Math.Path.{refl, sym, ap, ap₂}
 use Rattle.std.proofs.Math.Bool.{Bool, true, false, not, ◌&&◌, cond, or-false, and_assoc, not-not}
-use Rattle.std.specs.Prelude.{None, Some}
-use Rattle.std.specs.Prelude.{option_map}
 use mathlib.Core.List.{List, [], ◌∷◌, ◌++◌}
 use Rattle.std.proofs.Math.Dec.{eqb}
 use Rattle.std.specs.Float.Ieee.{le}

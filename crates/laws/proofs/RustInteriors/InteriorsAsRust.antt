@@ -3,11 +3,9 @@
 -- proposal are the definitions' (ComponentSearch, InteriorChain); the sorted lists agree, and the selection is Selection2. Assumes a sound and checked context.
 use Prim.Native.Nat.{ℕ, zero, suc, compare, ◌<◌, ◌≤◌}
 use Rattle.std.proofs.Common.{arith, ◌∙◌}
-use Rattle.std.specs.Prelude.{◌≡◌, Bool, ◌&&◌, length}
+use Rattle.std.specs.Prelude.{◌≡◌, Bool, ◌&&◌, length, option_map, Option, None}
 use Rattle.std.proofs.Math.Path.{refl, sym, ap}
 use Rattle.std.proofs.Math.Bool.{true, false, not, cond, and-false}
-use Rattle.std.specs.Prelude.{option_map}
-use Rattle.std.specs.Prelude.{Option, None}
 use mathlib.Core.List.{List, [], ◌++◌, map, append-nil}
 use Rattle.std.proofs.Math.Dec.{eqb, leb}
 use borrow.Author.Tests.{le-ltb, eqb-true, eq-eqb}

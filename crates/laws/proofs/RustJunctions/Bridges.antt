@@ -1,12 +1,11 @@
 -- The bridges of junctions.rs as the Rust makes and ranks them, pocket by pocket, and that they are the definitions'. The argument: a port of a pocket that is a
 -- full pair names the pocket, so that the region beyond it is the pair's other one; the groups of three ports are the three arrangements (BridgeGroups); and the tests
 -- are the same conjunction in another order. Assumes nothing.
-use Rattle.std.specs.Prelude.{ℕ, suc, ◌≡◌, Bool, ◌||◌, length, eqb, ltb}
+use Rattle.std.specs.Prelude.{ℕ, suc, ◌≡◌, Bool, ◌||◌, length, eqb, ltb, Option, None, Some}
 use Rattle.std.proofs.Common.{arith, ◌∙◌, ne_eqb, eqb-true}
 use Rattle.std.proofs.Math.Path.{refl, sym, ap, ap₂}
 use Rattle.std.proofs.Math.Bool.{true, false, not, ◌&&◌, cond, or-false}
 use Rattle.std.proofs.lemmas.Bool.{false≢true}
-use Rattle.std.specs.Prelude.{Option, None, Some}
 use mathlib.Core.List.{List, [], ◌∷◌}
 use Rattle.definitions.specs.Scan.{any, all, only_if}
 use Rattle.definitions.specs.Grid.{Pair, contains}

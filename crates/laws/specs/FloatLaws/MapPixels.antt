@@ -1,8 +1,7 @@
 -- The coordinates of a map that passes checks 1 and 7 of the table of SPECIFICATION 4: its sides are 1 to 1,024 cells and its boundaries' endpoints are on it, so that
 -- endpoints are pixels up to 8,192. So are the edges of a region, the least and the most of coordinates of its cells. Assumes nothing.
-use Rattle.std.specs.Prelude.{◌≡◌, ℕ, ◌+◌, ◌*◌, ◌/◌, ◌%◌, ◌≤◌, ◌<◌, Bool, true, ◌&&◌, List, get_or, eqb}
+use Rattle.std.specs.Prelude.{◌≡◌, ℕ, ◌+◌, ◌*◌, ◌/◌, ◌%◌, ◌≤◌, ◌<◌, Bool, true, ◌&&◌, List, get_or, eqb, None}
 use Rattle.std.proofs.Common.{zero-le, le_trans, mul-le-mul_left, mod-lt, div-lt_iff_lt-mul, arith, leb-true}
-use Rattle.std.specs.Prelude.{None}
 use Rattle.definitions.specs.Limits.{is_side, max_side}
 use Rattle.definitions.specs.Grid.{Position, Segment, Map, map_of, no_boundary, cell_count}
 use Rattle.definitions.specs.Spans.{pixels_per_walk_cell}

@@ -2,9 +2,8 @@
 -- What is found at k is then what any search beyond k finds, and at the end nothing is found at all. Assumes nothing.
 use Prim.Native.Nat.{ℕ, zero, suc, ◌+◌, ◌≤◌, ◌<◌}
 use Rattle.std.proofs.Common.{add-one, le_antisymm, arith, sym, ap, ◌∙◌, ltb-true, ltb-false}
-use Rattle.std.specs.Prelude.{◌≡◌, Bool, true, false, not, ltb}
+use Rattle.std.specs.Prelude.{◌≡◌, Bool, true, false, not, ltb, Option, None, Some}
 use Rattle.std.proofs.Math.Path.{refl}
-use Rattle.std.specs.Prelude.{Option, None, Some}
 use Rattle.definitions.specs.Scan.{only_if}
 use Rattle.definitions.specs.Refusals.{or_else, first_below_lem, first_faulty}
 

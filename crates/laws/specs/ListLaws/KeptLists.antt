@@ -1,11 +1,9 @@
 -- What a `retain` after a loop keeps of the list that the loop filled can be asked of each element as it is put there; and what scans collect. Assumes nothing.
 use Prim.Native.Nat.{ℕ, zero, suc, ◌<◌}
 use Rattle.std.proofs.Common.{arith, sym, ap₂, ◌∙◌}
-use Rattle.std.specs.Prelude.{◌≡◌, Bool}
+use Rattle.std.specs.Prelude.{◌≡◌, Bool, option_map, Option, None, Some}
 use Rattle.std.proofs.Math.Path.{refl, ap}
 use Rattle.std.proofs.Math.Bool.{true, false, cond}
-use Rattle.std.specs.Prelude.{option_map}
-use Rattle.std.specs.Prelude.{Option, None, Some}
 use mathlib.Core.List.{List, [], ◌∷◌, ◌++◌, map, append-nil, append_assoc}
 use Rattle.definitions.specs.Scan.{filter, collect, gather, to_list, only_if}
 use Rattle.laws.specs.ListLaws.Lists.{filter-append, map-append}

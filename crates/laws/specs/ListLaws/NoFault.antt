@@ -1,11 +1,10 @@
 -- What it says that a check finds no fault: the test holds, and of a search for the first faulty place, every place passes. Assumes nothing.
 use Prim.Native.Nat.{ℕ, zero, suc, ◌≤◌, ◌<◌}
 use native.Mathlib.Omega.{arith}
-use Rattle.std.specs.Prelude.{◌≡◌, Bool, not}
+use Rattle.std.specs.Prelude.{◌≡◌, Bool, not, Option, None, Some}
 use Rattle.std.proofs.Math.Path.{refl, ap}
 use Rattle.std.proofs.Common.{◌∙◌, true≢false, ltb-true, ltb-false}
 use Rattle.std.proofs.Math.Bool.{true, false}
-use Rattle.std.specs.Prelude.{Option, None, Some}
 use Rattle.std.proofs.Math.Dec.{ltb}
 use Rattle.definitions.specs.Scan.{only_if}
 use Rattle.definitions.specs.Refusals.{or_else, first_below_lem, first_faulty}

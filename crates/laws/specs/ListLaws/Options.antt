@@ -1,9 +1,7 @@
 -- Options: what holds of the value, if there is one (`OnO`), and how tests, renamings and lists of an option go through one another. Assumes nothing.
-use Rattle.std.specs.Prelude.{◌≡◌, refl, Bool, true, false, cond}
+use Rattle.std.specs.Prelude.{◌≡◌, refl, Bool, true, false, cond, option_map, Option, None, Some}
 use Rattle.std.proofs.Math.Path.{ap}
 use Rattle.std.proofs.Common.{◌∙◌}
-use Rattle.std.specs.Prelude.{option_map}
-use Rattle.std.specs.Prelude.{Option, None, Some}
 use mathlib.Core.List.{[], map}
 use Rattle.definitions.specs.Scan.{filter, to_list, only_if}
 use Rattle.laws.specs.ListLaws.Lists.{All, done, more, filter_in, filter-out}

@@ -1,10 +1,9 @@
 -- Scans that ask a test of all numbers below n, and what holds of all that a scan collects. Assumes nothing.
 use Prim.Native.Nat.{ℕ, zero, suc, ◌<◌}
 use Rattle.std.proofs.Common.{arith, sym, ◌∙◌}
-use Rattle.std.specs.Prelude.{◌≡◌, Bool, List, [], ◌∷◌, ◌++◌}
+use Rattle.std.specs.Prelude.{◌≡◌, Bool, List, [], ◌∷◌, ◌++◌, Option}
 use Rattle.std.proofs.Math.Path.{refl, ap, ap₂}
 use Rattle.std.proofs.Math.Bool.{true, false, ◌&&◌, and_assoc}
-use Rattle.std.specs.Prelude.{Option}
 use Rattle.definitions.specs.Scan.{all, all_below, collect, to_list}
 use Rattle.laws.specs.ListLaws.Lists.{All, done, all_append}
 

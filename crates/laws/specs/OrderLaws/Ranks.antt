@@ -4,11 +4,10 @@ use Prim.Native.Nat.{ℕ, zero, suc, ◌+◌, ◌-◌, ◌≤◌, ◌<◌}
 use native.Mathlib.Omega.{arith}
 use native.Mathlib.Nat.{add-zero}
 use Rattle.std.proofs.Math.Numerals.{add-one}
-use Rattle.std.specs.Prelude.{◌≡◌, Bool, ◌&&◌, ◌||◌, eqb, ltb}
+use Rattle.std.specs.Prelude.{◌≡◌, Bool, ◌&&◌, ◌||◌, eqb, ltb, Option}
 use Rattle.std.proofs.Math.Path.{refl}
 use Rattle.std.proofs.Common.{sym, ap, ltb-true, ltb-false, eqb-true, lt-ltb, le-ltb, eq-eqb, ne_eqb}
 use Rattle.std.proofs.Math.Bool.{true, false, or-false, and-true}
-use Rattle.std.specs.Prelude.{Option}
 use mathlib.Core.List.{List, [], ◌++◌, map, append-nil}
 use Rattle.std.proofs.lemmas.Bool.{eqb-false}
 use Rattle.definitions.specs.Scan.{any_below_lem, all_below, count_below, collect, gather, to_list, bit, filter}

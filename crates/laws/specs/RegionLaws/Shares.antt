@@ -1,8 +1,7 @@
 -- The share behind dominance (document 02, request 2): it is exact, no other is, and at 99 percent it accepts what 99 cells of 100 accept. The argument: a quotient is at
 -- least 99 exactly where 99 times the divisor is no more than what is divided. Assumes nothing.
-use Rattle.std.specs.Prelude.{ℕ, zero, suc, ◌*◌, ◌/◌, ◌%◌, ◌≤◌, ◌<◌, ◌≡◌, leb}
+use Rattle.std.specs.Prelude.{ℕ, zero, suc, ◌*◌, ◌/◌, ◌%◌, ◌≤◌, ◌<◌, ◌≡◌, leb, None, Some}
 use Rattle.std.proofs.Common.{arith, le-div_iff_mul-le, div-add-mod', mod-lt, mul_comm, sym, ap, ◌∙◌, subst, leb-true, le-leb}
-use Rattle.std.specs.Prelude.{None, Some}
 use Rattle.std.proofs.lemmas.Option.{same_Some, none-some}
 use Rattle.std.proofs.Math.Arith.{digits_div, digits_mod}
 use Rattle.definitions.specs.RegionRecord.{Region, Share, IsShare, elevation_count, share_of, dominance_of, dominance, accepts}

@@ -1,10 +1,9 @@
 -- Elevations as junctions.rs asks of a region's record: `count_ones` of masks of eight bits, and the fold that finds the dominant elevation. They are the definitions'
 -- `strictly_flat` and, of regions with cells, `same_dominance`. The argument: the digits of a number counted from the lowest are its bits counted by place, a place of
 -- `a | b` is set where it is set in a or in b, and 99 cells of 100 are 99 percent (Shares). Assumes nothing.
-use Rattle.std.specs.Prelude.{ℕ, zero, suc, ◌+◌, ◌*◌, ◌/◌, ◌%◌, ◌^◌, ◌<◌, max, ◌≡◌, refl, Bool, true, false, not, ◌&&◌, ◌||◌, cond, List, [], ◌∷◌, eqb, ltb, leb}
+use Rattle.std.specs.Prelude.{ℕ, zero, suc, ◌+◌, ◌*◌, ◌/◌, ◌%◌, ◌^◌, ◌<◌, max, ◌≡◌, refl, Bool, true, false, not, ◌&&◌, ◌||◌, cond, List, [], ◌∷◌, eqb, ltb, leb, Option, None, Some}
 use Rattle.std.proofs.Common.{arith, div-one, sym, ap, ap₂, ◌∙◌, eqb-true}
 use Rattle.std.proofs.Math.Nat.{div-div-eq-div-mul, pow-succ'}
-use Rattle.std.specs.Prelude.{Option, None, Some}
 use Rattle.std.proofs.Math.Arith.{digits_mod}
 use Rattle.std.specs.Int.Bits.{bit_or, or_step, or_self}
 use Rattle.std.proofs.lemmas.Nat.{or_shr}

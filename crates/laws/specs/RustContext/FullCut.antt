@@ -1,10 +1,9 @@
 -- Full cuts as the Rust writes them (context.rs), and that in a sound context they are the definitions' full cuts. The argument: if the two counts are equal
 -- and above 0 there is a separated step, so there is a pair; and the labels of every pair differ. Assumes a sound context.
-use Rattle.std.specs.Prelude.{ℕ, suc, ◌<◌, ◌≡◌, Bool, ◌&&◌, length, ltb}
+use Rattle.std.specs.Prelude.{ℕ, suc, ◌<◌, ◌≡◌, Bool, ◌&&◌, length, ltb, Option, None, Some}
 use Rattle.std.proofs.Common.{arith}
 use Rattle.std.proofs.Math.Path.{refl}
 use Rattle.std.proofs.Math.Bool.{true, false, not, cond}
-use Rattle.std.specs.Prelude.{Option, None, Some}
 use mathlib.Core.List.{List, [], ◌∷◌}
 use Rattle.std.proofs.Math.Dec.{eqb}
 use borrow.Author.Tests.{ltb-true, eqb-true, ne_eqb}

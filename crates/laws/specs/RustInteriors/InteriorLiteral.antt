@@ -1,7 +1,6 @@
 -- `collapse_ramp_interiors` (ramp_boundaries.rs) from the ports of a component on: the tests of the two ramps, the proposal, and the `retain` after the loop, as
 -- they are written there. Definitions only. Assumes nothing.
-use Rattle.std.specs.Prelude.{ℕ, Bool, true, false, not, ◌&&◌, ◌||◌, cond, List, [], ◌∷◌, eqb}
-use Rattle.std.specs.Prelude.{Option, None, Some}
+use Rattle.std.specs.Prelude.{ℕ, Bool, true, false, not, ◌&&◌, ◌||◌, cond, List, [], ◌∷◌, eqb, Option, None, Some}
 use Rattle.std.specs.Float.Ieee.{le}
 use Rattle.std.specs.Float.Ieee.Scale.{finite}
 use Rattle.definitions.specs.Scan.{any, all}

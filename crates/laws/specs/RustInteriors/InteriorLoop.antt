@@ -1,8 +1,7 @@
 -- Pass 2 whole as the Rust writes it, `collapse_ramp_interiors` of ramp_boundaries.rs, from its steps in the files before: the loop over the starts, the `retain`, the
 -- sort and the selection. Definitions only. Assumes nothing.
 use Prim.Native.Nat.{ℕ, compare, Ordering}
-use Rattle.std.specs.Prelude.{cond, List, [], ◌∷◌, ◌++◌}
-use Rattle.std.specs.Prelude.{Option, None}
+use Rattle.std.specs.Prelude.{cond, List, [], ◌∷◌, ◌++◌, Option, None}
 use Rattle.definitions.specs.Scan.{member, filter, to_list}
 use Rattle.definitions.specs.Sort.{sort}
 use Rattle.definitions.specs.Context.{Context}

@@ -1,7 +1,6 @@
 -- The walk of `collapse_ramp_interiors` (ramp_boundaries.rs) over the two ports of an interior, which takes in the leaves beyond them, as it is written there.
 -- `expanded_regions` and `valid_ports` are an `Expansion`, its regions a set. Definitions only. Assumes nothing.
-use Rattle.std.specs.Prelude.{ℕ, Bool, false, not, ◌||◌, cond, List, [], ◌∷◌, length, eqb, ltb}
-use Rattle.std.specs.Prelude.{Option, None, Some}
+use Rattle.std.specs.Prelude.{ℕ, Bool, false, not, ◌||◌, cond, List, [], ◌∷◌, length, eqb, ltb, Option, None, Some}
 use Rattle.definitions.specs.Scan.{any, filter, member}
 use Rattle.definitions.specs.Grid.{Pair}
 use Rattle.definitions.specs.Context.{Context}

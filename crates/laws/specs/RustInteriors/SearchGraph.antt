@@ -1,11 +1,10 @@
 -- The links that the Rust's graph holds at a region (DepthFirstLiteral): what holds of all of them is what holds of each pair of an ordinary full cut that names the
 -- region. Assumes a sound context.
-use Rattle.std.specs.Prelude.{ℕ, ◌<◌, ◌≡◌, Bool, eqb}
+use Rattle.std.specs.Prelude.{ℕ, ◌<◌, ◌≡◌, Bool, eqb, None, Some}
 use Rattle.std.proofs.Math.Path.{refl, ap₂}
 use Rattle.std.proofs.Common.{sym, ◌∙◌, eqb-true, eq-eqb}
 use Rattle.std.proofs.Math.Bool.{true, false, ◌&&◌, cond}
 use Rattle.std.proofs.lemmas.Bool.{false≢true}
-use Rattle.std.specs.Prelude.{None, Some}
 use mathlib.Core.List.{List, [], ◌∷◌, ◌++◌}
 use Rattle.definitions.specs.Scan.{concat_map, to_list, only_if}
 use Rattle.definitions.specs.Grid.{Pair}

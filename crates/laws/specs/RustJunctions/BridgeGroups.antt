@@ -2,9 +2,8 @@
 -- of one; and the wider of the two. It is `bridge_of_ports`. The argument: of three numbers either two are equal and the third is not, in one of three
 -- arrangements, and then the groups are those two and the third, whichever comes first in the map; or all are equal or all differ, and there are not two groups.
 -- Assumes nothing.
-use Rattle.std.specs.Prelude.{ℕ, length, get_or, eqb, ltb}
+use Rattle.std.specs.Prelude.{ℕ, length, get_or, eqb, ltb, Option, None, Some}
 use Rattle.std.proofs.Math.Bool.{cond}
-use Rattle.std.specs.Prelude.{Option, None, Some}
 use mathlib.Core.List.{List, [], ◌∷◌, ◌++◌}
 use Rattle.definitions.specs.Scan.{all, only_if}
 use Rattle.definitions.specs.Grid.{Pair}

@@ -1,9 +1,8 @@
 -- Of every proposal of pass 3 its boundary is one of the context's, and of a union the smaller region comes first. So the selection over sets returns the boundaries
 -- that the definitions remove. Assumes a sound context.
-use Rattle.std.specs.Prelude.{ℕ, suc, ◌<◌, ◌≡◌, Bool, not, ◌&&◌, cond, List, [], map}
+use Rattle.std.specs.Prelude.{ℕ, suc, ◌<◌, ◌≡◌, Bool, not, ◌&&◌, cond, List, [], map, Option, None, Some}
 use Rattle.std.proofs.Math.Path.{refl}
 use Rattle.std.proofs.Math.Bool.{true, false}
-use Rattle.std.specs.Prelude.{Option, None, Some}
 use Rattle.definitions.specs.Scan.{all, to_list}
 use Rattle.definitions.specs.Grid.{Pair}
 use Rattle.definitions.specs.Context.{Context, only_pair, full_cut, full_pair, is_incident, no_ramp}

@@ -1,13 +1,12 @@
 -- The ports of a union as the Rust finds them (junctions.rs): a walk over the incidents of both regions that stops at the first unfit port. It goes through
 -- exactly where `ports_fit` holds, and the set that it fills is then the boundaries that pass `is_union_port`. The argument: what the walk finds is a conjunction
 -- over the incidents, and what it fills is a union of the two sets of incidents without the boundary itself. Assumes nothing.
-use Rattle.std.specs.Prelude.{ℕ, ◌≡◌, Bool, ◌||◌, cond, eqb, ltb}
+use Rattle.std.specs.Prelude.{ℕ, ◌≡◌, Bool, ◌||◌, cond, eqb, ltb, Option, None, Some}
 use Rattle.std.proofs.Math.Path.{refl, sym, ap, ap₂}
 use Rattle.std.proofs.Common.{◌∙◌, eqb-true}
 use Rattle.std.proofs.Math.Bool.{true, false, not, ◌&&◌, or-false, or-true}
 use Rattle.std.specs.Bool.{beq}
 use Rattle.std.proofs.lemmas.Bool.{false≢true}
-use Rattle.std.specs.Prelude.{Option, None, Some}
 use mathlib.Core.List.{List, [], ◌∷◌}
 use Rattle.definitions.specs.Scan.{any, all, member, all_below}
 use Rattle.definitions.specs.Grid.{Pair, contains}

@@ -1,11 +1,10 @@
 -- The tests that junctions.rs makes of a union's two regions when it ranks the union, as the Rust writes them, and that they are `union_regions`. The argument: a region
 -- without a record has no cell, and is then within no radius; of two with cells, dominance by percent is the Rust's (ElevationMasks); all else is the same test by test.
 -- Assumes nothing.
-use Rattle.std.specs.Prelude.{ℕ, ◌+◌, ◌≡◌, Bool, ◌&&◌, ◌||◌}
+use Rattle.std.specs.Prelude.{ℕ, ◌+◌, ◌≡◌, Bool, ◌&&◌, ◌||◌, Option, None, Some}
 use Rattle.std.proofs.Common.{arith, ap, ◌∙◌}
 use Rattle.std.proofs.Math.Path.{refl, sym}
 use Rattle.std.proofs.Math.Bool.{true, false, not, cond}
-use Rattle.std.specs.Prelude.{Option, None, Some}
 use Rattle.std.proofs.Math.Dec.{eqb, ltb}
 use Rattle.std.specs.Float.Ieee.{le}
 use borrow.Author.Tests.{ltb-true, lt-ltb}

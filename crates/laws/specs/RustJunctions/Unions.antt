@@ -1,12 +1,11 @@
 -- The unions of junctions.rs as the Rust proposes them, boundary by boundary: its tests one after another, each with its `continue`, and the walk over the ports that
 -- fills the set of exteriors, keeps the widest and stops at the first port that is not near. They are those that pass `union_shape`. The argument: what the walk leaves
 -- is read only where it has gone through, and there each part is the definitions' scan (Ports, Exteriors, WidestPort). Assumes a sound context.
-use Rattle.std.specs.Prelude.{ℕ, ◌<◌, ◌≡◌, Bool, not, ◌&&◌, ◌||◌, length, eqb, ltb, Float}
+use Rattle.std.specs.Prelude.{ℕ, ◌<◌, ◌≡◌, Bool, not, ◌&&◌, ◌||◌, length, eqb, ltb, Float, Option, None, Some}
 use Rattle.std.proofs.Common.{arith, sym, ap, ◌∙◌, ltb-true, ltb-false, lt-ltb, le-ltb, leb-true, leb-false}
 use Rattle.std.proofs.Math.Path.{refl}
 use Rattle.std.proofs.Math.Bool.{true, false, cond}
 use Rattle.std.proofs.lemmas.Bool.{false≢true}
-use Rattle.std.specs.Prelude.{Option, None, Some}
 use mathlib.Core.List.{List, [], ◌∷◌}
 use Rattle.std.proofs.Math.Dec.{leb}
 use Rattle.std.specs.Float.Ieee.{le}

@@ -1,13 +1,11 @@
 -- What the Rust's chain of `continue`s finds of a mouth and a ramp is what `triangle_or` and `shaped_mouth` find: each test of the chain is a test of the
 -- conjunction in `approach_fits`, and an entry of `incidents` answers as `only_incidents` does. The regions of a triangle are sorted in the Rust, and its union
 -- is kept beside outer and inner. Assumes nothing.
-use Rattle.std.specs.Prelude.{ℕ, ◌≤◌, ◌<◌, ◌≡◌, ◌&&◌, ◌||◌, length, get_or}
+use Rattle.std.specs.Prelude.{ℕ, ◌≤◌, ◌<◌, ◌≡◌, ◌&&◌, ◌||◌, length, get_or, Option, None, Some, option_map}
 use Rattle.std.proofs.Common.{arith, ◌∙◌, ne_eqb, leb-true, leb-false, le-ltb, lt-ltb}
 use Rattle.std.proofs.Math.Path.{refl, sym, ap}
 use Rattle.std.proofs.Math.Bool.{Bool, true, false, not, cond, or-false}
 use Rattle.std.proofs.lemmas.Bool.{false≢true}
-use Rattle.std.specs.Prelude.{Option, None, Some}
-use Rattle.std.specs.Prelude.{option_map}
 use mathlib.Core.List.{List, [], ◌∷◌}
 use Rattle.std.proofs.Math.Dec.{eqb, ltb, leb}
 use Rattle.definitions.specs.Scan.{any, all, filter, any_below_lem, only_if, member}

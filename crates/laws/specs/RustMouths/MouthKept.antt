@@ -1,11 +1,9 @@
 -- What the Rust's `retain` of pass 1 keeps of the proposals is what `is_local` keeps: every inner region is named by a pair, so it has a cell, statistics and
 -- finite edges, and a corner is near one of the one or two centres. Assumes nothing.
-use Rattle.std.specs.Prelude.{ℕ, ◌<◌, ◌≡◌, ◌&&◌, ◌||◌, cond, length, eqb, ltb, leb}
+use Rattle.std.specs.Prelude.{ℕ, ◌<◌, ◌≡◌, ◌&&◌, ◌||◌, cond, length, eqb, ltb, leb, Option, None, Some, option_map}
 use Rattle.std.proofs.Math.Path.{refl, sym, ap}
 use Rattle.std.proofs.Common.{ap₂, ◌∙◌, lt-ltb}
 use Rattle.std.proofs.Math.Bool.{Bool, true, false, not, or-false}
-use Rattle.std.specs.Prelude.{Option, None, Some}
-use Rattle.std.specs.Prelude.{option_map}
 use mathlib.Core.List.{List, [], ◌∷◌}
 use Rattle.std.specs.Float.Ieee.{le, lt}
 use Rattle.std.specs.Float.Ieee.Scale.{finite}

@@ -1,7 +1,6 @@
 -- What the loop of `replace_ramp_mouths` (ramp_boundaries.rs) finds of a mouth and a ramp, as it is written there: its chain of tests gives the five parts of a
 -- proposal, or none where the loop continues. Definitions only. Assumes nothing.
-use Rattle.std.specs.Prelude.{ℕ, Bool, true, false, not, ◌&&◌, ◌||◌, cond, List, [], ◌∷◌, length, get_or, eqb, ltb}
-use Rattle.std.specs.Prelude.{Option, None, Some}
+use Rattle.std.specs.Prelude.{ℕ, Bool, true, false, not, ◌&&◌, ◌||◌, cond, List, [], ◌∷◌, length, get_or, eqb, ltb, Option, None, Some}
 use Rattle.std.specs.Float.{binary64}
 use Rattle.std.specs.Float.Ieee.{le, mul}
 use Rattle.definitions.specs.Scan.{any, filter, any_below_lem, member}

@@ -1,7 +1,6 @@
 -- The double loop of `replace_ramp_mouths` (ramp_boundaries.rs) that pushes the proposals, and the `retain` after it, as they are written there. The body of the
 -- loop gives the proposal that it pushes, or none where it continues. Definitions only. Assumes nothing.
-use Rattle.std.specs.Prelude.{ℕ, Bool, not, ◌&&◌, ◌||◌, cond, List, [], ◌∷◌, Float}
-use Rattle.std.specs.Prelude.{Option, None, Some}
+use Rattle.std.specs.Prelude.{ℕ, Bool, not, ◌&&◌, ◌||◌, cond, List, [], ◌∷◌, Float, Option, None, Some}
 use Rattle.std.specs.Float.Ieee.{le, lt}
 use Rattle.std.specs.Float.Ieee.Scale.{finite}
 use Rattle.definitions.specs.Scan.{any, all, filter, concat_map, collect, gather, to_list}

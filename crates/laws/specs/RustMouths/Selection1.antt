@@ -1,11 +1,10 @@
 -- The loop of `replace_ramp_mouths` (ramp_boundaries.rs) that takes proposals, with its six sets, as it is written there, and that the boundaries it removes are
 -- those of the definitions' selection. The argument: a proposal that is taken adds to what the sets refuse just what it conflicts with, set by set; `occupied`
 -- and `triangle_reserved` together refuse two unions that meet where one of the two is a triangle. Assumes nothing.
-use Rattle.std.specs.Prelude.{ℕ, ◌≤◌, ◌≡◌, Bool, ◌&&◌, ◌||◌, cond, length, eqb, ltb}
+use Rattle.std.specs.Prelude.{ℕ, ◌≤◌, ◌≡◌, Bool, ◌&&◌, ◌||◌, cond, length, eqb, ltb, Option, None, Some}
 use Rattle.std.proofs.Common.{arith, ◌∙◌}
 use Rattle.std.proofs.Math.Path.{refl, sym, ap}
 use Rattle.std.proofs.Math.Bool.{true, false, not, or-false, or_comm}
-use Rattle.std.specs.Prelude.{Option, None, Some}
 use mathlib.Core.List.{List, [], ◌∷◌, map}
 use Rattle.definitions.specs.Scan.{any, member}
 use Rattle.definitions.specs.Sort.{sort, select}

@@ -2,8 +2,7 @@
 -- bits. (Within a pass none is infinite either: FiniteSeparations. That is not needed here.) Assumes nothing.
 use Prim.Native.Nat.{ℕ, compare, Ordering, ◌*◌, ◌^◌, ◌<◌}
 use Rattle.std.proofs.Common.{arith, le_of_eq, le_of_lt, sym, ap, ap₂, ◌∙◌, subst, inl, inr, le-leb}
-use Rattle.std.specs.Prelude.{◌≡◌, refl, ◌⊎◌, Bool, true, false, ℤ, pos, T, leb, Float}
-use Rattle.std.specs.Prelude.{Option, None, Some}
+use Rattle.std.specs.Prelude.{◌≡◌, refl, ◌⊎◌, Bool, true, false, ℤ, pos, T, leb, Float, Option, None, Some}
 use Rattle.std.specs.Float.{inf, fin, binary64}
 use Rattle.std.specs.Float.Ieee.{sub, le, fits, to_bits}
 use Rattle.std.proofs.lemmas.Bool.{lt-leb}

@@ -1,9 +1,8 @@
 -- How many rows a call keeps: no more than there are boundaries, for which an accepted call has room. Assumes nothing.
 use Prim.Native.Nat.{ℕ, zero, suc, ◌*◌, ◌/◌, ◌≤◌}
 use native.Mathlib.Omega.{arith}
-use Rattle.std.specs.Prelude.{◌≡◌, not, length}
+use Rattle.std.specs.Prelude.{◌≡◌, not, length, Option, None, Some}
 use Rattle.std.proofs.Common.{◌∙◌, leb-true}
-use Rattle.std.specs.Prelude.{Option, None, Some}
 use Rattle.std.proofs.lemmas.List.{length-map}
 use Rattle.std.proofs.Math.ListN.{length-append}
 use Rattle.definitions.specs.Limits.{numbers_per_boundary, numbers_per_row}

@@ -9,9 +9,6 @@ use Rattle.put_shortest.proofs.put_shortest.Goals as goal
 pub loop-left-init : goal.loop-left-init
 loop-left-init c = writing_starts (search rules) c.requires
 
-pub continued-requires : goal.continued-requires
-continued-requires c = tt
-
 pub bounds-out-place : goal.bounds-out-place
 bounds-out-place c = place_inside c.loop-left.invariant
 

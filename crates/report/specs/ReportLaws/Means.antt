@@ -1,7 +1,6 @@
 -- Request 13, means: "the mean kept for an accepted run as quotient and exact remainder". Assumes nothing.
-use Rattle.std.specs.Prelude.{ℕ, zero, suc, ◌+◌, ◌*◌, ◌/◌, ◌%◌, ◌<◌, ◌≡◌, refl}
+use Rattle.std.specs.Prelude.{ℕ, zero, suc, ◌+◌, ◌*◌, ◌/◌, ◌%◌, ◌<◌, ◌≡◌, refl, None, Some}
 use Rattle.std.proofs.Common.{arith, div-add-mod', mod-lt, sym, ap, ◌∙◌, subst}
-use Rattle.std.specs.Prelude.{None, Some}
 use Rattle.std.proofs.lemmas.Option.{same_Some, none-some}
 use Rattle.std.proofs.Math.Arith.{digits_div, digits_mod}
 use Rattle.report.specs.Report.{Mean, mean_of}

@@ -3,10 +3,9 @@
 use Prim.Native.Nat.{ℕ, zero, suc, ◌+◌, ◌*◌, ◌-◌, ◌≤◌}
 use native.Mathlib.Omega.{arith}
 use Rattle.std.proofs.Common.{mul-le-mul, ap, ◌∙◌}
-use Rattle.std.specs.Prelude.{◌≡◌, Bool, not, cond, leb}
+use Rattle.std.specs.Prelude.{◌≡◌, Bool, not, cond, leb, Option, None, Some}
 use Rattle.std.proofs.Math.Path.{refl, ap₂}
 use Rattle.std.proofs.Math.Bool.{true, false}
-use Rattle.std.specs.Prelude.{Option, None, Some}
 use mathlib.Core.List.{List, [], ◌∷◌, ◌++◌}
 use Rattle.std.proofs.Math.ListN.{length, length-append}
 use Rattle.definitions.specs.Limits.{max_entries}

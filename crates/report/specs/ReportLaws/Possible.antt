@@ -1,9 +1,8 @@
 -- Request 13: what every run is that an operation adds, a call's or a sheet's. Its refusal has a number that is counted; accepted, its pass is 1, 2 or 3, its boundaries are at most
 -- 256 and those kept and removed together, and its squared lengths are at most 2^35. The argument: no check of the table and no reader refuses with a number above 14. Assumes
 -- nothing.
-use Rattle.std.specs.Prelude.{ℕ, zero, suc, ◌+◌, ◌*◌, ◌/◌, ◌%◌, ◌≤◌, ◌<◌, ◌≡◌, refl, Bool, true, false, not, ◌&&◌, cond, List, [], ◌∷◌, length, leb, eqb, ltb}
+use Rattle.std.specs.Prelude.{ℕ, zero, suc, ◌+◌, ◌*◌, ◌/◌, ◌%◌, ◌≤◌, ◌<◌, ◌≡◌, refl, Bool, true, false, not, ◌&&◌, cond, List, [], ◌∷◌, length, leb, eqb, ltb, Option, None, Some}
 use Rattle.std.proofs.Common.{arith, mul-le-mul_right, sym, ap, subst, ◌∙◌, leb-true}
-use Rattle.std.specs.Prelude.{Option, None, Some}
 use Rattle.definitions.specs.Limits.{is_side, max_entries, numbers_per_span, numbers_per_boundary, numbers_per_anchor}
 use Rattle.definitions.specs.Scan.{only_if}
 use Rattle.definitions.specs.Grid.{segment_at}

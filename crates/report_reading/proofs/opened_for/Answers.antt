@@ -2,10 +2,10 @@
 use Rattle.report_reading.proofs.Opening.{when_read, when_refused}
 use Rattle.report_reading.proofs.opened_for.Goals as goal
 
-pub returns-in-Read : goal.returns-in-Read
-returns-in-Read c =
-    when_read c.args.report c.args.answer c.in-Read.is c.opened_as.ensures
+pub returns-in-Ok : goal.returns-in-Ok
+returns-in-Ok c =
+    when_read c.args.report c.args.answer c.in-Ok.is c.opened_as.ensures
 
-pub returns-in-Refused : goal.returns-in-Refused
-returns-in-Refused c =
-    when_refused c.args.report c.args.answer c.in-Refused.is c.with_refused-added.ensures c.refused_as.ensures
+pub returns-in-Err : goal.returns-in-Err
+returns-in-Err c =
+    when_refused c.args.report c.args.answer c.in-Err.is (rw c.number-number.ensures at c.with_refused-added.ensures) (rw c.number-number.ensures at c.refused_as.ensures)

@@ -5,12 +5,12 @@ use Rattle.report_sheets.proofs.add_sheet.Goals as goal
 
 pub add_held-requires : goal.add_held-requires
 add_held-requires c =
-    sheet-held c.args.bytes.now _ _ _ _ (search rules) c.read_limited.ensures c.in-Read.is
+    sheet-held c.args.bytes.now _ _ _ _ (search rules) c.read_limited.ensures c.in-Ok.is
 
-pub returns-in-Read : goal.returns-in-Read
-returns-in-Read c =
-    sheet-added _ _ _ _ _ (search rules) c.read_limited.ensures c.in-Read.is c.add_held.ensures
+pub returns-in-Ok : goal.returns-in-Ok
+returns-in-Ok c =
+    sheet-added _ _ _ _ _ (search rules) c.read_limited.ensures c.in-Ok.is c.add_held.ensures
 
-pub returns-in-Refused : goal.returns-in-Refused
-returns-in-Refused c =
-    refusal-added _ _ _ _ _ (search rules) c.read_limited.ensures _ _ c.in-Refused.is c.refuse.ensures
+pub returns-in-Err : goal.returns-in-Err
+returns-in-Err c =
+    refusal-added _ _ _ _ _ (search rules) c.read_limited.ensures _ c.in-Err.is c.refuse.ensures

@@ -2,18 +2,6 @@
 use Rattle.result_reader.proofs.Steps.{lt_key}
 use Rattle.result_reader.proofs.ascends.Goals as goal
 
-pub tail_ascends-d-requires : goal.tail_ascends-d-requires
-tail_ascends-d-requires c = tt
-
-pub is_before-c-requires : goal.is_before-c-requires
-is_before-c-requires c = tt
-
-pub is_before-b-requires : goal.is_before-b-requires
-is_before-b-requires c = tt
-
-pub is_before-requires : goal.is_before-requires
-is_before-requires c = tt
-
 pub returns : goal.returns
 returns c =
     let given = c.args in

@@ -1,26 +1,21 @@
--- `result_reader::back` meets its contract: the lists follow one another, and behind the last the bytes end. Assumes nothing.
+-- `result_reader::back` meets its contract: the pairs, the rows behind them, and the end. Assumes nothing.
+use Rattle.std.proofs.Common.{◌∙◌}
+use Rattle.sheet.proofs.Passed.{passed}
+use Rattle.result_reader.proofs.Answering.{first_of}
 use Rattle.result_reader.proofs.Chains.{back-stops, back-stops-later, back-too_long, back_found}
 use Rattle.result_reader.proofs.back.Goals as goal
 
-pub keys_list-requires-in-List : goal.keys_list-requires-in-List
-keys_list-requires-in-List c =
-    c.in-List.ensures.behind
+pub returns-in_err-pairs : goal.returns-in_err-pairs
+returns-in_err-pairs c = rw (passed _ c.from_residual.ensures.1) (back-stops _ _ c.in_err-pairs.ensures)
 
-pub first_breach-requires : goal.first_breach-requires
-first_breach-requires c = tt
+pub keys_list-requires-2 : goal.keys_list-requires-2
+keys_list-requires-2 c = c.in_ok-pairs.ensures.behind
 
-pub returns-then-next-bytes : goal.returns-then-next-bytes
-returns-then-next-bytes c =
-    back-too_long c.in-List.ensures c.in-List-keys_list.ensures c.if-next-bytes.true
+pub returns-in_err-rows : goal.returns-in_err-rows
+returns-in_err-rows c = rw (passed _ c.from_residual-in_err-rows.ensures.1) (back-stops-later c.in_ok-pairs.ensures c.in_err-rows.ensures)
 
-pub returns-else-next-bytes : goal.returns-else-next-bytes
-returns-else-next-bytes c =
-    back_found c.in-List.ensures c.in-List-keys_list.ensures c.if-next-bytes.false c.first_breach.ensures
+pub returns-then-rows-bytes : goal.returns-then-rows-bytes
+returns-then-rows-bytes c = back-too_long c.in_ok-pairs.ensures c.in_ok-rows.ensures c.if-rows-bytes.true
 
-pub returns-in-Fault-keys_list : goal.returns-in-Fault-keys_list
-returns-in-Fault-keys_list c =
-    back-stops-later c.in-List.ensures c.in-Fault-keys_list.ensures
-
-pub returns-in-Fault : goal.returns-in-Fault
-returns-in-Fault c =
-    back-stops _ _ c.in-Fault.ensures
+pub returns : goal.returns
+returns c = back_found c.in_ok-pairs.ensures c.in_ok-rows.ensures c.if-rows-bytes.false (c.or.ensures ∙ first_of c.in_ok-pairs.pairs.value.breach c.in_ok-rows.rows.value.breach)

@@ -1,24 +1,10 @@
--- `result_reader::fits` meets its contract: each return knows the tests before it. Assumes nothing.
-use mathlib.Core.Path.{refl}
-use Rattle.result_reader.proofs.Answering.{room-labels, room-tallies, room-pairs, room-rows}
+-- `result_reader::fits` meets its contract: lengths are divided where counts would be multiplied. Assumes nothing.
+use Rattle.std.proofs.Common.{rules}
+use Rattle.result_reader.proofs.Answering.{divided}
 use Rattle.result_reader.proofs.fits.Goals as goal
 
-pub returns-then-labels-a : goal.returns-then-labels-a
-returns-then-labels-a c =
-    let g = c.args in
-    room-labels g.plan g.labels g.tallies g.pairs g.rows c.if-labels-a.true
+pub returns-then-plan-pairs : goal.returns-then-plan-pairs
+returns-then-plan-pairs c = rw (divided c.args.plan c.args.labels c.args.tallies c.args.pairs c.args.rows) (search rules)
 
-pub returns-then-tallies-b : goal.returns-then-tallies-b
-returns-then-tallies-b c =
-    let g = c.args in
-    room-tallies g.plan g.labels g.tallies g.pairs g.rows c.if-labels-a.false c.if-tallies-b.true
-
-pub returns-then-pairs-c : goal.returns-then-pairs-c
-returns-then-pairs-c c =
-    let g = c.args in
-    room-pairs g.plan g.labels g.tallies g.pairs g.rows c.if-labels-a.false c.if-tallies-b.false c.if-pairs-c.true
-
-pub returns : goal.returns
-returns c =
-    let g = c.args in
-    room-rows g.plan g.labels g.tallies g.pairs g.rows c.if-labels-a.false c.if-tallies-b.false c.if-pairs-c.false refl
+pub returns-else-plan-pairs : goal.returns-else-plan-pairs
+returns-else-plan-pairs c = rw (divided c.args.plan c.args.labels c.args.tallies c.args.pairs c.args.rows) (search rules)

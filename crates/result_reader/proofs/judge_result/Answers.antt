@@ -1,38 +1,24 @@
 -- `result_reader::judge_result` meets its contract: the three parts follow one another, the first that is refused is the answer, and then the first breach. Assumes nothing.
+use Rattle.std.proofs.Common.{◌∙◌}
+use Rattle.sheet.proofs.Passed.{passed}
+use Rattle.result_reader.proofs.Answering.{first_of}
 use Rattle.result_reader.proofs.Chains.{result_unopened, result_no_front, result_no_back, result-told}
 use Rattle.result_reader.proofs.judge_result.Goals as goal
 
-pub opening-requires : goal.opening-requires
-opening-requires c = tt
+pub returns-in_err-opening : goal.returns-in_err-opening
+returns-in_err-opening c = rw (passed _ c.from_residual.ensures.1) (result_unopened _ c.in_err-opening.ensures)
 
 pub front-requires : goal.front-requires
-front-requires c =
-    c.in-Opening.ensures.behind
+front-requires c = c.in_ok-opening.ensures.behind
+
+pub returns-in_err-front : goal.returns-in_err-front
+returns-in_err-front c = rw (passed _ c.from_residual-in_err-front.ensures.1) (result_no_front _ c.in_ok-opening.ensures.same c.in_err-front.ensures)
 
 pub back-requires : goal.back-requires
-back-requires c =
-    c.in-Lists.ensures.behind
+back-requires c = c.in_ok-front.ensures.behind
 
-pub first_breach-requires : goal.first_breach-requires
-first_breach-requires c = tt
+pub returns-in_err-back : goal.returns-in_err-back
+returns-in_err-back c = rw (passed _ c.from_residual-in_err-back.ensures.1) (result_no_back _ c.in_ok-opening.ensures.same c.in_ok-front.ensures.same c.in_err-back.ensures)
 
-pub judged-requires : goal.judged-requires
-judged-requires c = tt
-
-pub returns-in-Lists-back : goal.returns-in-Lists-back
-returns-in-Lists-back c =
-    result-told c.first_breach.result c.in-Opening.ensures c.in-Lists.ensures
-    c.in-Lists-back.ensures c.first_breach.ensures c.judged.ensures
-
-pub returns-in-Fault-back : goal.returns-in-Fault-back
-returns-in-Fault-back c =
-    result_no_back _ c.in-Opening.ensures.same c.in-Lists.ensures.same
-    c.in-Fault-back.ensures
-
-pub returns-in-Fault-front : goal.returns-in-Fault-front
-returns-in-Fault-front c =
-    result_no_front _ c.in-Opening.ensures.same c.in-Fault-front.ensures
-
-pub returns-in-Fault : goal.returns-in-Fault
-returns-in-Fault c =
-    result_unopened _ c.in-Fault.ensures
+pub returns : goal.returns
+returns c = result-told c.or.result c.in_ok-opening.ensures c.in_ok-front.ensures c.in_ok-back.ensures (c.or.ensures ∙ first_of c.in_ok-front.front.value.breach c.in_ok-back.back.value.breach) c.judged.ensures

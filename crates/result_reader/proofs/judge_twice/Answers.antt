@@ -1,15 +1,13 @@
--- `result_reader::judge_twice` meets its contract: as many numbers behind as many numbers. Assumes nothing.
+-- `result_reader::judge_twice` meets its contract: as many numbers and as many more. Assumes nothing.
+use Rattle.sheet.proofs.Passed.{passed}
 use Rattle.result_reader.proofs.Numbers.{twice-inside, twice-goes_on, twice-stops}
 use Rattle.result_reader.proofs.judge_twice.Goals as goal
 
-pub judge-requires-in-Behind : goal.judge-requires-in-Behind
-judge-requires-in-Behind c =
-    twice-inside _ _ _ _ c.judge.ensures c.requires c.in-Behind.is
+pub returns-in_err-middle : goal.returns-in_err-middle
+returns-in_err-middle c = rw (passed _ c.from_residual.ensures.1) (twice-stops _ _ _ _ c.in_err-middle.ensures)
 
-pub returns-in-Behind : goal.returns-in-Behind
-returns-in-Behind c =
-    twice-goes_on _ _ _ _ c.judge.ensures c.in-Behind.is c.judge-in-Behind.result c.judge-in-Behind.ensures
+pub judge-requires-2 : goal.judge-requires-2
+judge-requires-2 c = twice-inside _ _ _ c.in_ok-middle.ensures c.requires
 
-pub returns-in-Faulty : goal.returns-in-Faulty
-returns-in-Faulty c =
-    twice-stops _ _ _ _ c.judge.ensures c.in-Faulty.is
+pub returns : goal.returns
+returns c = twice-goes_on _ _ _ c.in_ok-middle.ensures _ c.judge-2.ensures

@@ -1,23 +1,19 @@
--- `result_reader::keys_list` meets its contract: the count, and then the entries. Assumes nothing.
-use Rattle.result_reader.proofs.Numbers.{item-found, item-fails, item-inside}
-use Rattle.result_reader.proofs.Lists.{count-fails, keys_found, keys-stopped}
+-- `result_reader::keys_list` meets its contract: a count, and the entries behind it. Assumes nothing.
+use Rattle.std.proofs.Common.{◌∙◌}
+use Rattle.sheet.proofs.Items.{as_number}
+use Rattle.sheet.proofs.Passed.{passed}
+use Rattle.result_reader.proofs.Numbers.{item-inside}
+use Rattle.result_reader.proofs.Lists.{count-fails, keys_found, keys-stopped, ascent_behind}
 use Rattle.result_reader.proofs.keys_list.Goals as goal
 
+pub returns-in_err-count : goal.returns-in_err-count
+returns-in_err-count c = rw (passed _ c.from_residual.ensures.1) (count-fails _ _ _ (as_number _ _ c.in_err-count.ensures))
+
 pub walk_keys-requires : goal.walk_keys-requires
-walk_keys-requires c =
-    item-inside _ _ _ c.item.ensures c.requires c.in-Item.is
+walk_keys-requires c = item-inside _ _ c.requires c.in_ok-count.ensures
 
-pub ascent_breach-requires : goal.ascent_breach-requires
-ascent_breach-requires c = tt
+pub returns-in_err-keys : goal.returns-in_err-keys
+returns-in_err-keys c = rw (passed _ c.from_residual-in_err-keys.ensures.1) (keys-stopped _ _ (as_number _ _ c.in_ok-count.ensures) _ _ c.in_err-keys.ensures)
 
-pub returns-in-Climbed : goal.returns-in-Climbed
-returns-in-Climbed c =
-    keys_found _ _ (item-found _ _ _ c.item.ensures c.in-Item.is) _ _ c.walk_keys.ensures c.requires c.in-Climbed.is c.ascent_breach.ensures
-
-pub returns-in-Fault-walk_keys : goal.returns-in-Fault-walk_keys
-returns-in-Fault-walk_keys c =
-    keys-stopped _ _ (item-found _ _ _ c.item.ensures c.in-Item.is) _ _ c.walk_keys.ensures c.in-Fault-walk_keys.is
-
-pub returns-in-Fault : goal.returns-in-Fault
-returns-in-Fault c =
-    count-fails _ _ _ (item-fails _ _ _ c.item.ensures c.in-Fault.is)
+pub returns : goal.returns
+returns c = keys_found _ _ (as_number _ _ c.in_ok-count.ensures) _ c.requires c.in_ok-keys.ensures (c.err.ensures.value ∙ ascent_behind _ _)

@@ -1,23 +1,18 @@
--- `result_reader::labels_list` meets its contract: the count, and then the entries. Assumes nothing.
-use Rattle.result_reader.proofs.Numbers.{item-found, item-fails, item-inside}
+-- `result_reader::labels_list` meets its contract: a count, and the labels behind it. Assumes nothing.
+use Rattle.sheet.proofs.Items.{as_number}
+use Rattle.sheet.proofs.Passed.{passed}
+use Rattle.result_reader.proofs.Numbers.{item-inside}
 use Rattle.result_reader.proofs.Lists.{count-fails, labels-found, labels-stopped}
 use Rattle.result_reader.proofs.labels_list.Goals as goal
 
+pub returns-in_err-count : goal.returns-in_err-count
+returns-in_err-count c = rw (passed _ c.from_residual.ensures.1) (count-fails _ _ _ (as_number _ _ c.in_err-count.ensures))
+
 pub walk_labels-requires : goal.walk_labels-requires
-walk_labels-requires c =
-    item-inside _ _ _ c.item.ensures c.requires c.in-Item.is
+walk_labels-requires c = item-inside _ _ c.requires c.in_ok-count.ensures
 
-pub turns_breach-requires : goal.turns_breach-requires
-turns_breach-requires c = tt
+pub returns-in_err-labels : goal.returns-in_err-labels
+returns-in_err-labels c = rw (passed _ c.from_residual-in_err-labels.ensures.1) (labels-stopped _ _ (as_number _ _ c.in_ok-count.ensures) c.args.regions _ c.in_err-labels.ensures)
 
-pub returns-in-Turns : goal.returns-in-Turns
-returns-in-Turns c =
-    labels-found _ _ (item-found _ _ _ c.item.ensures c.in-Item.is) _ _ c.walk_labels.ensures _ c.requires c.in-Turns.is c.turns_breach.ensures
-
-pub returns-in-Fault-walk_labels : goal.returns-in-Fault-walk_labels
-returns-in-Fault-walk_labels c =
-    labels-stopped _ _ (item-found _ _ _ c.item.ensures c.in-Item.is) _ _ c.walk_labels.ensures c.in-Fault-walk_labels.is
-
-pub returns-in-Fault : goal.returns-in-Fault
-returns-in-Fault c =
-    count-fails _ _ _ (item-fails _ _ _ c.item.ensures c.in-Fault.is)
+pub returns : goal.returns
+returns c = labels-found _ _ (as_number _ _ c.in_ok-count.ensures) _ _ c.requires c.in_ok-labels.ensures c.turns_breach.ensures

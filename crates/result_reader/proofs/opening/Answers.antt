@@ -1,25 +1,22 @@
--- `result_reader::opening` meets its contract: the kind is judged before the region count is read. Assumes nothing.
-use native.Mathlib.Omega.{arith}
-use Rattle.result_reader.proofs.Numbers.{item-found, item-fails, item-inside}
+-- `result_reader::opening` meets its contract: the kind is 2 and the region count follows, or the first of the two that is not so is the fault. Assumes nothing.
+use Rattle.std.proofs.Common.{arith}
+use Rattle.sheet.proofs.Items.{as_number}
+use Rattle.sheet.proofs.Passed.{passed}
+use Rattle.result_reader.proofs.Numbers.{item-inside}
 use Rattle.result_reader.proofs.Chains.{opening-found, opening-stops, opening-other, opening-fails}
 use Rattle.result_reader.proofs.opening.Goals as goal
 
-pub item-requires-then-kind-eq-KIND : goal.item-requires-then-kind-eq-KIND
-item-requires-then-kind-eq-KIND c =
-    item-inside _ _ _ c.item.ensures (omega arith) c.in-Item.is
+pub returns-in_err-kind : goal.returns-in_err-kind
+returns-in_err-kind c = rw (passed _ c.from_residual.ensures.1) (opening-fails _ (as_number _ _ c.in_err-kind.ensures))
 
-pub returns-in-Item-item : goal.returns-in-Item-item
-returns-in-Item-item c =
-    opening-found _ (item-found _ _ _ c.item.ensures c.in-Item.is) c.if-kind-eq-KIND.true (item-found _ _ _ c.item-then-kind-eq-KIND.ensures c.in-Item-item.is)
+pub returns-then-kind-ne-KIND : goal.returns-then-kind-ne-KIND
+returns-then-kind-ne-KIND c = opening-other _ (as_number _ _ c.in_ok-kind.ensures) c.if-kind-ne-KIND.true
 
-pub returns-in-Fault-item : goal.returns-in-Fault-item
-returns-in-Fault-item c =
-    opening-stops _ (item-found _ _ _ c.item.ensures c.in-Item.is) c.if-kind-eq-KIND.true (item-fails _ _ _ c.item-then-kind-eq-KIND.ensures c.in-Fault-item.is)
+pub item-requires-2 : goal.item-requires-2
+item-requires-2 c = item-inside _ _ (omega arith) c.in_ok-kind.ensures
 
-pub returns-else-kind-eq-KIND : goal.returns-else-kind-eq-KIND
-returns-else-kind-eq-KIND c =
-    opening-other _ (item-found _ _ _ c.item.ensures c.in-Item.is) c.if-kind-eq-KIND.false
+pub returns-in_err-regions : goal.returns-in_err-regions
+returns-in_err-regions c = rw (passed _ c.from_residual-in_err-regions.ensures.1) (opening-stops _ (as_number _ _ c.in_ok-kind.ensures) c.if-kind-ne-KIND.false (as_number _ _ c.in_err-regions.ensures))
 
-pub returns-in-Fault : goal.returns-in-Fault
-returns-in-Fault c =
-    opening-fails _ (item-fails _ _ _ c.item.ensures c.in-Fault.is)
+pub returns : goal.returns
+returns c = opening-found _ (as_number _ _ c.in_ok-kind.ensures) c.if-kind-ne-KIND.false (as_number _ _ c.in_ok-regions.ensures)

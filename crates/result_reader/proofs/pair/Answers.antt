@@ -1,19 +1,17 @@
--- `result_reader::pair` meets its contract: a number and then two. Assumes nothing.
-use Rattle.result_reader.proofs.Numbers.{item-found, item-fails, item-inside, more_found, more_fails, first_fails}
+-- `result_reader::pair` meets its contract: one number and two. Assumes nothing.
+use Rattle.sheet.proofs.Items.{as_number}
+use Rattle.sheet.proofs.Passed.{passed}
+use Rattle.result_reader.proofs.Numbers.{item-inside, pair-found, more_fails, first_fails}
 use Rattle.result_reader.proofs.pair.Goals as goal
 
+pub returns-in_err-front : goal.returns-in_err-front
+returns-in_err-front c = rw (passed _ c.from_residual.ensures.1) (first_fails _ _ 2 (as_number _ _ c.in_err-front.ensures))
+
 pub two-requires : goal.two-requires
-two-requires c =
-    item-inside _ _ _ c.item.ensures c.requires c.in-Item.is
+two-requires c = item-inside _ _ c.requires c.in_ok-front.ensures
 
-pub returns-in-Two : goal.returns-in-Two
-returns-in-Two c =
-    more_found _ _ 2 (item-found _ _ _ c.item.ensures c.in-Item.is) c.in-Two.ensures
+pub returns-in_err-back : goal.returns-in_err-back
+returns-in_err-back c = rw (passed _ c.from_residual-in_err-back.ensures.1) (more_fails _ _ 2 (as_number _ _ c.in_ok-front.ensures) c.in_err-back.ensures)
 
-pub returns-in-Fault-two : goal.returns-in-Fault-two
-returns-in-Fault-two c =
-    more_fails _ _ 2 (item-found _ _ _ c.item.ensures c.in-Item.is) c.in-Fault-two.ensures
-
-pub returns-in-Fault : goal.returns-in-Fault
-returns-in-Fault c =
-    first_fails _ _ 2 (item-fails _ _ _ c.item.ensures c.in-Fault.is)
+pub returns : goal.returns
+returns c = pair-found _ _ (as_number _ _ c.in_ok-front.ensures) c.in_ok-back.ensures

@@ -3,38 +3,23 @@ use mathlib.Core.Path.{sym, ◌∙◌}
 use Rattle.result_reader.proofs.Answering.{room-known, answered-read, answered-short, answered-refused}
 use Rattle.result_reader.proofs.result_reader_read_result.Goals as goal
 
-pub judge_result-requires : goal.judge_result-requires
-judge_result-requires c = tt
-
-pub fits-requires : goal.fits-requires
-fits-requires c = tt
-
 pub fill-requires : goal.fill-requires
 fill-requires c =
     record {
-      held = c.in-Sound.ensures.held;
+      held = c.in-Ok.ensures.held;
       room = room-known (sym c.fits.ensures ∙ c.if-fits.true);
     }
-
-pub opened-requires : goal.opened-requires
-opened-requires c = tt
-
-pub refused-requires : goal.refused-requires
-refused-requires c = tt
-
-pub refused-requires-in-Refused : goal.refused-requires-in-Refused
-refused-requires-in-Refused c = tt
 
 pub returns-then-fits : goal.returns-then-fits
 returns-then-fits c =
     let each = c.fill.ensures in
-    answered-read c.in-Sound.ensures _ _ _ _ (sym c.fits.ensures ∙ c.if-fits.true) c.opened.ensures
+    answered-read c.in-Ok.ensures _ _ _ _ (sym c.fits.ensures ∙ c.if-fits.true) c.opened.ensures
     each.labels each.tallies each.pairs each.rows
 
 pub returns-else-fits : goal.returns-else-fits
 returns-else-fits c =
-    answered-short c.in-Sound.ensures _ _ _ _ (sym c.fits.ensures ∙ c.if-fits.false) c.refused.ensures
+    answered-short c.in-Ok.ensures _ _ _ _ (sym c.fits.ensures ∙ c.if-fits.false) c.refused.ensures
 
-pub returns-in-Refused : goal.returns-in-Refused
-returns-in-Refused c =
-    answered-refused _ _ _ _ _ c.in-Refused.ensures c.refused-in-Refused.ensures
+pub returns-in-Err : goal.returns-in-Err
+returns-in-Err c =
+    answered-refused _ _ _ _ _ _ c.in-Err.ensures c.refused-in-Err.ensures

@@ -2,12 +2,6 @@
 use Rattle.result_reader.proofs.Steps.{tail-rows, tail-pairs}
 use Rattle.result_reader.proofs.tail_ascends.Goals as goal
 
-pub is_before-e-requires : goal.is_before-e-requires
-is_before-e-requires c = tt
-
-pub is_before-requires : goal.is_before-requires
-is_before-requires c = tt
-
 pub returns-then-rows : goal.returns-then-rows
 returns-then-rows c =
     tail-rows _ _ c.if-rows.true c.is_before-e.ensures c.is_before.ensures

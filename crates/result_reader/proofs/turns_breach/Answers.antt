@@ -1,12 +1,10 @@
--- `result_reader::turns_breach` meets its contract: behind the last label the region count is reached, or not. Assumes nothing.
-use Rattle.result_reader.proofs.Lists.{turns-reached, turns_unreached, turns-broken}
+-- `result_reader::turns_breach` meets its contract: by how far the labels are in turn. Assumes nothing.
+use Rattle.std.proofs.Common.{sym, ◌∙◌}
+use Rattle.result_reader.proofs.Lists.{only_then, turns_behind, turns-broken}
 use Rattle.result_reader.proofs.turns_breach.Goals as goal
 
-pub returns-then-n-regions : goal.returns-then-n-regions
-returns-then-n-regions c = turns-reached _ _ _ c.in-Started.is c.if-n-regions.true
+pub returns-in-Ok : goal.returns-in-Ok
+returns-in-Ok c = c.then_some.ensures ∙ only_then _ _ ∙ sym (turns_behind _ _ _ c.in-Ok.is)
 
-pub returns-else-n-regions : goal.returns-else-n-regions
-returns-else-n-regions c = turns_unreached _ _ _ c.in-Started.is c.if-n-regions.false
-
-pub returns-in-OutAt : goal.returns-in-OutAt
-returns-in-OutAt c = turns-broken _ _ c.in-OutAt.is
+pub returns-in-Err : goal.returns-in-Err
+returns-in-Err c = turns-broken _ _ c.in-Err.is

@@ -1,11 +1,10 @@
--- `result_reader::walk_behind` meets its contract: what `judge` says of the numbers is what a walk of the labels comes to. Assumes nothing.
+-- `result_reader::walk_behind` meets its contract: to judge the numbers of the labels is to walk them. Assumes nothing.
+use Rattle.sheet.proofs.Passed.{passed}
 use Rattle.result_reader.proofs.Unasked.{unasked-walked, unasked-stopped}
 use Rattle.result_reader.proofs.walk_behind.Goals as goal
 
-pub returns-in-Behind : goal.returns-in-Behind
-returns-in-Behind c =
-    unasked-walked _ _ _ _ _ c.judge.ensures c.requires c.in-Behind.is
+pub returns-in_err-next : goal.returns-in_err-next
+returns-in_err-next c = rw (passed _ c.from_residual.ensures.1) (unasked-stopped _ _ _ c.args.place _ c.in_err-next.ensures)
 
-pub returns-in-Faulty : goal.returns-in-Faulty
-returns-in-Faulty c =
-    unasked-stopped _ _ _ c.args.place _ c.judge.ensures c.in-Faulty.is
+pub returns : goal.returns
+returns c = unasked-walked _ _ _ _ c.requires c.in_ok-next.ensures

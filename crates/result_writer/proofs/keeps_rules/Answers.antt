@@ -1,31 +1,21 @@
 -- `result_writer::keeps_rules` meets its contract: the first rule that is broken is one. Assumes nothing.
-use borrow.Author.Tests.{not-true, not-false}
+use Rattle.std.proofs.Common.{sym, ap, ◌∙◌}
+use Rattle.definitions.specs.Refusals.{unless}
 use Rattle.result_writer.proofs.Answering.{rules-labels, rules-pairs, rules-rows}
 use Rattle.result_writer.proofs.keeps_rules.Goals as goal
+use Rattle.result_writer.proofs.keeps_rules.Goals.{then-in_turn, else-in_turn}
 
-pub in_turn-requires : goal.in_turn-requires
-in_turn-requires c = tt
+pub returns-then-pairs_ascend : goal.returns-then-pairs_ascend
+returns-then-pairs_ascend c =
+    elim c.if-in_turn.branch [
+      | then-in_turn w ↦ rules-rows _ _ c.in_turn.ensures w.if-in_turn.true _ w.pairs_ascend.ensures (sym w.value-is ∙ c.if-pairs_ascend.true) _ c.rows_ascend.ensures
+      | else-in_turn w ↦ absurd (cc)
+    ]
 
-pub returns-then-not-in_turn : goal.returns-then-not-in_turn
-returns-then-not-in_turn c =
-    let kept = c.in_turn.result in
-    rules-labels _ kept c.in_turn.ensures (not-true kept c.if-not-in_turn.true-raw)
-
-pub pairs_ascend-requires : goal.pairs_ascend-requires
-pairs_ascend-requires c = tt
-
-pub returns-then-not-pairs_ascend : goal.returns-then-not-pairs_ascend
-returns-then-not-pairs_ascend c =
-    let kept = c.in_turn.result in
-    let ascends = c.pairs_ascend.result in
-    rules-pairs _ kept c.in_turn.ensures (not-false kept c.if-not-in_turn.false-raw) ascends c.pairs_ascend.ensures (not-true ascends c.if-not-pairs_ascend.true-raw)
-
-pub rows_ascend-requires : goal.rows_ascend-requires
-rows_ascend-requires c = tt
-
-pub returns : goal.returns
-returns c =
-    let kept = c.in_turn.result in
-    let ascends = c.pairs_ascend.result in
-    rules-rows _ kept c.in_turn.ensures (not-false kept c.if-not-in_turn.false-raw) ascends c.pairs_ascend.ensures (not-false ascends c.if-not-pairs_ascend.false-raw)
-    c.rows_ascend.result c.rows_ascend.ensures
+pub returns-else-pairs_ascend : goal.returns-else-pairs_ascend
+returns-else-pairs_ascend c =
+    elim c.if-in_turn.branch [
+      | then-in_turn w ↦ rules-pairs _ _ c.in_turn.ensures w.if-in_turn.true _ w.pairs_ascend.ensures (sym w.value-is ∙ c.if-pairs_ascend.false)
+          ∙ ap unless (sym c.if-pairs_ascend.false)
+      | else-in_turn w ↦ rules-labels _ _ c.in_turn.ensures w.if-in_turn.false ∙ ap unless (sym c.if-pairs_ascend.false)
+    ]

@@ -3,15 +3,6 @@ use Prim.Native.Nat.{◌-◌, ◌*◌}
 use Rattle.result_writer.proofs.Ascending.{lt_pair}
 use Rattle.result_writer.proofs.pair_ascends.Goals as goal
 
-pub is_before-last-requires : goal.is_before-last-requires
-is_before-last-requires c = tt
-
-pub is_before-middle-requires : goal.is_before-middle-requires
-is_before-middle-requires c = tt
-
-pub is_before-requires : goal.is_before-requires
-is_before-requires c = tt
-
 pub returns : goal.returns
 returns c =
     lt_pair c.args.pairs.now (3 * (c.args.i - 1)) (3 * c.args.i) c.is_before-last.ensures c.is_before-middle.ensures c.is_before.ensures

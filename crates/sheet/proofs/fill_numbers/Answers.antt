@@ -1,5 +1,5 @@
 -- `sheet::fill_numbers` meets its contract. The loop's invariant is `Filling`: storing the numbers that are left makes the list that is wanted. Where the loop is
--- left early, `fill_rest` stores them. The measure is how many are left. Assumes nothing.
+-- left early, `fill_rest` stores them. Assumes nothing.
 use mathlib.Core.Path.{◌∙◌}
 use Rattle.laws.specs.SheetReading.SheetLaws.{keeps-number}
 use Rattle.sheet.proofs.Filling.{filling_starts, filling_ends, filling_room, filling_held, filling_goes_on}
@@ -22,7 +22,7 @@ returns-in_default c =
 
 pub loop-i-preserved : goal.loop-i-preserved
 loop-i-preserved c =
-    filling_goes_on c.loop-i.invariant c.loop-i-test.true keeps-number c.in-Number.ensures
+    filling_goes_on c.loop-i.invariant c.loop-i-test.true keeps-number c.in-Some.ensures
 
 pub shape_of-out : goal.shape_of-out
 shape_of-out c = c.loop-i.invariant.long

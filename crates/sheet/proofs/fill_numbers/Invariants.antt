@@ -1,6 +1,5 @@
 -- `sheet::fill_numbers` meets its contract. The loop's invariant is `Filling`: storing the numbers that are left makes the list that is wanted. Where the loop is
--- left early, `fill_rest` stores them. The measure is how many are left. Assumes nothing.
-use Prim.Native.Nat.{◌-◌}
+-- left early, `fill_rest` stores them. Assumes nothing.
 use Rattle.definitions.specs.SheetNumber.{number}
 use Rattle.definitions.specs.Lists.{overwrite}
 use Rattle.sheet.specs.Numbers.{values_at}
@@ -10,5 +9,3 @@ use Rattle.sheet.proofs.fill_numbers.Given as goal
 abbrev pub invariant-loop-i : goal.invariant-loop-i
 invariant-loop-i l = Filling number l.bytes l.initial.out (overwrite (values_at number l.bytes l.at l.count) l.initial.out) l.count l.out l.next l.i
 
-abbrev pub decreases-loop-i : goal.decreases-loop-i
-decreases-loop-i l = l.count - l.i

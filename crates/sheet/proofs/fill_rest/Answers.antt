@@ -1,5 +1,5 @@
 -- `sheet::fill_rest` meets its contract. The loop's invariant is `Filling`: storing the numbers that are left makes the list that is wanted. What was judged is
--- not refused, so the loop is not left early. The measure is how many are left. Assumes nothing.
+-- not refused, so the loop is not left early. Assumes nothing.
 use Rattle.laws.specs.SheetReading.SheetLaws.{keeps-number}
 use Rattle.sheet.proofs.Items.{as_number}
 use Rattle.sheet.proofs.Filling.{filling_from, filling_ends, filling_never-stops, filling_goes_on}
@@ -21,7 +21,7 @@ returns-in_default c =
 
 pub loop-i-preserved : goal.loop-i-preserved
 loop-i-preserved c =
-    filling_goes_on c.loop-i.invariant c.loop-i-test.true keeps-number (as_number _ _ c.in-Item.ensures)
+    filling_goes_on c.loop-i.invariant c.loop-i-test.true keeps-number (as_number _ _ c.in-Ok.ensures)
 
 pub shape_of-out : goal.shape_of-out
 shape_of-out c = c.loop-i.invariant.long

@@ -1,60 +1,45 @@
 -- `sheet::lists` meets its contract: the parts follow one another, the first that is refused is the answer, and behind the last the bytes end. Assumes nothing.
-use native.Mathlib.Omega.{arith}
+use Rattle.std.proofs.Common.{arith}
 use Rattle.laws.specs.SheetReading.SheetLaws.{keeps-entries}
-use Rattle.sheet.proofs.Found.{keeps-spans, part-inside, cells-inside, cells_faulty, spans_faulty, boundaries_faulty, anchors_faulty, lists-too_long, lists-found}
+use Rattle.sheet.proofs.Passed.{passed}
+use Rattle.sheet.proofs.PartsFound.{keeps-spans, part-inside, cells-inside, cells_faulty, spans_faulty, boundaries_faulty, anchors_faulty, lists-too_long, lists-found}
 use Rattle.sheet.proofs.lists.Goals as goal
 
+pub returns-in_err-front : goal.returns-in_err-front
+returns-in_err-front c = rw (passed _ c.from_residual.ensures.1) (cells_faulty c.args.own _ _ _ _ c.in_err-front.ensures)
+
 pub spans_held-requires : goal.spans_held-requires
-spans_held-requires c =
-    (cells-inside c.args.own _ _ _ c.requires c.in-Behind.ensures)
+spans_held-requires c = cells-inside c.args.own _ _ _ c.requires c.in_ok-front.ensures
+
+pub returns-in_err-spans : goal.returns-in_err-spans
+returns-in_err-spans c = rw (passed _ c.from_residual-in_err-spans.ensures.1) (spans_faulty _ _ _ _ c.in_ok-front.ensures c.in_err-spans.ensures)
 
 pub entries-requires : goal.entries-requires
 entries-requires c = (
-  (part-inside (keeps-spans c.args.own) (cells-inside c.args.own _ _ _ c.requires c.in-Behind.ensures)
-      c.in-Entries.ensures),
+  part-inside (keeps-spans c.args.own) (cells-inside c.args.own _ _ _ c.requires c.in_ok-front.ensures) c.in_ok-spans.ensures,
   omega arith,
 )
 
-pub entries-requires-in-Entries-entries : goal.entries-requires-in-Entries-entries
-entries-requires-in-Entries-entries c = (
-  (part-inside (keeps-entries 9) (part-inside (keeps-spans c.args.own) (cells-inside c.args.own _ _ _ c.requires c.in-Behind.ensures)
-      c.in-Entries.ensures)
-      c.in-Entries-entries.ensures),
+pub returns-in_err-boundaries : goal.returns-in_err-boundaries
+returns-in_err-boundaries c =
+    rw (passed _ c.from_residual-in_err-boundaries.ensures.1) (boundaries_faulty _ _ _ _ c.in_ok-front.ensures c.in_ok-spans.ensures c.in_err-boundaries.ensures)
+
+pub entries-requires-2 : goal.entries-requires-2
+entries-requires-2 c = (
+  part-inside (keeps-entries 9) (part-inside (keeps-spans c.args.own) (cells-inside c.args.own _ _ _ c.requires c.in_ok-front.ensures) c.in_ok-spans.ensures)
+      c.in_ok-boundaries.ensures,
   omega arith,
 )
 
-pub returns-then-d-bytes : goal.returns-then-d-bytes
-returns-then-d-bytes c =
-    lists-too_long _ _ _ _ c.in-Behind.ensures
-    c.in-Entries.ensures
-    c.in-Entries-entries.ensures
-    c.in-Entries-entries-2.ensures c.if-d-bytes.true
+pub returns-in_err-anchors : goal.returns-in_err-anchors
+returns-in_err-anchors c =
+    rw (passed _ c.from_residual-in_err-anchors.ensures.1)
+    (anchors_faulty _ _ _ _ c.in_ok-front.ensures c.in_ok-spans.ensures c.in_ok-boundaries.ensures c.in_err-anchors.ensures)
 
-pub returns-else-d-bytes : goal.returns-else-d-bytes
-returns-else-d-bytes c =
-    lists-found _ _ _ _ c.in-Behind.ensures
-    c.in-Entries.ensures
-    c.in-Entries-entries.ensures
-    c.in-Entries-entries-2.ensures c.requires c.if-d-bytes.false
+pub returns-then-anchors-bytes : goal.returns-then-anchors-bytes
+returns-then-anchors-bytes c =
+    lists-too_long _ _ _ _ c.in_ok-front.ensures c.in_ok-spans.ensures c.in_ok-boundaries.ensures c.in_ok-anchors.ensures c.if-anchors-bytes.true
 
-pub returns-in-Refused-entries-2 : goal.returns-in-Refused-entries-2
-returns-in-Refused-entries-2 c =
-    anchors_faulty _ _ _ _ c.in-Behind.ensures
-    c.in-Entries.ensures
-    c.in-Entries-entries.ensures
-    c.in-Refused-entries-2.ensures
-
-pub returns-in-Refused-entries : goal.returns-in-Refused-entries
-returns-in-Refused-entries c =
-    boundaries_faulty _ _ _ _ c.in-Behind.ensures
-    c.in-Entries.ensures
-    c.in-Refused-entries.ensures
-
-pub returns-in-Refused : goal.returns-in-Refused
-returns-in-Refused c =
-    spans_faulty _ _ _ _ c.in-Behind.ensures
-    c.in-Refused.ensures
-
-pub returns-in-Faulty : goal.returns-in-Faulty
-returns-in-Faulty c =
-    cells_faulty c.args.own _ _ _ c.in-Faulty.ensures
+pub returns : goal.returns
+returns c =
+    lists-found _ _ _ _ c.in_ok-front.ensures c.in_ok-spans.ensures c.in_ok-boundaries.ensures c.in_ok-anchors.ensures c.requires c.if-anchors-bytes.false

@@ -1,32 +1,24 @@
 -- `sheet::opening` meets its contract: the kind is 1 or 3 and the pass follows, or the first of the two that is not so is the fault. Assumes nothing.
-use mathlib.Core.Path.{sym, ◌∙◌}
+use Rattle.std.proofs.Common.{rules, sym, ◌∙◌}
 use Rattle.laws.specs.SheetReading.SheetLaws.{keeps-number, ends-inside}
 use Rattle.sheet.proofs.Items.{as_number}
+use Rattle.sheet.proofs.Passed.{passed}
 use Rattle.sheet.proofs.Chains.{opening-found, pass-fails, opening-other, opening-fails}
-use borrow.Author.Rules.{rules}
 use Rattle.sheet.proofs.opening.Goals as goal
 
-pub item-requires-then-is_map_kind : goal.item-requires-then-is_map_kind
-item-requires-then-is_map_kind c =
-    ends-inside keeps-number _ 0 (search rules) (as_number _ _ c.in-Item.ensures)
+pub returns-in_err-kind : goal.returns-in_err-kind
+returns-in_err-kind c = rw (passed _ c.from_residual.ensures.1) (opening-fails 0 _ (as_number _ _ c.in_err-kind.ensures))
 
-pub returns-in-Item-item : goal.returns-in-Item-item
-returns-in-Item-item c =
-    opening-found 0 _ (as_number _ _ c.in-Item.ensures)
-    (sym c.is_map_kind.ensures ∙ c.if-is_map_kind.true)
-    (as_number _ _ c.in-Item-item.ensures)
+pub returns-then-not-is_map_kind : goal.returns-then-not-is_map_kind
+returns-then-not-is_map_kind c = opening-other 0 _ (as_number _ _ c.in_ok-kind.ensures) (sym c.is_map_kind.ensures ∙ c.if-not-is_map_kind.true)
 
-pub returns-in-Fault-item : goal.returns-in-Fault-item
-returns-in-Fault-item c =
-    pass-fails 0 _ (as_number _ _ c.in-Item.ensures)
-    (sym c.is_map_kind.ensures ∙ c.if-is_map_kind.true)
-    (as_number _ _ c.in-Fault-item.ensures)
+pub item-requires-2 : goal.item-requires-2
+item-requires-2 c = ends-inside keeps-number _ 0 (search rules) (as_number _ _ c.in_ok-kind.ensures)
 
-pub returns-else-is_map_kind : goal.returns-else-is_map_kind
-returns-else-is_map_kind c =
-    opening-other 0 _ (as_number _ _ c.in-Item.ensures)
-    (sym c.is_map_kind.ensures ∙ c.if-is_map_kind.false)
+pub returns-in_err-pass : goal.returns-in_err-pass
+returns-in_err-pass c =
+    rw (passed _ c.from_residual-in_err-pass.ensures.1)
+    (pass-fails 0 _ (as_number _ _ c.in_ok-kind.ensures) (sym c.is_map_kind.ensures ∙ c.if-not-is_map_kind.false) (as_number _ _ c.in_err-pass.ensures))
 
-pub returns-in-Fault : goal.returns-in-Fault
-returns-in-Fault c =
-    opening-fails 0 _ (as_number _ _ c.in-Fault.ensures)
+pub returns : goal.returns
+returns c = opening-found 0 _ (as_number _ _ c.in_ok-kind.ensures) (sym c.is_map_kind.ensures ∙ c.if-not-is_map_kind.false) (as_number _ _ c.in_ok-pass.ensures)

@@ -2,9 +2,6 @@
 use Rattle.definitions.specs.Sheet.{read_verdict}
 use Rattle.sheet.proofs.read_sheet.Goals as goal
 
-pub read_within-requires : goal.read_within-requires
-read_within-requires c = tt
-
 pub returns : goal.returns
 unfolding read_verdict
 returns c =

@@ -7,16 +7,13 @@ use Rattle.sheet.proofs.short_at.Goals as goal
 pub bounds-bytes-at : goal.bounds-bytes-at
 bounds-bytes-at c = held_first _ _ c.requires
 
-pub number_of_byte-first-requires : goal.number_of_byte-first-requires
-number_of_byte-first-requires c = tt
-
 pub overflow_add-result : goal.overflow_add-result
 overflow_add-result c =
     omega (arith, held_first _ _ c.requires)
 
 pub returns-then-first-lt128 : goal.returns-then-first-lt128
 returns-then-first-lt128 c =
-    short_one _ _ (held_first _ _ c.requires) c.number_of_byte-first.ensures c.if-first-lt128.true
+    short_one _ _ (held_first _ _ c.requires) c.from-first.ensures c.if-first-lt128.true
 
 pub overflow_add-at : goal.overflow_add-at
 overflow_add-at c =
@@ -24,22 +21,19 @@ overflow_add-at c =
 
 pub bounds-bytes-at-2 : goal.bounds-bytes-at-2
 bounds-bytes-at-2 c =
-    held-second _ _ c.requires c.number_of_byte-first.ensures c.if-first-lt128.false
-
-pub number_of_byte-second-requires : goal.number_of_byte-second-requires
-number_of_byte-second-requires c = tt
+    held-second _ _ c.requires c.from-first.ensures c.if-first-lt128.false
 
 pub overflow_add-result-then-second-lt128-2 : goal.overflow_add-result-then-second-lt128-2
 overflow_add-result-then-second-lt128-2 c =
-    omega (arith, held-second _ _ c.requires c.number_of_byte-first.ensures c.if-first-lt128.false)
+    omega (arith, held-second _ _ c.requires c.from-first.ensures c.if-first-lt128.false)
 
 pub returns-then-second-lt128 : goal.returns-then-second-lt128
 returns-then-second-lt128 c =
     let held = c.requires in
-    let above = held-above _ _ held c.number_of_byte-first.ensures c.if-first-lt128.false c.number_of_byte-second.ensures in
-    short_two _ _ (held_first _ _ held) c.number_of_byte-first.ensures c.if-first-lt128.false
-    (held-second _ _ held c.number_of_byte-first.ensures c.if-first-lt128.false) c.number_of_byte-second.ensures
-    (second_ends_lem c.number_of_byte-second.result above c.if-second-lt128.true)
+    let above = held-above _ _ held c.from-first.ensures c.if-first-lt128.false c.from-second.ensures in
+    short_two _ _ (held_first _ _ held) c.from-first.ensures c.if-first-lt128.false
+    (held-second _ _ held c.from-first.ensures c.if-first-lt128.false) c.from-second.ensures
+    (second_ends_lem c.from-second.result above c.if-second-lt128.true)
 
 pub returns : goal.returns
 returns c = tt

@@ -2,7 +2,7 @@
 use mathlib.Core.Path.{sym, subst}
 use Rattle.definitions.specs.Sheet.{spans_held}
 use Rattle.sheet.specs.Parts.{PartHeld, PartTold}
-use Rattle.sheet.proofs.Found.{spans_none}
+use Rattle.sheet.proofs.PartsFound.{spans_none}
 use Rattle.sheet.proofs.spans_held.Goals as goal
 
 pub returns-then-own : goal.returns-then-own

@@ -7,10 +7,10 @@ pub returns-then-bytes-gt-SHEET_BYTES_MOST : goal.returns-then-bytes-gt-SHEET_BY
 returns-then-bytes-gt-SHEET_BYTES_MOST c =
     begun-long _ _ _ _ _ c.if-bytes-gt-SHEET_BYTES_MOST.true c.print_refused.ensures.printed
 
-pub returns-in-Read : goal.returns-in-Read
-returns-in-Read c =
-    begun-read _ _ _ _ _ c.if-bytes-gt-SHEET_BYTES_MOST.false c.requires.lists_long c.read_within.ensures c.in-Read.is
+pub returns-in-Ok : goal.returns-in-Ok
+returns-in-Ok c =
+    begun-read _ _ _ _ _ c.if-bytes-gt-SHEET_BYTES_MOST.false c.requires.lists_long c.read_within.ensures c.in-Ok.is
 
-pub returns-in-Refused : goal.returns-in-Refused
-returns-in-Refused c =
-    begun-refused _ _ _ _ _ c.if-bytes-gt-SHEET_BYTES_MOST.false c.requires.lists_long c.read_within.ensures _ _ c.in-Refused.is c.print_refused-in-Refused.ensures.printed
+pub returns-in-Err : goal.returns-in-Err
+returns-in-Err c =
+    begun-refused _ _ _ _ _ c.if-bytes-gt-SHEET_BYTES_MOST.false c.requires.lists_long c.read_within.ensures _ c.in-Err.is c.print_refused-in-Err.ensures.printed

@@ -1,4 +1,4 @@
--- `sheet_writer::put_cells` meets its contract. The loop's invariant is `Placing`: the cells from i on are still to be written. The measure is how many are left.
+-- `sheet_writer::put_cells` meets its contract. The loop's invariant is `Placing`: the cells from i on are still to be written.
 -- Assumes nothing.
 use Rattle.result_writer.proofs.Placing.{placing_starts, placing_ends}
 use Rattle.sheet_writer.proofs.Cells.{cell_room, cell-put}
@@ -10,11 +10,11 @@ loop-i-init c =
 
 pub put_shortest-next-requires : goal.put_shortest-next-requires
 put_shortest-next-requires c =
-    cell_room c.loop-i.invariant c.loop-i-test.true c.number_of_byte.ensures
+    cell_room c.loop-i.invariant c.loop-i-test.true c.from.ensures
 
 pub loop-i-preserved : goal.loop-i-preserved
 loop-i-preserved c =
-    cell-put c.loop-i.invariant c.loop-i-test.true c.number_of_byte.ensures c.put_shortest-next.auto.out c.put_shortest-next.ensures
+    cell-put c.loop-i.invariant c.loop-i-test.true c.from.ensures c.put_shortest-next.auto.out c.put_shortest-next.ensures
 
 pub shape_of-out : goal.shape_of-out
 shape_of-out c =

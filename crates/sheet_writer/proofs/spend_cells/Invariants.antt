@@ -1,12 +1,6 @@
--- `sheet_writer::spend_cells` meets its contract. The loop's invariant is `Spending`: what is left of the room has to do for the cells from i on. The measure is how
--- many are left. Assumes nothing.
-use Prim.Native.Nat.{◌-◌}
-use lib.ListN.{length}
+-- `sheet_writer::spend_cells` meets its contract. The loop's invariant is `Spending`: what is left of the room has to do for the cells from i on. Assumes nothing.
 use Rattle.result_writer.proofs.Spending.{Spending}
 use Rattle.sheet_writer.proofs.spend_cells.Given as goal
 
 abbrev pub invariant-loop-i : goal.invariant-loop-i
-invariant-loop-i l = Spending l.cells l.whole l.left l.i
-
-abbrev pub decreases-loop-i : goal.decreases-loop-i
-decreases-loop-i l = length l.cells - l.i
+invariant-loop-i l = Spending l.cells l.initial.left l.left l.i

@@ -1,6 +1,6 @@
--- `accession::held::last_held` meets its contract. The loop's invariant (`Reached`): the map's last record among those held is its last among the first k.
--- The measure is k. Assumes nothing.
-use Prim.Native.Nat.{ℕ, ◌-◌}
+-- `accession::held::last_held` meets its contract. The loop's invariant (`Reached`): the map's last record among those held is its last among the first `next`.
+-- The measure is `next`. Assumes nothing.
+use Prim.Native.Nat.{ℕ, suc, ◌-◌}
 use native.Mathlib.Omega.{arith}
 use mathlib.Core.Path.{◌≡◌, sym, ap, ◌∙◌}
 use mathlib.Core.Bool.{true, false}
@@ -13,43 +13,44 @@ use Rattle.catalogue.specs.AccessionLaws.MapLine.{is_of_map}
 use Rattle.accession.proofs.Holding.{reached_first, reached_next, next_before}
 use Rattle.accession.proofs.held.last_held.Goals as goal
 
-pub slot_of-slot-requires : goal.slot_of-slot-requires
-slot_of-slot-requires c = c.requires.some_slots
+pub slot_of-requires : goal.slot_of-requires
+slot_of-requires c = c.requires.some_slots
 
-pub loop-k-init : goal.loop-k-init
-loop-k-init c =
-    let found = c.slot_of-slot in
+pub loop-next-init : goal.loop-next-init
+loop-next-init c =
+    let found = c.slot_of in
     reached_first c.args.records.now c.requires c.args.number found.result found.ensures.0 found.ensures.1
 
 pub map_of-requires : goal.map_of-requires
-map_of-requires c = omega (arith, c.loop-k.invariant.within, c.requires.of_list)
+map_of-requires c = omega (arith, c.loop-next.invariant.within, c.requires.of_list)
 
 pub returns-then-map_of-number : goal.returns-then-map_of-number
 unfolding is_of_map
 returns-then-map_of-number c =
     let list : List ℕ = c.args.records.now in
     let number : ℕ = c.args.number in
-    let k : ℕ = c.loop-k.k in
+    let k : ℕ = c.loop-next.next in
     let is_of_lem : is_of_map list number (k - 1) ≡ true = eq-eqb (accession_at list (k - 1)).on_map number (sym c.map_of.ensures ∙ c.if-map_of-number.true) in
-    sym (c.loop-k.invariant.rest ∙ last_found (is_of_map list number) k (search rules) is_of_lem)
+    let e : suc (k - 1) ≡ k = omega arith in
+    e ∙ sym (c.loop-next.invariant.rest ∙ last_found (is_of_map list number) k (search rules) is_of_lem)
 
 pub bounds-links-k : goal.bounds-links-k
-bounds-links-k c = omega (arith, c.loop-k.invariant.within, c.requires.room)
+bounds-links-k c = omega (arith, c.loop-next.invariant.within, c.requires.room)
 
-pub loop-k-smaller : goal.loop-k-smaller
-loop-k-smaller c = next_before c.args.records.now c.requires c.args.number c.loop-k.k c.loop-k.invariant (search rules)
+pub loop-next-smaller : goal.loop-next-smaller
+loop-next-smaller c = next_before c.args.records.now c.requires c.args.number c.loop-next.next c.loop-next.invariant (search rules)
 
-pub loop-k-preserved : goal.loop-k-preserved
+pub loop-next-preserved : goal.loop-next-preserved
 unfolding is_of_map
-loop-k-preserved c =
+loop-next-preserved c =
     let list : List ℕ = c.args.records.now in
     let number : ℕ = c.args.number in
-    let k : ℕ = c.loop-k.k in
+    let k : ℕ = c.loop-next.next in
     let is_not : is_of_map list number (k - 1) ≡ false = ne_eqb (accession_at list (k - 1)).on_map number (λ e. c.if-map_of-number.false (c.map_of.ensures ∙ e)) in
-    reached_next list c.requires number k c.loop-k.invariant (search rules) is_not
+    reached_next list c.requires number k c.loop-next.invariant (search rules) is_not
 
 pub returns : goal.returns
 unfolding last_below
 returns c =
-    let none : c.loop-k.k ≡ 0 = omega arith in
-    sym (c.loop-k.invariant.rest ∙ ap (λ n. last_below n (is_of_map c.args.records.now c.args.number)) none)
+    let none : c.loop-next.next ≡ 0 = omega arith in
+    sym (c.loop-next.invariant.rest ∙ ap (λ n. last_below n (is_of_map c.args.records.now c.args.number)) none)

@@ -1,6 +1,6 @@
 -- `accession::held::last_of_map` meets its contract. The loop's invariant: the last record of the map before record i is its last among the first k, which
 -- are no fewer than those held. The measure is k. Assumes nothing.
-use Prim.Native.Nat.{ℕ, ◌-◌}
+use Prim.Native.Nat.{ℕ, suc, ◌-◌}
 use native.Mathlib.Omega.{arith}
 use mathlib.Core.Path.{◌≡◌, refl, sym, ap, ◌∙◌}
 use mathlib.Core.Bool.{true, false}
@@ -24,7 +24,8 @@ returns-then-map_of-number c =
     let i : ℕ = c.args.i in
     let k : ℕ = c.loop-k.k in
     let is_same : on_same_map list i (k - 1) ≡ true = eq-eqb (accession_at list (k - 1)).on_map (accession_at list i).on_map (sym c.map_of.ensures ∙ c.if-map_of-number.true ∙ c.map_of-number.ensures) in
-    sym (c.loop-k.invariant.2 ∙ last_found (on_same_map list i) k (search rules) is_same)
+    let e : suc (k - 1) ≡ k = omega arith in
+    e ∙ sym (c.loop-k.invariant.2 ∙ last_found (on_same_map list i) k (search rules) is_same)
 
 pub loop-k-preserved : goal.loop-k-preserved
 unfolding on_same_map

@@ -6,36 +6,36 @@ use lib.ListN.{length}
 use Rattle.catalogue.specs.Line.{line_of}
 use Rattle.catalogue.specs.AccessionLaws.MapLine.{map_line}
 use Rattle.catalogue.proofs.AccessionLaws.MapLine.{line-of-record, line-unknown}
-use Rattle.accession.specs.Contract.{Finds, room_verdict}
-use Rattle.accession.specs.declared.line.Found.TheVariants.{At}
+use Rattle.accession.specs.Contract.{answer_of, Finds, room_verdict}
+use Rattle.std.specs.Prelude.{Some}
 use Rattle.accession.proofs.Reporting.{ten-left, unknown, exit-left, exit-unknown}
 use Rattle.accession.proofs.line.report_kept.Goals as goal
 
 pub map_of-requires : goal.map_of-requires
 map_of-requires c =
-    let known_at : Finds c.args.records.now c.args.own (At c.in-At.i) = c.in-At.ensures in
+    let known_at : Finds c.args.records.now c.args.own (Some c.in-Some.i) = c.in-Some.ensures in
     known_at.0
 
-pub returns-in-Nowhere : goal.returns-in-Nowhere
-returns-in-Nowhere c =
+pub returns-in-None : goal.returns-in-None
+returns-in-None c =
     let l = c.args.records.now in
     let own = c.args.own in
-    let none = line-unknown l own c.in-Nowhere.ensures in
+    let none = line-unknown l own c.in-None.ensures in
     record {
       answer = unknown l own c.args.output.now c.requires.0 c.requires.1 none;
       left = exit-unknown l own c.args.output.now none;
     }
 
-pub returns-in-At : goal.returns-in-At
-returns-in-At c =
-    let known_at : Finds c.args.records.now c.args.own (At c.in-At.i) = c.in-At.ensures in
+pub returns-in-Some : goal.returns-in-Some
+returns-in-Some c =
+    let known_at : Finds c.args.records.now c.args.own (Some c.in-Some.i) = c.in-Some.ensures in
     let list : List ℕ = c.args.records.now in
     let own : ℕ = c.args.own in
     let out : List ℕ = c.args.output.now in
-    let line : line_of list own ≡ map_line list c.map_of.result = line-of-record list own c.requires.1 c.in-At.i known_at.0 known_at.1 ∙ ap (map_line list) (sym c.map_of.ensures) in
+    let line : line_of list own ≡ map_line list c.map_of.result = line-of-record list own c.requires.1 c.in-Some.i known_at.0 known_at.1 ∙ ap (map_line list) (sym c.map_of.ensures) in
     let said = c.report_map in
     let room = length out in
     record {
       answer = said.ensures.answer ∙ ap (λ line. room_verdict line room) (sym line) ∙ ten-left list own out c.requires.0 c.requires.1;
-      left = said.ensures.left ∙ exit-left list own out said.result.number line;
+      left = said.ensures.left ∙ exit-left list own out (answer_of said.result).number line;
     }

@@ -8,6 +8,7 @@ use mathlib.Core.List.{List}
 use borrow.Author.Rules.{rules}
 use Rattle.laws.specs.ListLaws.FirstBelow.{none_faulty_more, none_faulty_end, first_faulty_lem}
 use Rattle.catalogue.specs.Accession.{accession_count, keeps_rules, accessions_fault}
+use Rattle.accession.specs.Contract.{one_more}
 use Rattle.accession.proofs.Checking.{checked_none, previous-within, test-is}
 use Rattle.accession.proofs.rules.first_broken_by.Goals as goal
 
@@ -15,8 +16,8 @@ pub loop-i-init : goal.loop-i-init
 loop-i-init c =
     checked_none c.args.records.now c.args.last.now c.args.links.now c.requires.sizes.0 c.requires.empty
 
-pub last_of_map-k-requires : goal.last_of_map-k-requires
-last_of_map-k-requires c =
+pub last_of_map-before-requires : goal.last_of_map-before-requires
+last_of_map-before-requires c =
     let inv = c.loop-i.invariant in
     record {
       places = (search rules, inv.behind);
@@ -25,7 +26,7 @@ last_of_map-k-requires c =
 
 pub goes_on-requires : goal.goes_on-requires
 goes_on-requires c =
-    (search rules, previous-within c.args.records.now c.loop-i.i c.last_of_map-k.ensures)
+    (search rules, previous-within c.args.records.now c.loop-i.i c.last_of_map-before.ensures)
 
 pub shape_of-last-then-not-own_ascends-goes_on : goal.shape_of-last-then-not-own_ascends-goes_on
 shape_of-last-then-not-own_ascends-goes_on c = c.loop-i.invariant.same_slots
@@ -37,7 +38,7 @@ pub returns-then-not-own_ascends-goes_on : goal.returns-then-not-own_ascends-goe
 unfolding accessions_fault
 returns-then-not-own_ascends-goes_on c =
     let list : List ℕ = c.args.records.now in
-    let test : (c.own_ascends.result && c.goes_on.result) ≡ keeps_rules list c.loop-i.i = test-is list c.loop-i.i c.last_of_map-k.result c.loop-i.invariant.kept_below_lem c.last_of_map-k.ensures
+    let test : (c.own_ascends.result && c.goes_on.result) ≡ keeps_rules list c.loop-i.i = test-is list c.loop-i.i (one_more c.last_of_map-before.result) c.loop-i.invariant.kept_below_lem c.last_of_map-before.ensures
     c.own_ascends.ensures c.goes_on.ensures in
     sym (first_faulty_lem (keeps_rules list) (accession_count list) c.loop-i.i (search rules) c.loop-i.invariant.kept_below_lem test c.if-not-own_ascends-goes_on.true-raw)
 
@@ -52,7 +53,7 @@ hold-held-requires c =
 pub loop-i-preserved : goal.loop-i-preserved
 loop-i-preserved c =
     let list : List ℕ = c.args.records.now in
-    let test : (c.own_ascends.result && c.goes_on.result) ≡ keeps_rules list c.loop-i.i = test-is list c.loop-i.i c.last_of_map-k.result c.loop-i.invariant.kept_below_lem c.last_of_map-k.ensures
+    let test : (c.own_ascends.result && c.goes_on.result) ≡ keeps_rules list c.loop-i.i = test-is list c.loop-i.i (one_more c.last_of_map-before.result) c.loop-i.invariant.kept_below_lem c.last_of_map-before.ensures
     c.own_ascends.ensures c.goes_on.ensures in
     let took = c.hold-held.ensures in
     let inv = c.loop-i.invariant in

@@ -1,60 +1,50 @@
 -- `areas::checked::checks_before` meets its contract: each test is a check's own, and where one refuses, those before it did not. Assumes nothing.
-use Prim.Native.Nat.{ℕ, ◌*◌, ◌/◌}
-use mathlib.Core.Path.{◌≡◌, sym, ap, ◌∙◌}
-use mathlib.Core.Bool.{Bool, false, not}
-use Rattle.std.specs.Prelude.{Option}
-use lib.ListN.{length}
-use lib.Dec.{eqb}
-use borrow.Author.Tests.{eqb-true, not-false}
+use Rattle.std.proofs.Common.{rules, sym, ap, ◌≡◌, ◌∙◌, ℕ, ◌*◌, ◌/◌, length, Bool}
+use Rattle.std.specs.Prelude.{Option, None, Some, eqb}
+use borrow.Author.Tests.{eqb-true}
 use Rattle.definitions.specs.Limits.{numbers_per_span}
 use Rattle.definitions.specs.Refusals.{Refusal, unless, partition_room}
 use Rattle.definitions.specs.Verdict.{refusal}
-use Rattle.checks.specs.Contract as spans
-use Rattle.checks.proofs.SidesWithin.{sides-within}
+use Rattle.refusals.specs.Refusals.{refusal_in, refusal_of}
+use Rattle.refusals.proofs.Steps.{here, next, ensured, holds}
 use Rattle.areas.specs.Contract.{early_refusal}
-use Rattle.areas.proofs.Chain.{passes, refuses, here, next}
 use Rattle.areas.proofs.checked.checks_before.Goals as goal
 
 -- the cells are as many as the sides say
-room-counted : (m n s l k q t : ℕ) {r : Bool} {o : Option Refusal} → r ≡ eqb m n → not r ≡ false → o ≡ refusal 10 (unless (partition_room m s l k q t)) → o ≡ refusal 10 (unless (partition_room n s l k q t))
-room-counted m n s l k q t {r} e h p = p ∙ ap (λ c. refusal 10 (unless (partition_room c s l k q t))) (eqb-true m n (sym e ∙ not-false r h))
+room-counted : (m n s l k q t : ℕ) {r : Bool} {o : Option Refusal} → r ≡ eqb m n → None ≡ refusal 2 (unless r) → o ≡ refusal 10 (unless (partition_room m s l k q t)) → o ≡ refusal 10 (unless (partition_room n s l k q t))
+room-counted m n s l k q t {r} e h p = p ∙ ap (λ c. refusal 10 (unless (partition_room c s l k q t))) (eqb-true m n (sym e ∙ holds 2 r h))
 
-pub returns-then-not-sides_fit : goal.returns-then-not-sides_fit
+pub returns-in_err-ensure : goal.returns-in_err-ensure
 unfolding early_refusal
-returns-then-not-sides_fit c = here _ (refuses 1 c.sides_fit.ensures c.if-not-sides_fit.true-raw)
+returns-in_err-ensure c =
+    let r : refusal_in c.from_residual.result ≡ Some (refusal_of c.in_err-ensure.field-0.0) = search rules in
+    r ∙ here _ (ensured 1 c.sides_fit.ensures c.in_err-ensure.ensures)
 
-pub cells_fit-requires : goal.cells_fit-requires
-cells_fit-requires c = sides-within _ _ c.sides_fit.ensures c.if-not-sides_fit.false-raw
-
-pub returns-then-not-cells_fit : goal.returns-then-not-cells_fit
+pub returns-in_err-ensure-2 : goal.returns-in_err-ensure-2
 unfolding early_refusal
-returns-then-not-cells_fit c = next (passes 1 c.sides_fit.ensures c.if-not-sides_fit.false-raw) (here _ (refuses 2 c.cells_fit.ensures c.if-not-cells_fit.true-raw))
+returns-in_err-ensure-2 c =
+    let r : refusal_in c.from_residual-in_err-ensure-2.result ≡ Some (refusal_of c.in_err-ensure-2.field-0.0) = search rules in
+    r ∙ next (ensured 1 c.sides_fit.ensures c.in_ok-ensure.ensures) (here _ (ensured 2 c.cells_fit.ensures c.in_err-ensure-2.ensures))
 
-pub returns-then-not-is_whole : goal.returns-then-not-is_whole
+pub returns-in_err-ensure-3 : goal.returns-in_err-ensure-3
 unfolding early_refusal
-returns-then-not-is_whole c =
-    next (passes 1 c.sides_fit.ensures c.if-not-sides_fit.false-raw) (next (passes 2 c.cells_fit.ensures c.if-not-cells_fit.false-raw) (here _ (refuses 3 c.is_whole.ensures c.if-not-is_whole.true-raw)))
+returns-in_err-ensure-3 c =
+    let r : refusal_in c.from_residual-in_err-ensure-3.result ≡ Some (refusal_of c.in_err-ensure-3.field-0.0) = search rules in
+    r ∙ next (ensured 1 c.sides_fit.ensures c.in_ok-ensure.ensures) (next (ensured 2 c.cells_fit.ensures c.in_ok-ensure-2.ensures) (here _ (ensured 3 c.is_whole.ensures c.in_err-ensure-3.ensures)))
 
-pub spans_fault-requires : goal.spans_fault-requires
-spans_fault-requires c =
-    sides-within _ _ c.sides_fit.ensures c.if-not-sides_fit.false-raw
-
-pub returns-in-Outside : goal.returns-in-Outside
+pub returns-in_err-spans_fault : goal.returns-in_err-spans_fault
 unfolding early_refusal
-returns-in-Outside c =
-    next (passes 1 c.sides_fit.ensures c.if-not-sides_fit.false-raw) (next (passes 2 c.cells_fit.ensures c.if-not-cells_fit.false-raw) (next (passes 3 c.is_whole.ensures c.if-not-is_whole.false-raw) (here _ (sym c.spans_fault.ensures ∙ ap spans.refusal_of c.in-Outside.is))))
+returns-in_err-spans_fault c =
+    let r : refusal_in c.from_residual-in_err-spans_fault.result ≡ Some (refusal_of c.in_err-spans_fault.field-0.0) = search rules in
+    r ∙ next (ensured 1 c.sides_fit.ensures c.in_ok-ensure.ensures) (next (ensured 2 c.cells_fit.ensures c.in_ok-ensure-2.ensures) (next (ensured 3 c.is_whole.ensures c.in_ok-ensure-3.ensures) (here _ (sym c.in_err-spans_fault.ensures))))
 
-pub returns-in-Equal : goal.returns-in-Equal
+pub returns : goal.returns
 unfolding early_refusal
-returns-in-Equal c =
-    next (passes 1 c.sides_fit.ensures c.if-not-sides_fit.false-raw) (next (passes 2 c.cells_fit.ensures c.if-not-cells_fit.false-raw) (next (passes 3 c.is_whole.ensures c.if-not-is_whole.false-raw) (here _ (sym c.spans_fault.ensures ∙ ap spans.refusal_of c.in-Equal.is))))
-
-pub returns-in-Nowhere : goal.returns-in-Nowhere
-unfolding early_refusal
-returns-in-Nowhere c =
+returns c =
     let a = c.args in
-    next (passes 1 c.sides_fit.ensures c.if-not-sides_fit.false-raw)
-    (next (passes 2 c.cells_fit.ensures c.if-not-cells_fit.false-raw)
-    (next (passes 3 c.is_whole.ensures c.if-not-is_whole.false-raw)
-    (next (sym c.spans_fault.ensures ∙ ap spans.refusal_of c.in-Nowhere.is)
-    (room-counted (length a.cells.now) (a.width * a.height) (length a.spans.now / numbers_per_span) a.labels a.masks a.queue a.tallies c.cells_fit.ensures c.if-not-cells_fit.false-raw c.room.ensures))))
+    let e : refusal_in c.ensure-4.result ≡ refusal 10 (unless (partition_room (length a.cells.now) (length a.spans.now / numbers_per_span) a.labels a.masks a.queue a.tallies)) = sym (ensured 10 c.partition_has_room-room.ensures c.ensure-4.ensures) in
+    next (ensured 1 c.sides_fit.ensures c.in_ok-ensure.ensures)
+    (next (ensured 2 c.cells_fit.ensures c.in_ok-ensure-2.ensures)
+    (next (ensured 3 c.is_whole.ensures c.in_ok-ensure-3.ensures)
+    (next (sym c.in_ok-spans_fault.ensures)
+    (room-counted (length a.cells.now) (a.width * a.height) (length a.spans.now / numbers_per_span) a.labels a.masks a.queue a.tallies c.cells_fit.ensures c.in_ok-ensure-2.ensures e))))

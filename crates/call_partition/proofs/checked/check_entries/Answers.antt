@@ -1,33 +1,30 @@
 -- `call_partition::checked::check_entries` meets its contract: each answer is a check's own, and where one refuses, those before it did not. Assumes nothing.
-use mathlib.Core.Path.{sym}
+use Rattle.std.proofs.Common.{rules, sym, ◌≡◌, ◌∙◌}
+use Rattle.std.specs.Prelude.{Some}
+use Rattle.refusals.specs.Refusals.{refusal_in, refusal_of}
+use Rattle.refusals.proofs.Steps.{here, next, searched}
 use Rattle.call_partition.specs.Early.{entries_refusal}
-use Rattle.areas.proofs.Chain.{here, next, spans-said, place-said}
 use Rattle.call_partition.proofs.checked.check_entries.Goals as goal
 
-pub returns-in-Outside : goal.returns-in-Outside
+pub returns-in_err-spans_fault : goal.returns-in_err-spans_fault
 unfolding entries_refusal
-returns-in-Outside c = here _ (spans-said c.spans_fault.ensures c.in-Outside.is)
+returns-in_err-spans_fault c =
+    let r : refusal_in c.from_residual.result ≡ Some (refusal_of c.in_err-spans_fault.field-0.0) = search rules in
+    r ∙ here _ (sym c.in_err-spans_fault.ensures)
 
-pub returns-in-Equal : goal.returns-in-Equal
+pub returns-in_err-no_fault : goal.returns-in_err-no_fault
 unfolding entries_refusal
-returns-in-Equal c = here _ (spans-said c.spans_fault.ensures c.in-Equal.is)
+returns-in_err-no_fault c =
+    let r : refusal_in c.from_residual-in_err-no_fault.result ≡ Some (refusal_of c.in_err-no_fault.field-0.0) = search rules in
+    r ∙ next (sym c.in_ok-spans_fault.ensures) (here _ (searched 7 c.boundaries_fault.ensures c.in_err-no_fault.ensures))
 
-pub returns-in-At : goal.returns-in-At
+pub returns-in_err-no_fault-2 : goal.returns-in_err-no_fault-2
 unfolding entries_refusal
-returns-in-At c =
-    next (spans-said c.spans_fault.ensures c.in-Nowhere.is) (here _ (place-said 7 c.boundaries_fault.ensures c.in-At.is))
-
-pub returns-in-At-anchors_fault : goal.returns-in-At-anchors_fault
-unfolding entries_refusal
-returns-in-At-anchors_fault c =
-    next (spans-said c.spans_fault.ensures c.in-Nowhere.is) (next (place-said 7 c.boundaries_fault.ensures c.in_default.is) (here _ (place-said 8 c.anchors_fault.ensures c.in-At-anchors_fault.is)))
-
-pub returns-in-At-elevations_fault : goal.returns-in-At-elevations_fault
-unfolding entries_refusal
-returns-in-At-elevations_fault c =
-    next (spans-said c.spans_fault.ensures c.in-Nowhere.is) (next (place-said 7 c.boundaries_fault.ensures c.in_default.is) (next (place-said 8 c.anchors_fault.ensures c.in_default-anchors_fault.is) (sym (place-said 9 c.elevations_fault.ensures c.in-At-elevations_fault.is))))
+returns-in_err-no_fault-2 c =
+    let r : refusal_in c.from_residual-in_err-no_fault-2.result ≡ Some (refusal_of c.in_err-no_fault-2.field-0.0) = search rules in
+    r ∙ next (sym c.in_ok-spans_fault.ensures) (next (searched 7 c.boundaries_fault.ensures c.in_ok-no_fault.ensures) (here _ (searched 8 c.anchors_fault.ensures c.in_err-no_fault-2.ensures)))
 
 pub returns : goal.returns
 unfolding entries_refusal
 returns c =
-    next (spans-said c.spans_fault.ensures c.in-Nowhere.is) (next (place-said 7 c.boundaries_fault.ensures c.in_default.is) (next (place-said 8 c.anchors_fault.ensures c.in_default-anchors_fault.is) (sym (place-said 9 c.elevations_fault.ensures c.in_default-elevations_fault.is))))
+    next (sym c.in_ok-spans_fault.ensures) (next (searched 7 c.boundaries_fault.ensures c.in_ok-no_fault.ensures) (next (searched 8 c.anchors_fault.ensures c.in_ok-no_fault-2.ensures) (sym (searched 9 c.elevations_fault.ensures c.no_fault-3.ensures))))

@@ -1,32 +1,30 @@
 -- `call_partition::checked::check_sizes` meets its contract: each test is a check's own, and where one refuses, those before it did not. Assumes nothing.
-use mathlib.Core.Path.{sym}
-use Rattle.checks.proofs.SidesWithin.{sides-within}
+use Rattle.std.proofs.Common.{rules, sym, ◌≡◌, ◌∙◌}
+use Rattle.std.specs.Prelude.{Some}
+use Rattle.refusals.specs.Refusals.{refusal_in, refusal_of}
+use Rattle.refusals.proofs.Steps.{here, next, ensured}
 use Rattle.call_partition.specs.Early.{sizes_refusal}
-use Rattle.areas.proofs.Chain.{passes, refuses, here, next}
 use Rattle.call_partition.proofs.checked.check_sizes.Goals as goal
 
-pub returns-then-not-sides_fit : goal.returns-then-not-sides_fit
+pub returns-in_err-ensure : goal.returns-in_err-ensure
 unfolding sizes_refusal
-returns-then-not-sides_fit c = here _ (refuses 1 c.sides_fit.ensures c.if-not-sides_fit.true-raw)
+returns-in_err-ensure c =
+    let r : refusal_in c.from_residual.result ≡ Some (refusal_of c.in_err-ensure.field-0.0) = search rules in
+    r ∙ here _ (ensured 1 c.sides_fit.ensures c.in_err-ensure.ensures)
 
-pub cells_fit-requires : goal.cells_fit-requires
-cells_fit-requires c = sides-within _ _ c.sides_fit.ensures c.if-not-sides_fit.false-raw
-
-pub returns-then-not-cells_fit : goal.returns-then-not-cells_fit
+pub returns-in_err-ensure-2 : goal.returns-in_err-ensure-2
 unfolding sizes_refusal
-returns-then-not-cells_fit c = next (passes 1 c.sides_fit.ensures c.if-not-sides_fit.false-raw) (here _ (refuses 2 c.cells_fit.ensures c.if-not-cells_fit.true-raw))
+returns-in_err-ensure-2 c =
+    let r : refusal_in c.from_residual-in_err-ensure-2.result ≡ Some (refusal_of c.in_err-ensure-2.field-0.0) = search rules in
+    r ∙ next (ensured 1 c.sides_fit.ensures c.in_ok-ensure.ensures) (here _ (ensured 2 c.cells_fit.ensures c.in_err-ensure-2.ensures))
 
-pub returns-then-not-all_whole : goal.returns-then-not-all_whole
+pub returns-in_err-ensure-3 : goal.returns-in_err-ensure-3
 unfolding sizes_refusal
-returns-then-not-all_whole c =
-    next (passes 1 c.sides_fit.ensures c.if-not-sides_fit.false-raw) (next (passes 2 c.cells_fit.ensures c.if-not-cells_fit.false-raw) (here _ (refuses 3 c.all_whole.ensures c.if-not-all_whole.true-raw)))
-
-pub returns-then-not-pass_fits : goal.returns-then-not-pass_fits
-unfolding sizes_refusal
-returns-then-not-pass_fits c =
-    next (passes 1 c.sides_fit.ensures c.if-not-sides_fit.false-raw) (next (passes 2 c.cells_fit.ensures c.if-not-cells_fit.false-raw) (next (passes 3 c.all_whole.ensures c.if-not-all_whole.false-raw) (sym (refuses 4 c.pass_fits.ensures c.if-not-pass_fits.true-raw))))
+returns-in_err-ensure-3 c =
+    let r : refusal_in c.from_residual-in_err-ensure-3.result ≡ Some (refusal_of c.in_err-ensure-3.field-0.0) = search rules in
+    r ∙ next (ensured 1 c.sides_fit.ensures c.in_ok-ensure.ensures) (next (ensured 2 c.cells_fit.ensures c.in_ok-ensure-2.ensures) (here _ (ensured 3 c.all_whole-whole.ensures c.in_err-ensure-3.ensures)))
 
 pub returns : goal.returns
 unfolding sizes_refusal
 returns c =
-    next (passes 1 c.sides_fit.ensures c.if-not-sides_fit.false-raw) (next (passes 2 c.cells_fit.ensures c.if-not-cells_fit.false-raw) (next (passes 3 c.all_whole.ensures c.if-not-all_whole.false-raw) (sym (passes 4 c.pass_fits.ensures c.if-not-pass_fits.false-raw))))
+    next (ensured 1 c.sides_fit.ensures c.in_ok-ensure.ensures) (next (ensured 2 c.cells_fit.ensures c.in_ok-ensure-2.ensures) (next (ensured 3 c.all_whole-whole.ensures c.in_ok-ensure-3.ensures) (sym (ensured 4 c.pass_fits.ensures c.ensure-4.ensures))))

@@ -1,14 +1,16 @@
 -- `call_partition::checked::checks_before` meets its contract: the refusals of its parts, one after the other. Assumes nothing.
 use Prim.Native.Nat.{ℕ, ◌*◌, ◌/◌}
-use mathlib.Core.Path.{◌≡◌, ap, ◌∙◌}
+use mathlib.Core.Path.{◌≡◌, sym, ap, ◌∙◌}
 use mathlib.Core.Bool.{◌&&◌}
-use Rattle.std.specs.Prelude.{Option, None}
+use borrow.Author.Rules.{rules}
+use Rattle.std.specs.Prelude.{Option, None, Some}
 use mathlib.Core.List.{List}
 use lib.ListN.{length}
 use Rattle.definitions.specs.Limits.{numbers_per_span, numbers_per_boundary}
 use Rattle.definitions.specs.Refusals.{Refusal, unless, partition_room, output_room}
 use Rattle.definitions.specs.Verdict.{refusal}
-use Rattle.areas.proofs.Chain.{here, next, said}
+use Rattle.refusals.specs.Refusals.{refusal_in, refusal_of}
+use Rattle.refusals.proofs.Steps.{here, next}
 use Rattle.call_partition.specs.Early.{early_refusal, sizes_refusal}
 use Rattle.call_partition.proofs.SizesPassed.{sizes-fit}
 use Rattle.call_partition.proofs.checked.checks_before.Goals as goal
@@ -18,23 +20,26 @@ room-counted : (pass w h : ℕ) (cells spans boundaries anchors : List ℕ) (l m
 room-counted pass w h cells spans boundaries anchors l m q t u e p =
     p ∙ ap (λ n. refusal 10 (unless (partition_room n (length spans / numbers_per_span) l m q t && output_room (length boundaries / numbers_per_boundary) u))) (sizes-fit e).counted
 
-pub returns-in-Refused : goal.returns-in-Refused
+pub returns-in_err-check_sizes : goal.returns-in_err-check_sizes
 unfolding early_refusal
-returns-in-Refused c = here _ (said c.check_sizes.ensures c.in-Refused.is)
+returns-in_err-check_sizes c =
+    let r : refusal_in c.from_residual.result ≡ Some (refusal_of c.in_err-check_sizes.field-0.0) = search rules in
+    r ∙ here _ (sym c.in_err-check_sizes.ensures)
 
 pub check_entries-requires : goal.check_entries-requires
-check_entries-requires c = let s = sizes-fit (said c.check_sizes.ensures c.in_default.is) in (s.narrow, s.short)
+check_entries-requires c = let s = sizes-fit (sym c.in_ok-check_sizes.ensures) in (s.narrow, s.short)
 
-pub returns-in-Refused-check_entries : goal.returns-in-Refused-check_entries
+pub returns-in_err-check_entries : goal.returns-in_err-check_entries
 unfolding early_refusal
-returns-in-Refused-check_entries c =
-    next (said c.check_sizes.ensures c.in_default.is) (here _ (said c.check_entries.ensures c.in-Refused-check_entries.is))
+returns-in_err-check_entries c =
+    let r : refusal_in c.from_residual-in_err-check_entries.result ≡ Some (refusal_of c.in_err-check_entries.field-0.0) = search rules in
+    r ∙ next (sym c.in_ok-check_sizes.ensures) (here _ (sym c.in_err-check_entries.ensures))
 
 pub returns : goal.returns
 unfolding early_refusal
 returns c =
     let a = c.args in
-    next (said c.check_sizes.ensures c.in_default.is)
-    (next (said c.check_entries.ensures c.in_default-check_entries.is)
+    next (sym c.in_ok-check_sizes.ensures)
+    (next (sym c.in_ok-check_entries.ensures)
     (room-counted a.pass a.width a.height a.cells.now a.spans.now a.boundaries.now a.anchors.now a.labels a.masks a.queue a.tallies a.output
-    (said c.check_sizes.ensures c.in_default.is) c.check_room.ensures))
+    (sym c.in_ok-check_sizes.ensures) c.check_room.ensures))

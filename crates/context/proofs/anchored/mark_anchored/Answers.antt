@@ -1,7 +1,7 @@
 -- `anchored::mark_anchored` meets its contract. The invariant: the labels of the anchors passed are marked. Assumes nothing.
 use Prim.Native.Nat.{◌/◌, ◌≤◌}
 use native.Mathlib.Omega.{arith}
-use mathlib.Core.Path.{◌≡◌, sym, ap, ◌∙◌, subst}
+use mathlib.Core.Path.{◌≡◌, refl, sym, ap, ◌∙◌, subst}
 use lib.ListN.{length, get_or}
 use Rattle.definitions.specs.Limits.{numbers_per_anchor}
 use Rattle.context.specs.Anchors.{anchor_cells, mark_cells}
@@ -32,13 +32,13 @@ mark_label-requires c =
     let at = c.loop-i in
     let same = mark-length _ _ _ _ at.i at.invariant.1 in
     let label = c.requires.label at.i c.loop-i-test.true in
-    subst (λ n. c.wide.result ≤ n) (sym same)
-    (subst (λ v. v ≤ length c.args.marks.now) (sym (c.wide.ensures ∙ ap (λ k. get_or c.args.labels.now k 0) c.anchor_cell-cell.ensures)) label)
+    subst (λ n. get_or c.args.labels.now c.anchor_cell-cell.result 0 ≤ n) (sym same)
+    (subst (λ v. v ≤ length c.args.marks.now) (sym (ap (λ k. get_or c.args.labels.now k 0) c.anchor_cell-cell.ensures)) label)
 
 pub loop-i-preserved : goal.loop-i-preserved
 loop-i-preserved c =
     let at = c.loop-i in
-    (search rules, mark_more _ _ _ _ at.i at.invariant.1 c.anchor_cell-cell.ensures c.wide.ensures c.mark_label.ensures)
+    (search rules, mark_more _ _ _ _ at.i at.invariant.1 c.anchor_cell-cell.ensures refl c.mark_label.ensures)
 
 pub shape_of-marks : goal.shape_of-marks
 shape_of-marks c = mark-length _ _ _ _ c.loop-i.i c.loop-i.invariant.1

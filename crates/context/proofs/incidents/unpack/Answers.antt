@@ -3,14 +3,11 @@ use Rattle.context.proofs.IncidentCounts.{unpack_none, unpack_more, unpack_all}
 use borrow.Author.Rules.{rules}
 use Rattle.context.proofs.incidents.unpack.Goals as goal
 
-pub loop-k-init : goal.loop-k-init
-loop-k-init c = unpack_none _
+pub loop-count-init : goal.loop-count-init
+loop-count-init c = unpack_none _
 
-pub loop-k-preserved : goal.loop-k-preserved
-loop-k-preserved c = unpack_more _ _ _ (search rules) c.loop-k.invariant
-
-pub shape_of-counts : goal.shape_of-counts
-shape_of-counts c = c.loop-k.invariant.long
+pub loop-count-preserved : goal.loop-count-preserved
+loop-count-preserved c = unpack_more _ _ _ (search rules) c.loop-count.invariant
 
 pub returns : goal.returns
-returns c = unpack_all _ _ _ c.loop-k-test.false c.loop-k.invariant
+returns c = unpack_all _ _ _ (search rules) c.loop-count.invariant

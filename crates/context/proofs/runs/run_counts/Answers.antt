@@ -68,14 +68,6 @@ overflow_add-elevations c =
     let begun : c.args.from ≤ c.loop-c.c = c.loop-c.invariant.begun in
     omega (arith, c.equal_end-next.ensures.inside, within.narrow, begun, counting_each c.loop-c.invariant c.elevation_of-e.result)
 
-pub offset_bounds-elevations-e-in-loop-c : goal.offset_bounds-elevations-e-in-loop-c
-offset_bounds-elevations-e-in-loop-c c =
-    let within : Within c.args.cells.now c.args.from c.args.end = c.requires in
-    let begun : c.args.from ≤ c.loop-c.c = c.loop-c.invariant.begun in
-    let low : elevation (get_or c.args.cells.now c.loop-c.c 0) < 4 = within.counted _ begun c.loop-c-test.true in
-    let level : c.elevation_of-e.result < 4 = rw c.elevation_of-e.ensures low in
-    omega (arith, level)
-
 pub bounds-elevations-e-in-loop-c : goal.bounds-elevations-e-in-loop-c
 bounds-elevations-e-in-loop-c c =
     let within : Within c.args.cells.now c.args.from c.args.end = c.requires in

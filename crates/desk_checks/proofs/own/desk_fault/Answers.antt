@@ -1,31 +1,17 @@
--- `desk_checks::own::desk_fault` meets its contract. The loop's invariant: no number below i is faulty. The measure is how many are left. Assumes nothing.
-use native.Mathlib.Omega.{arith}
-use mathlib.Core.Path.{sym}
-use borrow.Author.Rules.{rules}
-use Rattle.laws.specs.ListLaws.FirstBelow.{none_faulty_zero, none_faulty_more, none_faulty_end, first_faulty_lem}
+-- `desk_checks::own::desk_fault` meets its contract: the chain looks for the first number at which boundary and span do not lie on each other. Assumes nothing.
+use Prim.Native.Nat.{max}
+use Rattle.std.proofs.Common.{rules, tests, ap, ◌∙◌, ◌≡◌, ◌/◌, length, true, false, ℕ, Bool}
+use Rattle.std.proofs.lemmas.Iterator.{first_from_Range}
+use Rattle.definitions.specs.Limits.{numbers_per_span, numbers_per_boundary}
+use Rattle.definitions.specs.Refusals.{first_faulty}
+use Rattle.laws.specs.ListLaws.Chains.{found_is_first}
 use Rattle.desks.specs.Desks.{desk_fault}
 use Rattle.desk_checks.specs.Own.{lies_on}
-use Rattle.desk_checks.proofs.own.desk_fault.Invariants.{count}
 use Rattle.desk_checks.proofs.own.desk_fault.Goals as goal
-
-pub loop-i-init : goal.loop-i-init
-loop-i-init c =
-    let start = c.args in
-    (search rules, none_faulty_zero (lies_on start.spans.now start.boundaries.now))
-
-pub returns-then-not-lies_on : goal.returns-then-not-lies_on
-unfolding desk_fault
-returns-then-not-lies_on c =
-    let start = c.args in
-    sym (first_faulty_lem (lies_on start.spans.now start.boundaries.now) (count start.spans.now start.boundaries.now) c.loop-i.i (omega (arith, c.most-count.ensures)) c.loop-i.invariant.1 c.lies_on.ensures c.if-not-lies_on.true-raw)
-
-pub loop-i-preserved : goal.loop-i-preserved
-loop-i-preserved c =
-    let start = c.args in
-    (search rules, none_faulty_more (lies_on start.spans.now start.boundaries.now) c.loop-i.i c.loop-i.invariant.1 c.lies_on.ensures c.if-not-lies_on.false-raw)
 
 pub returns : goal.returns
 unfolding desk_fault
 returns c =
-    let start = c.args in
-    sym (none_faulty_end (lies_on start.spans.now start.boundaries.now) (count start.spans.now start.boundaries.now) c.loop-i.i (omega (arith, c.most-count.ensures)) (omega (arith, c.most-count.ensures)) c.loop-i.invariant.1)
+    let fits : ℕ → Bool = lies_on c.args.spans.now c.args.boundaries.now in
+    let n : c.max-count.result ≡ max (length c.args.spans.now / numbers_per_span) (length c.args.boundaries.now / numbers_per_boundary) = search rules in
+    found_is_first fits c.max-count.result c.find.result (first_from_Range _ _ _ c.find.result (λ i. fits i ≡ false) (λ i. fits i ≡ true) c.find.ensures.ran (λ x q k. search (rules, tests)) (λ x q k. search (rules, tests))) ∙ ap (λ k. first_faulty k fits) n

@@ -11,6 +11,7 @@ use Rattle.geometry.specs.Representatives.{length_of, dot_of, max_offset, overla
 use Rattle.geometry.proofs.Literals.{zero_is, max_overlay_normal_offset_is, min_overlay_fraction_is, min_parallel_cosine_is}
 use Rattle.geometry.proofs.Ends.{made-canonical}
 use Rattle.geometry.proofs.ramp_geometry.overlapping_ramp_representative.Goals as goal
+use Rattle.geometry.proofs.ramp_geometry.overlapping_ramp_representative.Goals.{then-ramp_length-via-then-ramp_length, then-ramp_length-via-else-ramp_length+then-candidate_length}
 
 -- the definition's tests, of canonical segments: s is the candidate, t the ramp
 abbrev is_point : Segment → Bool
@@ -48,14 +49,12 @@ pub returns-then-ramp_length : goal.returns-then-ramp_length
 returns-then-ramp_length c =
     let S : Segment = segment_form c.canonical-s.result in
     let T : Segment = segment_form c.canonical-t.result in
-    by_tests (segment_form c.args.candidate) (segment_form c.args.ramp) c.canonical-s.ensures c.canonical-t.ensures (sym c.if-ramp_length.true ∙ (λ i. eq (c.length-ramp_length.ensures i) (zero_is i))) refl refl refl refl
-
-pub returns-then-candidate_length : goal.returns-then-candidate_length
-returns-then-candidate_length c =
-    let S : Segment = segment_form c.canonical-s.result in
-    let T : Segment = segment_form c.canonical-t.result in
-    let long-ramp : false ≡ is_point T = sym c.if-ramp_length.false ∙ (λ i. eq (c.length-ramp_length.ensures i) (zero_is i)) in
-    by_tests (segment_form c.args.candidate) (segment_form c.args.ramp) c.canonical-s.ensures c.canonical-t.ensures long-ramp (sym c.if-candidate_length.true ∙ (λ i. eq (c.length-candidate_length.ensures i) (zero_is i))) refl refl refl
+    elim c.then-ramp_length.branch [
+      | then-ramp_length-via-then-ramp_length w ↦ by_tests (segment_form c.args.candidate) (segment_form c.args.ramp) c.canonical-s.ensures c.canonical-t.ensures (sym w.if-ramp_length.true ∙ (λ i. eq (c.length-ramp_length.ensures i) (zero_is i))) refl refl refl refl
+      | then-ramp_length-via-else-ramp_length+then-candidate_length w ↦
+          let long-ramp : false ≡ is_point T = sym w.if-ramp_length.false ∙ (λ i. eq (c.length-ramp_length.ensures i) (zero_is i)) in
+          by_tests (segment_form c.args.candidate) (segment_form c.args.ramp) c.canonical-s.ensures c.canonical-t.ensures long-ramp (sym w.if-candidate_length.true ∙ (λ i. eq (c.length-candidate_length.ensures i) (zero_is i))) refl refl refl
+    ]
 
 pub cosine-requires : goal.cosine-requires
 cosine-requires c =

@@ -43,31 +43,6 @@ returns-then-gap-gt-MAX_GAP c =
     let n = normal c.args.larger c.requires.larger_in_range c.if-larger-eq0.false in
     (apart c.args.larger c.args.smaller n.1 c.if-gap-gt-MAX_GAP.true, omega arith)
 
-pub short_root-short-requires : goal.short_root-short-requires
-short_root-short-requires c =
-    let n = normal c.args.larger c.requires.larger_in_range c.if-larger-eq0.false in
-    let m = normal-near c.args.larger c.args.smaller c.requires.smaller_in_range n.0 c.if-gap-gt-MAX_GAP.false in
-    omega (arith, c.requires.smaller_within)
-
-pub returns-then-short-gt0 : goal.returns-then-short-gt0
-returns-then-short-gt0 c = c.short_root-short.ensures c.if-short-gt0.true
-
-pub guess-start-requires : goal.guess-start-requires
-guess-start-requires c =
-    let n = normal c.args.larger c.requires.larger_in_range c.if-larger-eq0.false in
-    omega (arith, c.requires.smaller_within)
-
-pub overflow_sub-top : goal.overflow_sub-top
-overflow_sub-top c =
-    let n = normal c.args.larger c.requires.larger_in_range c.if-larger-eq0.false in
-    omega arith
-
-pub near_pattern-requires : goal.near_pattern-requires
-near_pattern-requires c =
-    let n = normal c.args.larger c.requires.larger_in_range c.if-larger-eq0.false in
-    let m = normal-near c.args.larger c.args.smaller c.requires.smaller_in_range n.0 c.if-gap-gt-MAX_GAP.false in
-    omega (arith, c.requires.smaller_within)
-
 pub returns : goal.returns
 returns c =
     let b = c.args.larger in

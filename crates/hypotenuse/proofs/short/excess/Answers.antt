@@ -5,6 +5,7 @@ use native.Mathlib.Omega.{arith}
 use native.Mathlib.Nat.{mul-le-mul, div-add-mod'}
 use Rattle.laws.specs.NumberLaws.Squares.{square_le}
 use Rattle.hypotenuse.proofs.Columns.{columns_of-square}
+use Rattle.std.proofs.lemmas.Grind.{common_steps}
 use Rattle.hypotenuse.proofs.short.excess.Goals as goal
 
 abbrev high : ℕ → ℕ
@@ -26,19 +27,8 @@ module _ (b : ℕ) (h : b < 2 ^ 53) where
 square_is : (b : ℕ) → ((0 * 2 ^ 22 + high b * high b) * 2 ^ 22 + 2 * (high b * low b)) * 2 ^ 22 + low b * low b ≡ b * b
 square_is b = columns_of-square (2 ^ 22) (high b) (low b) ∙ ap (λ (x : ℕ). x * x) (div-add-mod' b (2 ^ 22))
 
-pub overflow_mul-first : goal.overflow_mul-first
-overflow_mul-first c = omega (arith, high-high c.args.b c.requires)
-
-pub overflow_mul-cross : goal.overflow_mul-cross
-overflow_mul-cross c = omega (arith, high-low _ c.requires)
-
-pub overflow_mul-cross-2 : goal.overflow_mul-cross-2
-overflow_mul-cross-2 c = omega (arith, high-low _ c.requires)
-
-pub overflow_mul-last : goal.overflow_mul-last
-overflow_mul-last c =
-    omega (arith, low-low _ c.requires)
-
 pub returns : goal.returns
-returns c h =
-    omega (arith, square_is c.args.b)
+returns c =
+    let h = square_is c.args.b in
+    let f1 = c.in_ok-first.ensures in
+    grind (arith, common_steps)

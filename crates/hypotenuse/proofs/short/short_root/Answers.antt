@@ -11,12 +11,6 @@ use Rattle.hypotenuse.proofs.NearestRoot.{nearest-made}
 use Rattle.hypotenuse.proofs.Aligned.{squares-are}
 use Rattle.hypotenuse.proofs.short.short_root.Goals as goal
 
-none : {A : Type 0} → 0 < 0 → A
-none h = absurd (no h)
-  where
-    no : 0 < 0 → ⊥
-    no h = omega arith
-
 -- the root that was found, of the patterns b and s
 found : (b s top up m root : ℕ) → 2 ^ 52 ≤ s → s ≤ b → b ≤ 1038 * 2 ^ 52 → b % 2 ^ 36 ≡ 0 → s % 2 ^ 36 ≡ 0 → b / 2 ^ 52 ≤ top → up ≡ top - s / 2 ^ 52 → up ≤ 14
     → m ≡ short_squares b s * 2 ^ (28 - 2 * up) → NearestWhole (m * 2 ^ 44) root
@@ -30,32 +24,8 @@ found b s top up m root normal order most few-b few-s high up_is up_le m-is near
       omega (arith, near.most),
     )
 
-positive : (r : ℕ) → (r ≡ 0 → ⊥) → 0 < r
-positive r n = omega arith
-
-pub returns-then-larger-gt0 : goal.returns-then-larger-gt0
-returns-then-larger-gt0 c h = none h
-
-pub returns-then-smaller-gt0 : goal.returns-then-smaller-gt0
-returns-then-smaller-gt0 c h = none h
-
-pub returns-then-top-larger : goal.returns-then-top-larger
-returns-then-top-larger c h = none h
-
-pub returns-then-up-gt14 : goal.returns-then-up-gt14
-returns-then-up-gt14 c h = none h
-
-pub returns-then-root-eq0 : goal.returns-then-root-eq0
-returns-then-root-eq0 c h = none h
-
-pub overflow_add-result : goal.overflow_add-result
-overflow_add-result c =
-    let checked : NearestWhole (c.squares.result * 2 ^ 44) c.nearest_root-root.result = c.nearest_root-root.ensures (positive _ c.if-root-eq0.false) in
-    omega (arith, checked.most)
-
 pub returns : goal.returns
-returns c h =
-    let checked : NearestWhole (c.squares.result * 2 ^ 44) c.nearest_root-root.result = c.nearest_root-root.ensures (positive _ c.if-root-eq0.false) in
-    found c.args.larger c.args.smaller (c.guess-near.result / 2 ^ 52) _ c.squares.result c.nearest_root-root.result
+returns c =
+    found c.args.larger c.args.smaller (c.in_ok-near.near / 2 ^ 52) _ c.squares.result c.in_ok-root.root
     c.requires.0 c.requires.1 c.requires.2 (omega arith) (omega arith) c.if-top-larger.false refl c.if-up-gt14.false
-    c.squares.ensures checked
+    c.squares.ensures c.in_ok-root.ensures

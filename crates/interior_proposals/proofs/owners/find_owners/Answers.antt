@@ -18,7 +18,7 @@ owner_of-owner-requires c =
 pub loop-i-preserved : goal.loop-i-preserved
 loop-i-preserved c =
     let few : c.loop-i.i < length c.loop-i.owners = omega (arith, c.loop-i-test.true, c.loop-i.invariant.1, c.requires.kept.1.1, c.requires.kept.1.0.given.bounds.few) in
-    (search rules, simp length-set c.loop-i.invariant.1, λ C K e. filled_more (Owned C) c.loop-i.owners (c.loop-i.invariant.2 C K e) few (c.owner_of-owner.ensures C K (omega (arith, e, c.loop-i-test.true))))
+    (search rules, simp length-set c.loop-i.invariant.1, λ C K e. filled_more (Owned C) 0 c.loop-i.owners (c.loop-i.invariant.2 C K e) few (c.owner_of-owner.ensures C K (omega (arith, e, c.loop-i-test.true))))
 
 pub returns : goal.returns
 returns c = λ C K e i l. c.loop-i.invariant.2 C K e i (omega (arith, e, c.loop-i-test.false))

@@ -10,7 +10,7 @@ use Rattle.interior_proposals.proofs.Stored.{Filled}
 use Rattle.interior_proposals.proofs.owners.find_owners.Given as goal
 
 abbrev pub invariant-loop-i : goal.invariant-loop-i
-invariant-loop-i l = (l.i ≤ l.count) × (length l.owners ≡ max_entries) × ((C : Context) → Kept C l.boundaries l.tallies l.pairs l.starts l.names → C.count ≡ l.count → Filled (Owned C) l.owners l.i)
+invariant-loop-i l = (l.i ≤ l.count) × (length l.owners ≡ max_entries) × ((C : Context) → Kept C l.boundaries l.tallies l.pairs l.starts l.names → C.count ≡ l.count → Filled (Owned C) 0 l.owners l.i)
 
 abbrev pub decreases-loop-i : goal.decreases-loop-i
 decreases-loop-i l = l.count - l.i

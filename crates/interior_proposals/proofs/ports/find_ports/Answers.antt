@@ -1,18 +1,19 @@
 -- `ports::find_ports` meets its contract, from the ports that were found one by one. Assumes nothing.
+use Rattle.std.proofs.Common.{◌∙◌}
 use Rattle.interior_proposals.proofs.PortLaws.{ports_none, ports_one, ports_two, ports_more}
 use Rattle.interior_proposals.proofs.ports.find_ports.Goals as goal
 
-pub returns-then-a-count : goal.returns-then-a-count
-returns-then-a-count c = λ C M e O h. ports_none C _ e (c.next_port-a.ensures.next_port C M e O h) c.if-a-count.true
+pub returns-in_err-first : goal.returns-in_err-first
+returns-in_err-first c = λ C M e O h. c.from_residual.ensures ∙ ports_none C _ e (c.in_err-first.ensures.next_port C M e O h)
 
-pub returns-then-b-count : goal.returns-then-b-count
-returns-then-b-count c =
-    λ C M e O h. ports_one C _ e (c.next_port-a.ensures.next_port C M e O h) c.if-a-count.false (c.next_port-b.ensures.next_port C M e O h) c.if-b-count.true
+pub returns-in_err-second : goal.returns-in_err-second
+returns-in_err-second c =
+    λ C M e O h. c.from_residual-in_err-second.ensures ∙ ports_one C _ e (c.in_ok-first.ensures.next_port C M e O h) (c.in_err-second.ensures.next_port C M e O h)
 
-pub returns-then-c-count : goal.returns-then-c-count
-returns-then-c-count c =
-    λ C M e O h. ports_two C _ e (c.next_port-a.ensures.next_port C M e O h) c.if-a-count.false (c.next_port-b.ensures.next_port C M e O h) c.if-b-count.false (c.next_port-c.ensures.next_port C M e O h) c.if-c-count.true
+pub returns-in-None : goal.returns-in-None
+returns-in-None c =
+    λ C M e O h. ports_two C _ e (c.in_ok-first.ensures.next_port C M e O h) (c.in_ok-second.ensures.next_port C M e O h) (c.in-None.ensures.next_port C M e O h)
 
-pub returns-else-c-count : goal.returns-else-c-count
-returns-else-c-count c =
-    λ C M e O h. ports_more C _ e (c.next_port-a.ensures.next_port C M e O h) c.if-a-count.false (c.next_port-b.ensures.next_port C M e O h) c.if-b-count.false (c.next_port-c.ensures.next_port C M e O h) c.if-c-count.false
+pub returns-in-Some : goal.returns-in-Some
+returns-in-Some c =
+    λ C M e O h. ports_more C _ e (c.in_ok-first.ensures.next_port C M e O h) (c.in_ok-second.ensures.next_port C M e O h) (c.in-Some.ensures.next_port C M e O h)

@@ -11,25 +11,18 @@ use Rattle.interior_proposals.proofs.proposals.propose_all.Goals as goal
 
 pub loop-i-init : goal.loop-i-init
 loop-i-init c =
-    (search rules, refl, refl, c.requires.room.0, c.requires.room.1, λ C was wasMarks W P. (P, λ j l. absurd (omega arith)))
+    (search rules, refl, refl, c.requires.room, λ C was wasMarks W P. (P, λ j l. absurd (omega arith)))
 
-pub propose_at-found-requires : goal.propose_at-found-requires
-propose_at-found-requires c =
+pub propose_at-ports-requires : goal.propose_at-ports-requires
+propose_at-ports-requires c =
     let w = c.requires.progress in
     record {
       i_within = c.loop-i-test.true;
-      progress = (w.0, (w.1.0, progress-now (c.loop-i.invariant.5 w.0 _ _ w.1.0 w.1.1).0));
+      progress = (w.0, (w.1.0, progress-now (c.loop-i.invariant.4 w.0 _ _ w.1.0 w.1.1).0));
     }
 
-pub bounds-firsts-i : goal.bounds-firsts-i
-bounds-firsts-i c =
-    let few : c.loop-i.i < max_entries = omega (arith, c.loop-i-test.true, c.requires.progress.1.0.counted, c.requires.progress.1.0.given.bounds.few) in
-    few
-
-pub bounds-seconds-i : goal.bounds-seconds-i
-bounds-seconds-i c =
-    let few : c.loop-i.i < max_entries = omega (arith, c.loop-i-test.true, c.requires.progress.1.0.counted, c.requires.progress.1.0.given.bounds.few) in
-    few
+pub bounds-found-i : goal.bounds-found-i
+bounds-found-i c = omega (arith, c.loop-i-test.true, c.requires.progress.1.0.counted, c.requires.progress.1.0.given.bounds.few)
 
 pub loop-i-preserved : goal.loop-i-preserved
 loop-i-preserved c =
@@ -37,14 +30,13 @@ loop-i-preserved c =
     let inv = c.loop-i.invariant in
     let i = c.loop-i.i in (
       omega (arith, c.loop-i-test.true),
-      c.propose_at-found.ensures.lengths.0 ∙ inv.1,
-      c.propose_at-found.ensures.lengths.1 ∙ inv.2,
+      c.propose_at-ports.ensures.lengths.0 ∙ inv.1,
+      c.propose_at-ports.ensures.lengths.1 ∙ inv.2,
       simp length-set inv.3,
-      simp length-set inv.4,
       λ C was wasMarks W P.
-          let w = inv.5 C was wasMarks W P in
-          let n = c.propose_at-found.ensures.proposed C was wasMarks W w.0 in
-          (n.0, found_more C _ c.loop-i.firsts c.loop-i.seconds i w.1 (omega (arith, few, inv.3)) (omega (arith, few, inv.4)) c.first_of-a.ensures c.second_of-b.ensures n.1),
+          let w = inv.4 C was wasMarks W P in
+          let n = c.propose_at-ports.ensures.proposed C was wasMarks W w.0 in
+          (n.0, found_more C _ c.loop-i.found i w.1 (omega (arith, few, inv.3)) n.1),
     )
 
 pub shape_of-names : goal.shape_of-names
@@ -57,8 +49,8 @@ pub returns : goal.returns
 returns c =
     record {
       proposed = λ C was wasMarks W P.
-          let w = c.loop-i.invariant.5 C was wasMarks W P in
+          let w = c.loop-i.invariant.4 C was wasMarks W P in
           let same : c.loop-i.i ≡ C.count = omega (arith, c.loop-i.invariant.0, c.loop-i-test.false, W.counted) in
-          (subst (λ n. Progress C c.args.owners.now was c.loop-i.names wasMarks c.loop-i.marks n) same w.0, subst (λ n. FoundAll C c.args.owners.now c.loop-i.firsts c.loop-i.seconds n) same w.1);
+          (subst (λ n. Progress C c.args.owners.now was c.loop-i.names wasMarks c.loop-i.marks n) same w.0, subst (λ n. FoundAll C c.args.owners.now c.loop-i.found n) same w.1);
       lengths = (c.loop-i.invariant.1, c.loop-i.invariant.2);
     }

@@ -2,15 +2,11 @@
 use lib.ListN.{get_or}
 use Rattle.junction_proposals.specs.Rows.{rows_of}
 use native.Mathlib.Omega.{arith}
-use Rattle.junction_proposals.proofs.RowLaws.{row-added, row-left}
+use Rattle.junction_proposals.proofs.RowLaws.{rows-put, row-added, row-left}
 use Rattle.junction_proposals.proofs.proposals.add_union.Goals as goal
 
-pub push_proposal-requires : goal.push_proposal-requires
-push_proposal-requires c =
-    record {
-      places = (omega (arith, c.requires.places, c.requires.lent.bounds.few), omega (arith, c.requires.places, c.requires.lent.bounds.few));
-      rows_room = c.requires.rows_room;
-    }
+pub bounds-rows-n : goal.bounds-rows-n
+bounds-rows-n c = omega (arith, c.requires.places, c.requires.lent.bounds.few, c.requires.rows_room)
 
 pub overflow_add-result : goal.overflow_add-result
 overflow_add-result c =
@@ -19,7 +15,7 @@ overflow_add-result c =
 pub returns-then-is_union : goal.returns-then-is_union
 returns-then-is_union c =
     let s = c.args in record {
-      rows = row-added (rows_of s.rows.now s.n) (record { index = s.i; kind = 0; first = get_or s.smaller.now s.i 0; second = get_or s.larger.now s.i 0 }) c.push_proposal.ensures c.is_union.ensures c.if-is_union.true;
+      rows = row-added (rows_of s.rows.now s.n) (record { index = s.i; kind = 0; first = get_or s.smaller.now s.i 0; second = get_or s.larger.now s.i 0 }) (rows-put s.rows.now s.n _ (omega (arith, c.requires.places, c.requires.lent.bounds.few, c.requires.rows_room))) c.is_union.ensures c.if-is_union.true;
       bound = omega arith;
     }
 

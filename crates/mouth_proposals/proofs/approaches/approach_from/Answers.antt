@@ -1,38 +1,29 @@
 -- `approaches::approach_from` meets its contract, by the mouth's shape. Assumes nothing.
 use mathlib.Core.Path.{sym, ap, ◌∙◌}
-use Rattle.mouth_proposals.specs.Rows.{pair_form}
-use Rattle.mouth_proposals.specs.Candidates.{single_at, star_at}
-use Rattle.mouth_proposals.proofs.ApproachLaws.{single-found, star-found, from_none, from_single, from_star}
+use Rattle.std.specs.Prelude.{Some}
+use Rattle.context.specs.Rows.{pair_form}
+use Rattle.mouth_proposals.specs.declared.approaches.Approach.TheVariants as approach
+use Rattle.mouth_proposals.proofs.ApproachLaws.{from_single, from_star}
 use Rattle.mouth_proposals.proofs.approaches.approach_from.Goals as goal
 
-pub returns-in-None : goal.returns-in-None
-returns-in-None c =
+pub returns-in_err-r-in-Single : goal.returns-in_err-r-in-Single
+returns-in_err-r-in-Single c =
     let s = c.args in
-    λ C P l h e. from_none (C.pairs s.m) (pair_form s.q) s.s e c.in-None.is
+    λ C P l h e. c.from_residual.ensures ∙ from_single (C.pairs s.m) (pair_form s.q) s.s e (P.named s.m l) c.in-Single.is (sym c.in_err-r-in-Single.was ∙ c.shared_region.ensures C P l h)
 
-pub returns-then-r-eq0 : goal.returns-then-r-eq0
-returns-then-r-eq0 c =
+pub returns-in_ok-r-in-Single : goal.returns-in_ok-r-in-Single
+returns-in_ok-r-in-Single c =
     let s = c.args in
     λ C P l h e.
-    sym (ap (single_at (pair_form c.in-Single.p)) c.if-r-eq0.true)
-    ∙ from_single (C.pairs s.m) (pair_form s.q) s.s e (P.named s.m l) c.in-Single.is (c.shared_region-r.ensures C P l h)
+    ap (λ x. Some (approach.Single x c.in_ok-r-in-Single.r)) c.other_region.ensures
+    ∙ from_single (C.pairs s.m) (pair_form s.q) s.s e (P.named s.m l) c.in-Single.is (sym c.in_ok-r-in-Single.was ∙ c.shared_region.ensures C P l h)
 
-pub returns-else-r-eq0 : goal.returns-else-r-eq0
-returns-else-r-eq0 c =
+pub returns-in_err-r-in-Star : goal.returns-in_err-r-in-Star
+returns-in_err-r-in-Star c =
     let s = c.args in
-    λ C P l h e.
-    single-found (pair_form c.in-Single.p) c.shared_region-r.result c.if-r-eq0.false c.other_region.ensures
-    ∙ from_single (C.pairs s.m) (pair_form s.q) s.s e (P.named s.m l) c.in-Single.is (c.shared_region-r.ensures C P l h)
+    λ C P l h e. c.from_residual-in_err-r-in-Star.ensures ∙ from_star (C.pairs s.m) (pair_form s.q) s.s e c.in-Star.is (sym c.in_err-r-in-Star.was ∙ c.shared_region-in-Star.ensures C P l h)
 
-pub returns-then-r-eq0-2 : goal.returns-then-r-eq0-2
-returns-then-r-eq0-2 c =
+pub returns-in_ok-r-in-Star : goal.returns-in_ok-r-in-Star
+returns-in_ok-r-in-Star c =
     let s = c.args in
-    λ C P l h e.
-    sym (ap (star_at c.in-Star.outer) c.if-r-eq0-2.true) ∙ from_star (C.pairs s.m) (pair_form s.q) s.s e c.in-Star.is (c.shared_region-r-in-Star.ensures C P l h)
-
-pub returns-else-r-eq0-2 : goal.returns-else-r-eq0-2
-returns-else-r-eq0-2 c =
-    let s = c.args in
-    λ C P l h e.
-    star-found c.in-Star.outer c.shared_region-r-in-Star.result c.if-r-eq0-2.false
-    ∙ from_star (C.pairs s.m) (pair_form s.q) s.s e c.in-Star.is (c.shared_region-r-in-Star.ensures C P l h)
+    λ C P l h e. from_star (C.pairs s.m) (pair_form s.q) s.s e c.in-Star.is (sym c.in_ok-r-in-Star.was ∙ c.shared_region-in-Star.ensures C P l h)

@@ -2,7 +2,7 @@
 use mathlib.Core.Path.{sym, ap, ◌∙◌}
 use mathlib.Core.Bool.{not, ◌&&◌}
 use lib.Dec.{eqb}
-use Rattle.mouth_proposals.specs.Rows.{pair_form}
+use Rattle.context.specs.Rows.{pair_form}
 use Rattle.mouth_proposals.proofs.ApproachLaws.{shared_is}
 use Rattle.mouth_proposals.proofs.approaches.shared_region.Goals as goal
 

@@ -46,7 +46,7 @@ returns-then-is_close c =
       filled = λ C l S T ramp cut E F.
           let lm = below S.counted c.requires.places.1.0 in
           let la = below S.counted c.requires.places.1.1 in
-          let e = sym (ap (candidate_form C c.args.m c.args.a) c.in-Mouth.is) ∙ c.mouth_candidate.ensures C S T ramp cut E in
+          let e = sym (ap (candidate_form C c.args.m c.args.a) c.in-Some.is) ∙ c.mouth_candidate.ensures C S T ramp cut E in
           let d = c.separation_of-separation.ensures C S.bounds lm la in
           filled_more C c.args.m c.args.a F c.requires.roomy c.put_candidate.ensures c.requires.places.0 lm la (outer-inside C c.args.a c.args.m (S.rows.named c.args.m lm) _ _ e)
           (c.bits_of.ensures ∙ ap (to_bits binary64) d) (near-found C c.args.a c.args.m _ _ e (sym (ap (λ x. not (lt max_mouth_distance x)) d) ∙ sym c.is_close.ensures ∙ c.if-is_close.true));
@@ -60,6 +60,6 @@ returns-else-is_close c =
       filled = λ C l S T ramp cut E F.
           let lm = below S.counted c.requires.places.1.0 in
           let la = below S.counted c.requires.places.1.1 in
-          let e = sym (ap (candidate_form C c.args.m c.args.a) c.in-Mouth.is) ∙ c.mouth_candidate.ensures C S T ramp cut E in
+          let e = sym (ap (candidate_form C c.args.m c.args.a) c.in-Some.is) ∙ c.mouth_candidate.ensures C S T ramp cut E in
           filled_none F (far-found C c.args.a c.args.m _ _ e (sym (ap (λ x. not (lt max_mouth_distance x)) (c.separation_of-separation.ensures C S.bounds lm la)) ∙ sym c.is_close.ensures ∙ c.if-is_close.false));
     }

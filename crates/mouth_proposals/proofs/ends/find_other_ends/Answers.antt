@@ -16,9 +16,9 @@ pub returns-in-None : goal.returns-in-None
 returns-in-None c =
     λ C n S T P. none_asked C c.args.a _ (sym (ap full_pair_of c.in-None.is) ∙ c.full_pair.ensures C T P (below n c.requires.sizes.1))
 
-pub returns-in-Pair : goal.returns-in-Pair
-returns-in-Pair c =
+pub returns-in-Some : goal.returns-in-Some
+returns-in-Some c =
     λ C n S T P.
-    both_found C c.args.a _ (sym (ap full_pair_of c.in-Pair.is) ∙ c.full_pair.ensures C T P (below n c.requires.sizes.1))
+    both_found C c.args.a _ (sym (ap full_pair_of c.in-Some.is) ∙ c.full_pair.ensures C T P (below n c.requires.sizes.1))
     (c.other_end_incident-at_lo.ensures C n S P)
     (c.other_end_incident-at_hi.ensures C n S P)

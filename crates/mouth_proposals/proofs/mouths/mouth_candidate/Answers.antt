@@ -1,8 +1,9 @@
 -- `mouths::mouth_candidate` meets its contract: each return by the tests that led there. Assumes nothing.
-use mathlib.Core.Path.{sym, ap, ◌∙◌}
-use mathlib.Core.Bool.{true, not}
+use mathlib.Core.Path.{◌≡◌, refl, sym, ap, ◌∙◌}
+use mathlib.Core.Bool.{true, false, not, false≢true}
 use lib.Dec.{eqb}
 use borrow.Author.Tests.{eq-eqb, ne_eqb, not-true, not-false}
+use Rattle.std.specs.Prelude.{Option, None, Some, is_some}
 use Rattle.definitions.specs.MouthShapes.{mouth_shape}
 use Rattle.definitions.specs.Context.{full_pair}
 use Rattle.laws.specs.ListLaws.Tests.{both}
@@ -11,6 +12,10 @@ use Rattle.mouth_proposals.proofs.SafeLists.{below, placed_at, stretch_at, talli
 use Rattle.mouth_proposals.proofs.KnownEnds.{approach_known}
 use Rattle.context.proofs.FullPairs.{between-length}
 use Rattle.mouth_proposals.proofs.mouths.mouth_candidate.Goals as goal
+
+none_of : {A : Type 0} (o : Option A) → is_some o ≡ false → o ≡ None
+none_of None e = refl
+none_of (Some x) e = absurd (false≢true (sym e))
 
 pub returns-then-kind_at-ne0 : goal.returns-then-kind_at-ne0
 returns-then-kind_at-ne0 c =
@@ -54,7 +59,7 @@ returns-then-triangle-is_none c =
     let la = below S.counted c.requires.places.1 in
     let h = both (not c.triangle_representative-triangle.result) c.is_none.result c.if-triangle-is_none.true in
     no_shape C a m ramp cut (kind-shown S.bounds m lm ∙ ap (λ k. eqb k 0) (sym c.kind_at.ensures) ∙ eq-eqb _ 0 c.if-kind_at-ne0.false) (sym (c.full_cut.ensures C T lm) ∙ not-false _ c.if-not-full_cut.false-raw) (S.rows.named m lm) c.triangle_representative-triangle.result
-    (triangle-shown S.rows m a lm la c.triangle_representative-triangle.result c.triangle_representative-triangle.ensures) c.approach_of-approach.result (c.approach_of-approach.ensures C T S.rows lm la) (not-true _ h.0) (c.is_none.ensures h.1)
+    (triangle-shown S.rows m a lm la c.triangle_representative-triangle.result c.triangle_representative-triangle.ensures) c.approach_of-approach.result (c.approach_of-approach.ensures C T S.rows lm la) (not-true _ h.0) (none_of _ (c.is_none.ensures ∙ ap not h.1))
 
 pub broad_mouth-wide-requires : goal.broad_mouth-wide-requires
 broad_mouth-wide-requires c =

@@ -1,7 +1,7 @@
 -- `shapes::all_named` meets its contract: what holds of each of the four regions holds of those that differ. Assumes nothing.
 use mathlib.Core.Path.{◌∙◌}
 use mathlib.Core.Bool.{◌&&◌, ◌||◌}
-use Rattle.mouth_proposals.specs.Rows.{pair_form}
+use Rattle.context.specs.Rows.{pair_form}
 use Rattle.mouth_proposals.proofs.ShapeTests.{named_in-all}
 use Rattle.mouth_proposals.proofs.shapes.all_named.Goals as goal
 

@@ -2,7 +2,7 @@
 use mathlib.Core.Path.{◌∙◌}
 use mathlib.Core.Bool.{not, ◌&&◌, ◌||◌}
 use lib.Dec.{eqb}
-use Rattle.mouth_proposals.specs.Rows.{pair_form}
+use Rattle.context.specs.Rows.{pair_form}
 use Rattle.mouth_proposals.proofs.ShapeTests.{three_distinct}
 use Rattle.mouth_proposals.proofs.shapes.has_three.Goals as goal
 

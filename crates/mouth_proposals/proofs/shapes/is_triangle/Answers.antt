@@ -1,5 +1,5 @@
 -- `shapes::is_triangle` meets its contract: its three tests are the definition's. Assumes nothing.
-use Rattle.mouth_proposals.specs.Rows.{pair_form}
+use Rattle.context.specs.Rows.{pair_form}
 use Rattle.mouth_proposals.proofs.ShapeTests.{triangle_by}
 use Rattle.mouth_proposals.proofs.shapes.is_triangle.Goals as goal
 

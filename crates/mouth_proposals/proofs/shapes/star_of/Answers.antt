@@ -1,6 +1,6 @@
 -- `shapes::star_of` meets its contract: the shape goes by which regions of the first row stand in all rows. Assumes nothing.
 use Rattle.definitions.specs.MouthShapes.{star_from}
-use Rattle.mouth_proposals.specs.Rows.{pair_form}
+use Rattle.context.specs.Rows.{pair_form}
 use Rattle.mouth_proposals.proofs.ShapeTests.{star-shape}
 use Rattle.mouth_proposals.proofs.shapes.star_of.Goals as goal
 

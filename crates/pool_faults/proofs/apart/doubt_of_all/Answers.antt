@@ -4,7 +4,6 @@ use native.Mathlib.Omega.{arith}
 use Prim.Native.Nat.{ℕ, suc, ◌+◌, ◌*◌, ◌-◌, ◌≤◌, ◌<◌, min}
 use native.Mathlib.Nat.{mul-suc, mul-le-mul_left}
 use mathlib.Core.Path.{◌≡◌, refl}
-use lib.ListN.{length}
 use Rattle.pool_faults.proofs.Taking.{maps-fit, maps-stop, nothing_known, below_more, below_all}
 use borrow.Author.Rules.{rules}
 use Rattle.pool_faults.proofs.apart.doubt_of_all.Goals as goal
@@ -30,15 +29,15 @@ loop-low-init c = (search rules, search rules, search rules, refl, refl, λ e i 
 
 pub returns-then-low-high : goal.returns-then-low-high
 returns-then-low-high c =
-    nothing_known (maps-stop _ _ c.take_maps.ensures c.in-TooMany.is)
+    nothing_known (maps-stop _ _ c.take_maps.ensures c.in-Err.is)
 
-pub loop-low-preserved-in-TooMany : goal.loop-low-preserved-in-TooMany
-loop-low-preserved-in-TooMany c =
+pub loop-low-preserved-in-Err : goal.loop-low-preserved-in-Err
+loop-low-preserved-in-Err c =
     (search rules, search rules, search rules, search rules, search rules, c.loop-low.invariant.5)
 
 pub doubt_between-found-requires : goal.doubt_between-found-requires
 doubt_between-found-requires c =
-    let fits = maps-fit _ _ c.take_maps.ensures c.in-All.is in
+    let fits = maps-fit _ _ c.take_maps.ensures c.in-Ok.is in
     record {
       room = (search rules, still-fits fits (search rules));
       sizes = (search rules, search rules);
@@ -48,8 +47,8 @@ pub returns-then-high : goal.returns-then-high
 returns-then-high c =
     let I = c.loop-low.invariant in
     let D = c.doubt_between-found.ensures in
-    let all = both c.least-doubt.ensures I.2 D.0 in
-    (omega (arith, c.least-doubt.ensures, I.2), λ e. below_all _ _ _ _ (I.5 (all e).0) (D.1 (all e).1) c.if-high.true)
+    let all = both c.min-doubt.ensures I.2 D.0 in
+    (omega (arith, c.min-doubt.ensures, I.2), λ e. below_all _ _ _ _ (I.5 (all e).0) (D.1 (all e).1) c.if-high.true)
 
 pub loop-low-smaller : goal.loop-low-smaller
 loop-low-smaller c =
@@ -59,10 +58,10 @@ pub loop-low-preserved : goal.loop-low-preserved
 loop-low-preserved c =
     let I = c.loop-low.invariant in
     let D = c.doubt_between-found.ensures in
-    let all = both c.least-doubt.ensures I.2 D.0 in (
+    let all = both c.min-doubt.ensures I.2 D.0 in (
       c.part_end-high.ensures.0,
       c.part_end-high.ensures.1,
-      omega (arith, c.least-doubt.ensures, I.2),
+      omega (arith, c.min-doubt.ensures, I.2),
       search rules,
       search rules,
       λ e. below_more _ _ _ _ (I.5 (all e).0) (D.1 (all e).1),

@@ -8,4 +8,4 @@ returns-then-precedes c = (search rules, λ until a b e h. (e, c.precedes.ensure
 
 pub returns : goal.returns
 returns c =
-    (omega (arith, c.least.ensures), λ until a b e h. absurd (omega (arith, c.least.ensures, c.most.ensures)))
+    (omega (arith, c.min.ensures), λ until a b e h. absurd (omega (arith, c.min.ensures, c.max.ensures)))

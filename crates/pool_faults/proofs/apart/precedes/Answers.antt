@@ -3,6 +3,8 @@ use native.Mathlib.Omega.{arith}
 use mathlib.Core.Bool.{false≢true}
 use borrow.Author.Tests.{leb-true}
 use Rattle.catalogue.specs.Terms.{term_at}
+use mathlib.Core.Path.{sym, ap, ◌∙◌}
+use Rattle.pool_terms.specs.Contract.{days_in, first_in, end_in}
 use Rattle.pool_faults.proofs.apart.precedes.Goals as goal
 
 pub returns-then-terms-i : goal.returns-then-terms-i
@@ -12,17 +14,14 @@ returns-then-terms-i c = λ e. record { ordered = omega (arith, c.if-terms-i.tru
 pub returns-then-terms-j : goal.returns-then-terms-j
 returns-then-terms-j c = λ e. absurd (false≢true e)
 
-pub returns-then-end-first_in : goal.returns-then-end-first_in
-returns-then-end-first_in c = λ e. absurd (false≢true e)
-
-pub returns : goal.returns
+pub returns-then-first : goal.returns-then-first
 unfolding term_at
-returns c =
+returns-then-first c =
+    let first = sym c.term_days.ensures ∙ ap days_in c.in-Some-Some.is-0 in
+    let second = sym c.term_days-2.ensures ∙ ap days_in c.in-Some-Some.is-1 in
     λ e.
-    let over = leb-true c.end_in-end.result c.first_in-2.result e in
+    let over = leb-true c.in-Some-Some.first.to c.in-Some-Some.second.from e in
     record {
       ordered = omega (arith, c.if-terms-j.false);
-      over =
-          λ q.
-          (omega (arith, c.if-end-first_in.false, c.end_in-end.ensures, c.first_in.ensures), omega (arith, over, c.end_in-end.ensures, c.first_in-2.ensures));
+      over = λ q. (omega (arith, c.if-first.true, ap first_in first, ap end_in first), omega (arith, over, ap end_in first, ap first_in second));
     }

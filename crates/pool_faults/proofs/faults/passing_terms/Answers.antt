@@ -1,7 +1,7 @@
 -- `faults::passing_terms` meets its contract. The invariant: the terms below i break no rule, and the ends are the latest of theirs. The measure is what is left of the terms.
 -- Assumes nothing.
 use mathlib.Core.Path.{refl}
-use Rattle.laws.specs.ListLaws.FirstBelow.{none_below-zero, none_below_more}
+use Rattle.laws.specs.ListLaws.FirstBelow.{none_below-zero, none_below_more, none_below-end}
 use Rattle.pool_faults.proofs.TermScan.{latest-starts}
 use borrow.Author.Rules.{rules}
 use borrow.Author.Tests.{not-false}
@@ -33,4 +33,5 @@ loop-i-preserved c =
     (search rules, none_below_more _ c.loop-i.i c.loop-i.invariant.1 (c.passes.ensures (not-false _ c.if-not-passes.false-raw)), c.keep_end.ensures)
 
 pub returns : goal.returns
-returns c = (c.loop-i.invariant.0, c.loop-i.invariant.1)
+returns c =
+    (search rules, none_below-end _ _ c.loop-i.i c.loop-i.invariant.0 c.loop-i-test.false c.loop-i.invariant.1)

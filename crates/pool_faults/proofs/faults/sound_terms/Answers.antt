@@ -1,19 +1,14 @@
--- `faults::sound_terms` meets its contract. The invariant: the terms below i are sound. The measure is what is left of the terms. Assumes nothing.
-use native.Mathlib.Omega.{arith}
-use Rattle.pool_faults.proofs.TermScan.{sound_more}
-use borrow.Author.Rules.{rules}
+-- `faults::sound_terms` meets its contract. Assumes nothing.
+use Rattle.std.proofs.Common.{rules, tests, arith, ◌<◌}
+use Rattle.std.specs.Bool.{⊤}
+use Rattle.std.proofs.lemmas.Iterator.{first_from_Range}
+use Rattle.catalogue.specs.Terms.{term_at, days_of}
+use Rattle.pool_terms.specs.Contract.{first_in, end_in}
+use Rattle.pool_faults.proofs.TermScan.{sound_found}
 use Rattle.pool_faults.proofs.faults.sound_terms.Goals as goal
 
-pub loop-i-init : goal.loop-i-init
-loop-i-init c = (search rules, search rules, c.requires.sound)
-
-pub returns-then-end_in-first_in : goal.returns-then-end_in-first_in
-returns-then-end_in-first_in c =
-    c.loop-i.invariant
-
-pub loop-i-preserved : goal.loop-i-preserved
-loop-i-preserved c =
-    (search rules, search rules, sound_more _ _ c.loop-i.invariant.2 (omega (arith, c.if-end_in-first_in.false, c.end_in.ensures, c.first_in.ensures)))
-
 pub returns : goal.returns
-returns c = c.loop-i.invariant
+returns c =
+    let l = c.args.terms.now in
+    sound_found l c.args.known c.args.count c.find.result c.unwrap_or.ensures c.requires.sizes.0 c.requires.sound
+    (first_from_Range _ _ _ c.find.result (λ i. ⊤) (λ i. first_in (days_of (term_at l i)) < end_in (days_of (term_at l i))) c.find.ensures.ran (λ x q k. tt) (λ x q k. (search rules, grind (arith, tests))))

@@ -1,32 +1,25 @@
 -- `faults::terms_fault` meets its contract. The invariant: the terms below i break no rule. The measure is what is left of the terms. Assumes nothing.
-use mathlib.Core.Path.{sym, ap, ◌∙◌}
+use mathlib.Core.Path.{◌≡◌, sym, ap, ◌∙◌}
 use Rattle.laws.specs.ListLaws.FirstBelow.{none_below_more, none_below-end, first_found}
 use Rattle.catalogue.specs.Terms.{terms_refusal}
-use Rattle.pool_terms.specs.Contract.{refusal_in}
+use Rattle.refusals.specs.Refusals.{refusal_in}
 use borrow.Author.Rules.{rules}
 use Rattle.pool_faults.proofs.faults.terms_fault.Goals as goal
 
 pub loop-i-init : goal.loop-i-init
 loop-i-init c = c.faultless_terms-i.ensures
 
-pub returns-in-BadDate : goal.returns-in-BadDate
+pub returns-in_err-term_fault : goal.returns-in_err-term_fault
 unfolding terms_refusal
-returns-in-BadDate c =
+returns-in_err-term_fault c =
     let I = c.loop-i.invariant in
-    let found = ap refusal_in c.in-BadDate.is in
-    found ∙ sym (first_found _ _ c.loop-i.i _ c.loop-i-test.true I.1 (sym c.term_fault-fault.ensures ∙ found))
-
-pub returns-in-EmptyOrOverlapping : goal.returns-in-EmptyOrOverlapping
-unfolding terms_refusal
-returns-in-EmptyOrOverlapping c =
-    let I = c.loop-i.invariant in
-    let found = ap refusal_in c.in-EmptyOrOverlapping.is in
-    found ∙ sym (first_found _ _ c.loop-i.i _ c.loop-i-test.true I.1 (sym c.term_fault-fault.ensures ∙ found))
+    let found = ap refusal_in c.in_err-term_fault.was in
+    let given : refusal_in c.from_residual.result ≡ refusal_in c.term_fault.result = search rules in
+    given ∙ found ∙ sym (first_found _ _ c.loop-i.i _ c.loop-i-test.true I.1 (sym c.term_fault.ensures ∙ found))
 
 pub loop-i-preserved : goal.loop-i-preserved
 loop-i-preserved c =
-    let nothing = ap refusal_in c.in-Nothing.is in
-    (search rules, none_below_more _ c.loop-i.i c.loop-i.invariant.1 (sym c.term_fault-fault.ensures ∙ nothing))
+    (search rules, none_below_more _ c.loop-i.i c.loop-i.invariant.1 (sym c.term_fault.ensures ∙ ap refusal_in c.in_ok-term_fault.was))
 
 pub returns : goal.returns
 unfolding terms_refusal

@@ -1,18 +1,11 @@
 -- `calendar::day_of` meets its contract, by those of `is_day` and `day_number`. Assumes nothing.
-use mathlib.Core.Path.{refl, sym, ap, ◌∙◌}
-use Rattle.std.specs.Prelude.{Some}
-use Rattle.catalogue.specs.Dates.{day_of}
+use Rattle.std.proofs.Common.{rules, ◌∙◌}
+use Rattle.std.proofs.lemmas.Option.{IfSome_then}
+use Rattle.pool_terms.specs.Contract.{date}
+use Rattle.pool_terms.proofs.Days.{day_then}
 use Rattle.pool_terms.proofs.calendar.day_of.Goals as goal
 
-pub day_number-requires : goal.day_number-requires
-day_number-requires c = sym c.is_day.ensures ∙ c.if-is_day.true
-
-pub returns-then-is_day : goal.returns-then-is_day
-unfolding day_of
-returns-then-is_day c =
-    let good = sym c.is_day.ensures ∙ c.if-is_day.true in
-    rw good (ap Some c.day_number.ensures)
-
-pub returns-else-is_day : goal.returns-else-is_day
-unfolding day_of
-returns-else-is_day c = rw (sym c.is_day.ensures ∙ c.if-is_day.false) refl
+pub returns : goal.returns
+returns c =
+    day_then (date c.args.year c.args.month c.args.day) c.then.result (c.then.ensures.variant ∙ c.is_day.ensures)
+    (IfSome_then c.then.result c.then.ensures.some (λ x p. search rules))

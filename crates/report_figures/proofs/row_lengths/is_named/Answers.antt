@@ -1,21 +1,15 @@
--- `row_lengths::is_named` meets its contract. The invariant: it was found if one of the rows before row k has the number. The measure is the number of rows left. Assumes nothing.
-use Rattle.std.proofs.Common.{◌∙◌, ⊎_elim, rules}
-use Rattle.report_figures.proofs.Counting.{none_first, found_here, not_here, all_asked}
+-- `row_lengths::is_named` meets its contract. Assumes nothing.
+use Rattle.std.proofs.Common.{eqb, refl, ◌*◌, ◌∙◌, arith, rules}
+use Rattle.std.proofs.lemmas.Iterator.{YieldsList-from_range}
+use Rattle.std.proofs.lemmas.Iterator.Search.{any_from_yields_List}
+use Rattle.laws.specs.ListLaws.FlatRows.{row_at}
+use Rattle.report_figures.proofs.Counting.{named_range}
 use Rattle.report_figures.proofs.row_lengths.is_named.Goals as goal
-use Rattle.report_figures.proofs.row_lengths.is_named.Goals.{then-has_number, else-has_number}
-
-pub loop-k-init : goal.loop-k-init
-loop-k-init c = (search rules, none_first _ _)
-
-pub loop-k-preserved : goal.loop-k-preserved
-loop-k-preserved c =
-    let I = c.loop-k.invariant in
-    elim c.if-has_number.branch [
-      | then-has_number w ↦ (search rules, w.found-is ∙ found_here _ _ _ c.has_number.ensures w.if-has_number.true)
-      | else-has_number w ↦ (search rules, w.found-is ∙ not_here _ _ _ c.has_number.ensures I.1 w.if-has_number.false)
-    ]
 
 pub returns : goal.returns
 returns c =
-    let I = c.loop-k.invariant in
-    all_asked _ _ _ _ I.0 c.loop-k-test.false I.1
+    let output = c.args.output.now in
+    let kept = c.args.kept in
+    let number = c.args.number in
+    any_from_yields_List (λ k. eqb (row_at output (5 * k)).number number) _ _ c.any.result c.any.ensures.ran (YieldsList-from_range 0 kept kept refl (omega arith)) (λ x b q k. (search rules, search rules))
+    ∙ named_range output number kept

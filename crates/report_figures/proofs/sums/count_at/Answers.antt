@@ -1,11 +1,12 @@
 -- `sums::count_at` meets its contract: a number below 25 has a place. Assumes nothing.
+use mathlib.Core.Path.{refl}
 use Rattle.std.proofs.Common.{set, ap, ◌∙◌, rules}
 use Rattle.report_figures.proofs.Adding.{counted, not-counted}
 use Rattle.report_figures.proofs.sums.count_at.Goals as goal
 
 pub returns-then-number : goal.returns-then-number
 returns-then-number c =
-    ap (λ n. set c.args.counts c.args.number n) c.wrapping_add_u64.ensures.value ∙ counted c.args.counts c.args.number (search rules)
+    ap (λ n. set c.args.counts c.args.number n) refl ∙ counted c.args.counts c.args.number (search rules)
 
 pub returns-else-number : goal.returns-else-number
 returns-else-number c = not-counted c.args.counts c.args.number (search rules)

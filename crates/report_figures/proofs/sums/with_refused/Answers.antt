@@ -1,7 +1,8 @@
 -- `sums::with_refused` meets its contract, from the sums of its parts. Assumes nothing.
+use mathlib.Core.Path.{refl}
 use Rattle.report_figures.proofs.Adding.{refused-added}
 use Rattle.report_figures.proofs.sums.with_refused.Goals as goal
 
 pub returns : goal.returns
 returns c =
-    refused-added c.args.report c.args.number c.wrapping_add_u64.ensures.value c.count_at-refused.ensures
+    refused-added c.args.report c.args.number refl c.count_at-refused.ensures

@@ -1,29 +1,31 @@
 -- The interior that `interior_at` finds at a boundary fits or does not, and `mark_edges` marks the edges of one that fits (`InteriorLoops`).
 use Rattle.std.proofs.Common.{◌≡◌, ℕ, ◌+◌, ◌≤◌, ◌<◌, Bool, false, ◌&&◌, ◌||◌, eqb, List, length, get_or, arith}
+use Rattle.std.specs.Prelude.{Option}
 use Rattle.definitions.specs.Limits.{max_entries}
 use Rattle.definitions.specs.Context.{Context}
 use Rattle.context.specs.declared.Region.{Region}
+use Rattle.interior_proposals.specs.declared.ports.Ports.{Ports}
 use Rattle.interior_regions.specs.declared.Interior.{Interior}
 use Rattle.interior_regions.specs.Places.{interior_fits_lem}
-use Rattle.interior_regions.specs.Marks.{Interiors, SomeInteriors, Stretched}
+use Rattle.interior_regions.specs.Marks.{Interiors, SomeInteriors, accepted, Stretched}
 use Rattle.topology.specs.Interiors.{Asks, Judges, Collapsed}
 use Rattle.topology.specs.Proposals.{Unmarked}
-use Rattle.topology.proofs.InteriorLoops.{judges_asks, Judging, judging_start, judging_more, judging_ends}
+use Rattle.topology.proofs.InteriorLoops.{judges_asks, Judging, judging_start, judging_past, judging_more, judging_ends}
 use Rattle.topology.proofs.interior_pass.judge_interiors.Goals as goal
 
-abbrev Inv : (records : List Region) (boundaries pairs starts names owners firsts seconds : List ℕ) (count : ℕ) (removed : List Bool) (i : ℕ) → Type 0
-Inv records boundaries pairs starts names owners firsts seconds count removed i =
+abbrev Inv : (records : List Region) (boundaries pairs starts names owners : List ℕ) (found : List (Option Ports)) (count : ℕ) (removed : List Bool) (i : ℕ) → Type 0
+Inv records boundaries pairs starts names owners found count removed i =
     (i ≤ count) × (length removed ≡ max_entries)
-    × ((C : Context) → Judges C records boundaries pairs starts names owners firsts seconds count → Judging C owners removed count i)
+    × ((C : Context) → Judges C records boundaries pairs starts names owners found count → Judging C owners removed count i)
 
 -- what is asked, over plain variables
-module _ {records : List Region} {boundaries pairs starts names owners firsts seconds : List ℕ} {count : ℕ} {removed : List Bool} where
-  start : (length removed ≡ max_entries) × Unmarked removed count → Inv records boundaries pairs starts names owners firsts seconds count removed 0
+module _ {records : List Region} {boundaries pairs starts names owners : List ℕ} {found : List (Option Ports)} {count : ℕ} {removed : List Bool} where
+  start : (length removed ≡ max_entries) × Unmarked removed count → Inv records boundaries pairs starts names owners found count removed 0
   start p = (omega arith, p.0, λ C J. judging_start C _ p.1)
 
-  module _ {i : ℕ} (pre : (C : Context) × Judges C records boundaries pairs starts names owners firsts seconds count)
-      (inv : Inv records boundaries pairs starts names owners firsts seconds count removed i) where
-    done : count ≤ i → (C : Context) → Judges C records boundaries pairs starts names owners firsts seconds count → Collapsed C count removed
+  module _ {i : ℕ} (pre : (C : Context) × Judges C records boundaries pairs starts names owners found count)
+      (inv : Inv records boundaries pairs starts names owners found count removed i) where
+    done : count ≤ i → (C : Context) → Judges C records boundaries pairs starts names owners found count → Collapsed C count removed
     done f C J = judging_ends J (omega (arith, f, inv.0)) (inv.2 C J)
 
     few : count ≤ max_entries
@@ -32,48 +34,52 @@ module _ {records : List Region} {boundaries pairs starts names owners firsts se
     mark-asked : (count ≤ max_entries) × (length removed ≡ max_entries)
     mark-asked = (few, inv.1)
 
-    some_interiors : SomeInteriors pairs starts owners firsts seconds count
+    some_interiors : SomeInteriors pairs starts owners found count
     some_interiors = (_, (_, (pre.1.tallies, (_, pre.1.interiors))))
 
     module _ (below : i < count) where
+      past : ((C : Context) (boundaries tallies names : List ℕ) → Interiors C boundaries tallies pairs starts names owners found count → accepted C owners i ≡ false)
+          → Inv records boundaries pairs starts names owners found count removed (i + 1)
+      past none = (omega (arith, below), inv.1, λ C J. judging_past (none C _ _ _ J.interiors) (inv.2 C J))
+
       module _ {x : Interior}
-          (found : (C : Context) (boundaries tallies names : List ℕ) → Interiors C boundaries tallies pairs starts names owners firsts seconds count
+          (stands : (C : Context) (boundaries tallies names : List ℕ) → Interiors C boundaries tallies pairs starts names owners found count
           → Stretched C pairs names owners i x) where
         fits-asked : (C : Context) × Asks C records boundaries pairs names x
-        fits-asked = (_, judges_asks pre.1 (found _ _ _ _ pre.1.interiors))
+        fits-asked = (_, judges_asks pre.1 (stands _ _ _ _ pre.1.interiors))
 
         again : {f : Bool}
             → ((C : Context) → Asks C records boundaries pairs names x → f ≡ interior_fits_lem C pairs names x.name x.begin x.first x.second x.end)
             → (next : List Bool)
             → ((j : ℕ) → j < count → get_or next j false ≡ (get_or removed j false || (f && eqb (get_or owners j 0) x.name))) → length next ≡ max_entries
-            → Inv records boundaries pairs starts names owners firsts seconds count next (i + 1)
+            → Inv records boundaries pairs starts names owners found count next (i + 1)
         again judged next m long = (
           omega (arith, below),
           long,
           λ C J.
-              let T = found C _ _ _ J.interiors in
+              let T = stands C _ _ _ J.interiors in
               judging_more T (judged C (judges_asks J T)) (inv.2 C J) m,
         )
 
 pub loop-i-init : goal.loop-i-init
 loop-i-init c = start c.requires.none_marked
 
-pub interior_at-interior-requires-clause-interiors : goal.interior_at-interior-requires-clause-interiors
-interior_at-interior-requires-clause-interiors c = some_interiors c.requires.interiors_found c.loop-i.invariant
+pub interior_at-requires-clause-interiors : goal.interior_at-requires-clause-interiors
+interior_at-requires-clause-interiors c = some_interiors c.requires.interiors_found c.loop-i.invariant
 
 pub interior_fits-fits-requires : goal.interior_fits-fits-requires
-interior_fits-fits-requires c = fits-asked c.requires.interiors_found c.loop-i.invariant c.loop-i-test.true c.interior_at-interior.ensures
+interior_fits-fits-requires c = fits-asked c.requires.interiors_found c.loop-i.invariant c.loop-i-test.true c.in-Some.ensures
 
 pub mark_edges-requires : goal.mark_edges-requires
 mark_edges-requires c = mark-asked c.requires.interiors_found c.loop-i.invariant
 
-pub overflow_add-i : goal.overflow_add-i
-overflow_add-i c = record { fits = omega (arith, few c.requires.interiors_found c.loop-i.invariant) }
-
-pub loop-i-preserved : goal.loop-i-preserved
-loop-i-preserved c =
+pub loop-i-preserved-in-Some : goal.loop-i-preserved-in-Some
+loop-i-preserved-in-Some c =
     let m = c.mark_edges.ensures in
-    again c.requires.interiors_found c.loop-i.invariant c.loop-i-test.true c.interior_at-interior.ensures c.interior_fits-fits.ensures _ m.removed m.removed_length
+    again c.requires.interiors_found c.loop-i.invariant c.loop-i-test.true c.in-Some.ensures c.interior_fits-fits.ensures _ m.removed m.removed_length
+
+pub loop-i-preserved-in-None : goal.loop-i-preserved-in-None
+loop-i-preserved-in-None c = past c.requires.interiors_found c.loop-i.invariant c.loop-i-test.true c.in-None.ensures
 
 pub returns : goal.returns
 returns c = done c.requires.interiors_found c.loop-i.invariant c.loop-i-test.false

@@ -9,7 +9,7 @@ use Rattle.topology.proofs.interior_pass.judge_interiors.Given as goal
 abbrev pub invariant-loop-i : goal.invariant-loop-i
 invariant-loop-i l =
     (l.i ≤ l.count) × (length l.removed ≡ max_entries)
-    × ((C : Context) → Judges C l.records l.boundaries l.pairs l.starts l.names l.owners l.firsts l.seconds l.count
+    × ((C : Context) → Judges C l.records l.boundaries l.pairs l.starts l.names l.owners l.found l.count
     → Judging C l.owners l.removed l.count l.i)
 
 abbrev pub decreases-loop-i : goal.decreases-loop-i

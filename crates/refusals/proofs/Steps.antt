@@ -1,0 +1,35 @@
+-- Checks one after the other, each with `?` behind it: the first refusal is that of the first check that refuses. Assumes nothing.
+use Prim.Native.Nat.{ℕ, ◌≤◌}
+use Rattle.refusals.specs.declared.Cause.{Cause}
+use Rattle.refusals.specs.Refusals.{number_of}
+use mathlib.Core.Path.{◌≡◌, sym, ap, ◌∙◌}
+use mathlib.Core.Bool.{Bool, true, false}
+use borrow.Author.Rules.{rules}
+use Rattle.std.specs.Prelude.{Option, None, Some}
+use Rattle.definitions.specs.Refusals.{Refusal, or_else, unless}
+use Rattle.definitions.specs.Verdict.{refusal}
+
+-- a check that refuses, with those behind it
+pub here : {a : Option Refusal} (b : Option Refusal) {x : Refusal} → a ≡ Some x → Some x ≡ or_else a b
+here b p = sym (ap (λ o. or_else o b) p)
+
+-- a check that does not, and what those behind it say
+pub next : {a b o : Option Refusal} → a ≡ None → o ≡ b → o ≡ or_else a b
+next {b} p q = q ∙ sym (ap (λ o. or_else o b) p)
+
+-- what `ensure(r, ..)` said, of the test that r answers
+pub ensured : (number : ℕ) {r ok : Bool} {o : Option Refusal} → r ≡ ok → o ≡ refusal number (unless r) → refusal number (unless ok) ≡ o
+ensured number e p = ap (λ b. refusal number (unless b)) (sym e) ∙ sym p
+
+-- what `no_fault(f, ..)` said, of the search that f answers
+pub searched : (number : ℕ) {f place : Option ℕ} {o : Option Refusal} → f ≡ place → o ≡ refusal number f → refusal number place ≡ o
+searched number e p = ap (refusal number) (sym e) ∙ sym p
+
+-- a test that `ensure(..)?` went on behind
+pub holds : (number : ℕ) (r : Bool) → None ≡ refusal number (unless r) → r ≡ true
+holds number true p = search rules
+holds number false p = cc
+
+-- a refusal's number is not 0, which is that of success
+pub positive : (c : Cause) → 1 ≤ number_of c
+positive c = search rules
