@@ -21,7 +21,7 @@ nonzero_rem-c c = omega (arith, c.requires.sized.inside)
 pub verdict_at-v-requires : goal.verdict_at-v-requires
 verdict_at-v-requires c =
     let parts = place-parts _ _ c.loop-c-test.true in
-    record { few = c.requires.sized.few; runner = parts.0; guard = parts.1; turns = omega arith }
+    record { few = c.requires.sized.few; runner = parts.0; guard = parts.1 }
 
 pub overflow_mul-c : goal.overflow_mul-c
 overflow_mul-c c =
