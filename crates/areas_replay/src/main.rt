@@ -31,9 +31,7 @@ fn run<W: Write>(
         width, height, cells, spans, labels, masks, queue, tallies, pairs,
     );
     match answer {
-        Ok(count) => write_partition(
-            out, 0, count, labels, masks, queue, tallies, pairs,
-        )?,
+        Ok(count) => write_partition(out, 0, count, labels, masks, queue, tallies, pairs)?,
         Err(refusal) => write_partition(
             out,
             refusal.cause.number(),

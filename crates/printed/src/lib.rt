@@ -21,6 +21,7 @@ fn digit_count(n: u64) -> usize
 {
     let mut left = n;
     let mut count = 1;
+    // Kept: how many digits there are shows only as the number is divided, so that a `for` would be left early on every path.
     while 10 <= left {
         left /= 10;
         count += 1;
@@ -45,6 +46,7 @@ pub fn put_decimal(out: &mut [u8], at: usize, n: u64) -> usize
     let next = at + digit_count(n);
     let mut left = n;
     let mut place = next - 1;
+    // Kept: the same, and the digits come from the last to the first.
     while 10 <= left {
         out[place] = digit(left % 10);
         left /= 10;

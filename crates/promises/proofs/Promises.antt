@@ -117,7 +117,7 @@ use Rattle.results.specs.Shortest.{shortest}
 use Rattle.results.specs.ShortestReads.{number-shortest}
 use Rattle.results.proofs.Calls.{InMemory}
 use Rattle.results.proofs.Calls as written
-use Rattle.std.specs.Prelude.{Result}
+use Rattle.std.specs.Prelude as prelude
 use Rattle.refusals.specs.declared.Refusal as refusals
 use Rattle.sheet.specs.Contract.{by_number, answer_number}
 use Rattle.sheet.specs.declared.Header.{Header}
@@ -244,8 +244,8 @@ sheets_equal cellLimit a b A B g h =
     (λ e. (ap kind_of e, (sheets.sheets_equal cellLimit a b A B (ap kind_of e) g h).0 e), λ p. (sheets.sheets_equal cellLimit a b A B p.0 g h).1 p.1)
 
 -- the same over two calls of the reader that answered 0, of what their callers then have
-pub sheet_calls_equal : (a : List ℕ) {cells spans boundaries anchors : List ℕ} {answer : Result Header refusals.Refusal} {cells' spans' boundaries' anchors' : List ℕ}
-    (b : List ℕ) {cells₂ spans₂ boundaries₂ anchors₂ : List ℕ} {answer₂ : Result Header refusals.Refusal} {cells₂' spans₂' boundaries₂' anchors₂' : List ℕ}
+pub sheet_calls_equal : (a : List ℕ) {cells spans boundaries anchors : List ℕ} {answer : prelude.Result Header refusals.Refusal} {cells' spans' boundaries' anchors' : List ℕ}
+    (b : List ℕ) {cells₂ spans₂ boundaries₂ anchors₂ : List ℕ} {answer₂ : prelude.Result Header refusals.Refusal} {cells₂' spans₂' boundaries₂' anchors₂' : List ℕ}
     → ReadCall a cells spans boundaries anchors answer cells' spans' boundaries' anchors' → answer_number (by_number answer) ≡ 0
     → ReadCall b cells₂ spans₂ boundaries₂ anchors₂ answer₂ cells₂' spans₂' boundaries₂' anchors₂' → answer_number (by_number answer₂) ≡ 0
     → Bytes a → Bytes b → kind_of a ≡ kind_of b

@@ -1,10 +1,9 @@
--- `sheet_converter::put_bytes` meets its contract. The loop's invariant: storing the bytes from i on makes the list that is wanted. The measure is how many are left.
--- Assumes nothing.
+-- `sheet_converter::put_bytes` meets its contract. The loop's invariant: storing the bytes from i on makes the list that is wanted. Assumes nothing.
 use Prim.Native.Nat.{◌+◌}
 use native.Mathlib.Omega.{arith}
 use native.Mathlib.Nat.{add-zero}
-use mathlib.Core.Path.{refl, ap, ◌∙◌}
-use lib.ListN.{get_or, length-set}
+use mathlib.Core.Path.{◌≡◌, refl, ap, ◌∙◌}
+use lib.ListN.{length, get_or, length-set}
 use lib.Seq.{sets}
 use Rattle.sheet_converter.proofs.Copying.{copied_more, copied_all}
 use Rattle.sheet_converter.proofs.put_bytes.Goals as goal
@@ -28,4 +27,5 @@ shape_of-out c =
 
 pub returns : goal.returns
 returns c =
-    copied_all c.args.bytes.now c.args.out.now c.loop-i.out c.args.at c.loop-i.i c.loop-i.invariant.0 c.loop-i-test.false c.loop-i.invariant.2
+    let all : length c.args.bytes.now ≡ c.loop-i.i = omega arith in
+    rw all (copied_all c.args.bytes.now c.args.out.now c.loop-i.out c.args.at c.loop-i.i c.loop-i.invariant.0 c.loop-i-test.false c.loop-i.invariant.2)
