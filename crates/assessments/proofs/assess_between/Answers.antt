@@ -1,7 +1,6 @@
 -- `assessments::assess_between` meets its contract. The loop's invariant: the cut steps of the columns, or rows, from the first to the one before k are assessed (`Passing`),
 -- and `before` and `here` are the first places past the line in the one before k and in k. Assumes nothing.
 use Prim.Native.Nat.{ℕ, ◌≤◌}
-use native.Mathlib.Omega.{arith}
 use native.Mathlib.Nat.{le_refl}
 use mathlib.Core.Path.{◌≡◌, subst⁻¹}
 use Rattle.span_geometry.specs.declared.SpanGeometry.{SpanGeometry}
