@@ -1,10 +1,11 @@
--- A loop over numbers from one on before another, as `Walking` of Turns is over those up to a last one: one number more (`passing-more`), and the room that the counts have. Assumes nothing.
+-- A loop over numbers from one on before another, as `Walking` of Turns is over those up to a last one: one number more (`passing-more`), several (`passing-further`), and the
+-- room that the counts have. Assumes nothing.
 use Prim.Native.Nat.{ℕ, suc, ◌+◌, ◌-◌, ◌*◌, ◌≤◌, ◌<◌}
 use mathlib.Core.Path.{◌≡◌, sym, ap, ◌∙◌, subst}
 use mathlib.Core.Logic.{⊎_elim}
 use mathlib.Core.List.{List}
 use native.Mathlib.Omega.{arith}
-use native.Mathlib.Nat.{le-add_right, mul-suc}
+use native.Mathlib.Nat.{le-add_right, mul-suc, mul-add}
 use lib.ListN.{length}
 use Rattle.definitions.specs.Limits.{max_side}
 use Rattle.definitions.specs.Scan.{concat_map, run}
@@ -13,6 +14,7 @@ use Rattle.span_geometry.specs.declared.strips.Strip.{Strip}
 use Rattle.laws.specs.NumberLaws.Comparisons.{le_or_lt}
 use Rattle.cut_steps.specs.Prefixes.{up_to, concat_none, concat_more}
 use Rattle.cut_steps.specs.Columns.{column_in}
+use Rattle.cut_steps.proofs.Trimmed.{concat-split}
 use Rattle.cut_steps.proofs.SpanParts.{column-asked}
 use Rattle.cut_steps.specs.Crossed.{ColumnsAsked, Parted}
 use Rattle.assessments.specs.Assess.{max_cell_edges, max_line_edges, max_edges, Counting, Assesses}
@@ -38,7 +40,19 @@ module _ {labels : List ℕ} {span first : ℕ} {f : ℕ → List Pair} {n from 
         let g : n * (k + 1 - from) ≡ n * (k - from) + n = ap (λ m. n * m) e ∙ mul-suc n (k - from) in
         record { from_k = omega (arith, P.from_k); k_to = omega (arith, P.from_k); turns = turns_more n P.turns C l A (sym (concat_more f from k P.from_k)) (omega (arith, g)) }
 
-    -- all numbers passed
+    -- and several numbers at once
+    pub passing-further :
+        {next : ℕ} → k < next → next ≤ to → {c : BoundaryAssessment} {pairs'' : List ℕ} → Counting pairs'' first (b.removed + n * (next - k)) c → length pairs'' ≡ length pairs'
+        → Assesses labels span first (concat_map f (up_to k next)) b pairs' c pairs'' → Passing labels span first f n from to a pairs c pairs'' next
+    passing-further {next} h i C l A =
+        let e : next - from ≡ (k - from) + (next - k) = omega (arith, P.from_k) in
+        let g : n * (next - from) ≡ n * (k - from) + n * (next - k) = ap (λ m. n * m) e ∙ mul-add n (k - from) (next - k) in
+        record {
+          from_k = omega (arith, P.from_k);
+          k_to = omega (arith, P.from_k);
+          turns = turns_more (n * (next - k)) P.turns C l A (concat-split f from k next P.from_k (omega arith)) (omega (arith, g));
+        }
+
     pub passing-done : to ≤ k → Turns labels span first (concat_map f (up_to from to)) a pairs (a.removed + n * (to - from)) b pairs'
     passing-done h =
         let e : k - from ≡ to - from = omega (arith, P.from_k, P.k_to) in
@@ -68,33 +82,13 @@ pub parts-few : {t : Strip} {limit first from to end : ℕ} → Parted t limit f
 parts-few {limit = limit} {first} {end = end} P l = ⊎_elim (λ h. omega arith) (λ h. let b = P.below (end - 1) (omega arith) (omega arith) in omega (arith, b)) (le_or_lt end first)
 
 -- up to number k of at most so many there is room for those before `next`
-pub part_room : {first k next end removed : ℕ} → first ≤ k → k ≤ next → next ≤ end → end - first ≤ max_side → removed ≤ 0 + max_line_edges * (k - first) → removed ≤ max_edges - max_line_edges * (next - k)
+pub part_room : {first k next end removed : ℕ} → first ≤ k → k < next → next ≤ end → end - first ≤ max_side → removed ≤ 0 + max_line_edges * (k - first) → removed ≤ max_edges - max_line_edges * (next - k)
 part_room {first} {k} {next} {end} {removed} a b c d e =
     let n : (k - first) + (next - k) ≤ 1024 = omega arith in
     go (k - first) (next - k) n e
   where
     go : (i n : ℕ) → i + n ≤ 1024 → removed ≤ 0 + max_line_edges * i → removed ≤ max_edges - max_line_edges * n
     go i n a b = omega arith
-
--- at number k there is room for one more
-pub column_room : {first k end removed : ℕ} → first ≤ k → k < end → end - first ≤ max_side → removed ≤ 0 + max_line_edges * (k - first) → removed ≤ max_edges - max_line_edges
-column_room {first} {k} {end} {removed} a b c e =
-    let n : (k - first) + 1 ≤ 1024 = omega arith in
-    go (k - first) n e
-  where
-    go : (i : ℕ) → i + 1 ≤ 1024 → removed ≤ 0 + max_line_edges * i → removed ≤ max_edges - max_line_edges
-    go i a b = omega arith
-
--- what is counted in three parts, one behind another
-pub three_parts :
-    {first from to k : ℕ} (x y z : ℕ) → first ≤ from → from ≤ to → to ≤ k → x ≤ 0 + max_line_edges * (from - first) → y ≤ x + max_line_edges * (to - from) → z ≤ y + max_line_edges * (k - to)
-    → z ≤ 0 + max_line_edges * (k - first)
-three_parts {first} {from} {to} {k} x y z a b c d e f =
-    let n : (from - first) + (to - from) + (k - to) ≡ k - first = omega arith in
-    go (from - first) (to - from) (k - to) (k - first) n d e f
-  where
-    go : (i j l n : ℕ) → i + j + l ≡ n → x ≤ 0 + max_line_edges * i → y ≤ x + max_line_edges * j → z ≤ y + max_line_edges * l → z ≤ 0 + max_line_edges * n
-    go i j l n h d e f = omega arith
 
 -- and all of them are counted
 pub all_room : (n : ℕ) {removed : ℕ} → n ≤ max_side → removed ≤ 0 + max_line_edges * n → removed ≤ max_edges

@@ -15,14 +15,14 @@ ghost use Rattle.cut_steps.specs.CutSteps.{cut_from, cut_span};
 ghost use Rattle.cut_steps.specs.Cell.{CutDirections};
 ghost use Rattle.cut_steps.specs.Columns.{ColumnAsked, cut_column};
 ghost use Rattle.cut_steps.specs.Marking.{Shown};
-ghost use Rattle.cut_steps.specs.Crossed.{CrossedAt, cut_two_back, FollowsIn, ColumnsAsked, BetweenAsked, cut_columns};
+ghost use Rattle.cut_steps.specs.Crossed.{CrossedAt, cut_two_back, FollowsIn, ColumnsAsked, BetweenAsked, cut_columns, PartAsked};
 ghost use Rattle.assessments.specs.Held.{pair_of, room_of};
 ghost use Rattle.assessments.specs.Assess.{nothing, max_cell_edges, max_line_edges, max_edges, Counting, Assesses, step_in_lem, Leads, Lent};
 ghost use Rattle.assessments.specs.Contract.{AssessAsked, SpansAssessed};
 
 use cut_steps::cell::{cut_directions, is_near, is_set, side_changes};
 use cut_steps::extents::near_range;
-use cut_steps::{NUMBERS_PER_SPAN, is_placed, parts_of, pick, span_at};
+use cut_steps::{NUMBERS_PER_SPAN, is_placed, part_end, parts_of, pick, span_at};
 use line_crossings::{first_place, next_place, tie_of};
 use region_pairs::{NUMBERS_PER_PAIR, put_pair};
 use span_geometry::SpanGeometry;
@@ -320,8 +320,7 @@ fn assess_crossing(
     a
 }
 
-// The steps that the span cuts from the candidates in the columns, or rows, from `from` on before `to`, which are between the span's ends, if there
-// are any.
+// The steps that the span cuts from the candidates in the columns, or rows, from `from` on before `to`, which are between the span's ends.
 fn assess_between(
     width: usize,
     height: usize,
@@ -339,16 +338,13 @@ fn assess_between(
 ) -> BoundaryAssessment
     requires lent { Lent width height cells.now labels.now × Sound g × ColumnsAsked width height strip from to
         × Shown (grid_of width height cells.now) masks.now (cut_columns (grid_of width height cells.now) (segment_of g) strip from to) }
-    requires between { BetweenAsked (segment_of g) strip from to }
+    requires between { BetweenAsked (segment_of g) strip from to × (from < to) }
     requires counting { Counting pairs.old first (max_edges - max_line_edges * (to - from)) start }
     ensures still_counting { Counting pairs.new first (start.removed + max_line_edges * (to - from)) result }
     ensures assessed { Assesses labels.now span first
         (cut_columns (grid_of width height cells.now) (segment_of g) strip from to)
         start pairs.old result pairs.new }
 {
-    if to <= from {
-        return start;
-    }
     let tie = tie_of(g, strip);
     let mut a = start;
     let mut before = first_place(strip, tie, from as u64 - 1);
@@ -378,6 +374,41 @@ fn assess_between(
     a
 }
 
+// The steps that the span cuts from a part: by the line between the span's ends, and of a single column, or row, those of every candidate.
+fn assess_part(
+    width: usize,
+    height: usize,
+    cells: &[u8],
+    masks: &[u16],
+    labels: &[u32],
+    pairs: &mut [u32],
+    g: SpanGeometry,
+    strip: Strip,
+    span: u32,
+    first: usize,
+    start: BoundaryAssessment,
+    from: usize,
+    to: usize,
+) -> BoundaryAssessment
+    requires lent { Lent width height cells.now labels.now × Sound g × ColumnsAsked width height strip from to
+        × Shown (grid_of width height cells.now) masks.now (cut_columns (grid_of width height cells.now) (segment_of g) strip from to) }
+    requires part { PartAsked (segment_of g) strip from to }
+    requires counting { Counting pairs.old first (max_edges - max_line_edges * (to - from)) start }
+    ensures still_counting { Counting pairs.new first (start.removed + max_line_edges * (to - from)) result }
+    ensures assessed { Assesses labels.now span first
+        (cut_columns (grid_of width height cells.now) (segment_of g) strip from to)
+        start pairs.old result pairs.new }
+{
+    if to <= from + 1 {
+        return assess_column(
+            width, height, cells, labels, pairs, g, strip, span, first, start, from,
+        );
+    }
+    assess_between(
+        width, height, cells, masks, labels, pairs, g, strip, span, first, start, from, to,
+    )
+}
+
 // The steps that the span cuts: near its ends from every candidate, and between them by the line. Its rows begin at `first`.
 fn assess_span(
     width: usize,
@@ -405,18 +436,14 @@ fn assess_span(
         end: first,
         row: first,
     };
-    for k in parts.first..parts.from {
-        a = assess_column(
-            width, height, cells, labels, pairs, g, strip, span, first, a, k,
+    let mut k = parts.first;
+    // Kept: as in `mark_span`, for speed.
+    while k < parts.end {
+        let next = part_end(parts, k);
+        a = assess_part(
+            width, height, cells, masks, labels, pairs, g, strip, span, first, a, k, next,
         );
-    }
-    a = assess_between(
-        width, height, cells, masks, labels, pairs, g, strip, span, first, a, parts.from, parts.to,
-    );
-    for k in parts.to..parts.end {
-        a = assess_column(
-            width, height, cells, labels, pairs, g, strip, span, first, a, k,
-        );
+        k = next;
     }
     a
 }

@@ -2,7 +2,8 @@
 -- (`between_of`, `follows-in`), and parts joined (`parts_more`). Assumes nothing.
 use Prim.Native.Nat.{ℕ, suc, ◌+◌, ◌-◌, ◌*◌, ◌/◌, ◌≤◌, ◌<◌, min, max}
 use native.Mathlib.Omega.{arith}
-use mathlib.Core.Path.{◌≡◌, ap, ◌∙◌, subst, subst⁻¹}
+use mathlib.Core.Path.{◌≡◌, sym, ap, ◌∙◌, subst, subst⁻¹}
+use mathlib.Core.Logic.{inl, inr}
 use mathlib.Core.Bool.{Bool, true, false, cond}
 use mathlib.Core.List.{◌++◌}
 use Rattle.definitions.specs.Limits.{max_side}
@@ -10,18 +11,16 @@ use Rattle.definitions.specs.Scan.{run, concat_map}
 use Rattle.definitions.specs.Grid.{Map, Segment}
 use Rattle.definitions.specs.Spans.{range_inclusive}
 use Rattle.span_geometry.specs.declared.strips.RangeInclusive.{RangeInclusive}
-use Rattle.span_geometry.specs.declared.SpanGeometry.{SpanGeometry}
 use Rattle.span_geometry.specs.declared.strips.Strip.{Strip}
-use Rattle.span_geometry.specs.Shapes.{Sound, segment_of}
 use Rattle.span_geometry.specs.Strips.{Usable, strip_of}
 use Rattle.span_geometry.specs.Candidates.{major_side}
 use Rattle.line_crossings.specs.Crossings.{Between, tie_of, Crossing, Gentle, Close}
 use Rattle.line_crossings.proofs.NearLine.{strip_gentle}
 use Rattle.cut_steps.specs.Columns.{ColumnAsked, cut_column}
+use Rattle.cut_steps.specs.Prefixes.{concat_none, concat_more}
 use Rattle.cut_steps.specs.Extents.{NearAxis}
-use Rattle.cut_steps.proofs.Across.{tie-few}
 use Rattle.cut_steps.proofs.Trimmed.{concat-split}
-use Rattle.cut_steps.specs.Crossed.{Follows, FollowsIn, Inside, BetweenAsked, ColumnsAsked, cut_columns, Parted}
+use Rattle.cut_steps.specs.Crossed.{Follows, FollowsIn, Inside, BetweenAsked, ColumnsAsked, cut_columns, Parted, EndsPart, PartAsked}
 
 -- ---- the parts
 
@@ -89,9 +88,6 @@ limit-small t a b e = subst⁻¹ (λ n. n ≤ max_side) e (side-small t.columns 
 pub columns-asked : {w h : ℕ} {t : Strip} {limit first end from to : ℕ} → Usable t → limit ≡ major_side t w h → 0 < cond t.columns h w → ((k : ℕ) → first ≤ k → k < end → k < limit) → first ≤ from → to ≤ end → ColumnsAsked w h t from to
 columns-asked {w} {h} {t} U e s below a b = record { usable = U; columns = λ k i j. subst (λ n. k < n) e (below k (omega arith) (omega arith)); some = s }
 
-pub column-near : {w h : ℕ} {t : Strip} {limit first from to end : ℕ} → Usable t → limit ≡ major_side t w h → 0 < cond t.columns h w → Parted t limit first from to end → {k : ℕ} → first ≤ k → k < end → ColumnAsked w h t k
-column-near U e s P {k} a b = record { usable = U; column = subst (λ n. k < n) e (P.below k a b); some = s }
-
 pub column-asked : {w h : ℕ} {t : Strip} {from to : ℕ} → ColumnsAsked w h t from to → {k : ℕ} → from ≤ k → k < to → ColumnAsked w h t k
 column-asked C a b = record { usable = C.usable; column = C.columns _ a b; some = C.some }
 
@@ -133,10 +129,6 @@ one_before h = omega arith
 pub gentle_of : (g : Segment) {t : Strip} → t ≡ strip_of g → g.a.x ≤ g.b.x → Gentle t
 gentle_of g e o = subst⁻¹ Gentle e (strip_gentle g o)
 
--- what is asked of the line
-pub line_asked : {t : Strip} {g : SpanGeometry} {tie : ℕ} → Usable t → t ≡ strip_of (segment_of g) → Sound g → tie ≡ tie_of (segment_of g) → Usable t × Gentle t × (tie ≤ 1)
-line_asked {g = g} usable strip sound tie = (usable, gentle_of (segment_of g) strip sound.ordered, subst⁻¹ (λ n. n ≤ 1) tie (tie-few (segment_of g)))
-
 pub next_from : {t : Strip} {tie from m r : ℕ} → 1 ≤ from → Crossing t tie (from - 1 + 1) m r → Crossing t tie from m r
 next_from {t} {tie} {from} {m} {r} h c =
     let e : from - 1 + 1 ≡ from = omega arith in
@@ -173,5 +165,21 @@ follows-in {g} {t} {from} {to} B U {tie} {k} {b} {x} {h} {y} {a} {z} e l m P Q R
 -- ---- joined
 
 -- a part behind what was before it
-pub parts_more : (M : Map) (g : Segment) (t : Strip) (first : ℕ) {k next : ℕ} → first ≤ k → k ≤ next → cut_columns M g t first k ++ cut_columns M g t k next ≡ cut_columns M g t first next
-parts_more M g t first {k} {next} a b = concat-split (cut_column M g t) first k next a b
+pub parts_more : (M : Map) (g : Segment) (t : Strip) (first : ℕ) {k next : ℕ} → first ≤ k → k < next → cut_columns M g t first k ++ cut_columns M g t k next ≡ cut_columns M g t first next
+parts_more M g t first {k} {next} a b = concat-split (cut_column M g t) first k next a (omega arith)
+
+-- a part of one column, or row
+pub part-single : (M : Map) (g : Segment) (t : Strip) {k next : ℕ} → k < next → next ≤ k + 1 → cut_column M g t k ≡ cut_columns M g t k next
+part-single M g t {k} {next} a b =
+    let e : k + 1 ≡ next = omega arith in
+    ap (λ l. l ++ cut_column M g t k) (sym (concat_none (cut_column M g t) k)) ∙ sym (concat_more (cut_column M g t) k k (omega arith)) ∙ ap (cut_columns M g t k) e
+
+-- a part is not empty, and ends where the parts end or before
+pub part-within : {t : Strip} {limit first from to end : ℕ} → Parted t limit first from to end → {k next : ℕ} → k < end → EndsPart from to k next → (k < next) × (next ≤ end)
+part-within P h (inl e) = (omega arith, omega arith)
+part-within P h (inr e) = (omega arith, omega (arith, P.to_end))
+
+pub part-asked : {g : Segment} {t : Strip} {limit first from to end : ℕ} → t ≡ strip_of g → Parted t limit first from to end → {k next : ℕ} → EndsPart from to k next → k < next → PartAsked g t k next
+part-asked {g} {t} s P {k} {next} (inl e) h = record { some = h; between = λ m. absurd (omega arith) }
+part-asked {g} {t} {from = from} {to} s P {k} {next} (inr e) h =
+    record { some = h; between = λ m. record { strip = s; inside = λ j a b. P.inside j (omega arith) (omega arith) } }

@@ -41,11 +41,6 @@ module _ (M : Map) (g : Segment) (t : Strip) (from : ℕ) where
   pub columns-start : {was : List ℕ} → Marked M was was (cut_columns M g t from from)
   columns-start = marked_as (sym (concat_none (cut_column M g t) from)) marked_none
 
-  pub columns_none : {was : List ℕ} {to : ℕ} → to ≤ from → Marked M was was (cut_columns M g t from to)
-  columns_none {to = to} h =
-      let e : from - from ≡ to - from = omega arith in
-      marked_as (ap (λ n. concat_map (cut_column M g t) (run from n)) e) columns-start
-
   pub columns_more : {was now next : List ℕ} {k : ℕ} → from ≤ k → Marked M was now (cut_columns M g t from k) → Marked M now next (cut_column M g t k) → Marked M was next (cut_columns M g t from (k + 1))
   columns_more {k = k} h m a = marked_as (sym (concat_more (cut_column M g t) from k h)) (marked-then m a)
 

@@ -1,6 +1,6 @@
 -- The words of the walk between a span's ends: which steps of a cell change sides, and so are cut where they are there, by the first places past the span's line in the
 -- cell's column, or row, and in the two beside it. Definitions only; assumes nothing.
-use Rattle.std.specs.Prelude.{ℕ, ◌+◌, ◌-◌, ◌*◌, ◌/◌, ◌%◌, ◌^◌, ◌≤◌, ◌<◌, ◌≡◌, Bool, not, ◌&&◌, cond, List, [], length, leb, ltb}
+use Rattle.std.specs.Prelude.{ℕ, ◌+◌, ◌-◌, ◌*◌, ◌/◌, ◌%◌, ◌^◌, ◌≤◌, ◌<◌, ◌≡◌, ◌⊎◌, Bool, not, ◌&&◌, cond, List, [], length, leb, ltb}
 use Rattle.std.specs.Bool.{beq}
 use Rattle.definitions.specs.Limits.{max_side}
 use Rattle.definitions.specs.Grid.{Map, Position, at, Pair, Segment, toward, is_step}
@@ -107,3 +107,12 @@ pub record Parted (t : Strip) (limit first from to end : ℕ) : Type 0 where
   pub numbers : Covers t.major0 (last_reached t) (up_to first end) (candidate_axis_range t.major0 t.major1 limit)
   pub below : (k : ℕ) → first ≤ k → k < end → k < limit
   pub inside : Inside t from to
+
+-- the end of the part that begins at k: that of the columns, or rows, between the ends, or the next one
+abbrev pub EndsPart : (from to k end : ℕ) → Type 0
+EndsPart from to k end = (end ≡ k + 1) ⊎ ((k ≡ from) × (end ≡ to) × (from < to))
+
+-- a part: one column, or row, or some that are between the ends of g
+pub record PartAsked (g : Segment) (t : Strip) (from to : ℕ) : Type 0 where
+  pub some : from < to
+  pub between : from + 1 < to → BetweenAsked g t from to

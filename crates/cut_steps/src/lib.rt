@@ -15,7 +15,7 @@ ghost use Rattle.cut_steps.specs.CutSteps.{cut_from, cut_span};
 ghost use Rattle.cut_steps.specs.Contract.{Checked};
 ghost use Rattle.cut_steps.specs.Columns.{ColumnAsked, cut_column};
 ghost use Rattle.cut_steps.specs.Cell.{CutDirections};
-ghost use Rattle.cut_steps.specs.Crossed.{CrossedAt, cut_two_back, FollowsIn, ColumnsAsked, BetweenAsked, cut_columns, Parted};
+ghost use Rattle.cut_steps.specs.Crossed.{CrossedAt, cut_two_back, FollowsIn, ColumnsAsked, BetweenAsked, cut_columns, Parted, EndsPart, PartAsked};
 ghost use Rattle.cut_steps.specs.Marking.{MarkAsked, SpanAsked, SpanAtAsked, Marked, SpansMarked};
 
 use cell::{crossed_directions, cut_directions, is_near, side_changes};
@@ -185,8 +185,7 @@ fn mark_crossing(
     }
 }
 
-// The cut steps of the candidates in the columns, or rows, from `from` on before `to`, which are between the span's ends, if there are
-// any.
+// The cut steps of the candidates in the columns, or rows, from `from` on before `to`, which are between the span's ends.
 fn mark_between(
     width: usize,
     height: usize,
@@ -198,13 +197,10 @@ fn mark_between(
     to: usize,
 )
     requires lent { MarkAsked width height cells.now masks.old g × ColumnsAsked width height strip from to }
-    requires between { BetweenAsked (segment_of g) strip from to }
+    requires between { BetweenAsked (segment_of g) strip from to × (from < to) }
     ensures { Marked (grid_of width height cells.now) masks.old
         masks.new (cut_columns (grid_of width height cells.now) (segment_of g) strip from to) }
 {
-    if to <= from {
-        return;
-    }
     let tie = tie_of(g, strip);
     let mut before = first_place(strip, tie, from as u64 - 1);
     let mut here = next_place(strip, tie, from as u64 - 1, before);
@@ -256,7 +252,43 @@ pub fn parts_of(strip: Strip, limit: usize) -> Parts
     }
 }
 
-// The cut steps of one span: near its ends those of every candidate, and between them by the line.
+// The end of the part that begins at k: that of the columns, or rows, between the ends, and elsewhere the next one.
+pub fn part_end(parts: Parts, k: usize) -> usize
+    requires { k < max_side }
+    ensures { EndsPart parts.from parts.to k result }
+{
+    if k == parts.from {
+        if k < parts.to {
+            return parts.to;
+        }
+    }
+    k + 1
+}
+
+// The cut steps of a part: by the line between the span's ends, and of a single column, or row, those of every candidate.
+fn mark_part(
+    width: usize,
+    height: usize,
+    cells: &[u8],
+    g: SpanGeometry,
+    masks: &mut [u16],
+    strip: Strip,
+    from: usize,
+    to: usize,
+)
+    requires lent { MarkAsked width height cells.now masks.old g × ColumnsAsked width height strip from to }
+    requires part { PartAsked (segment_of g) strip from to }
+    ensures { Marked (grid_of width height cells.now) masks.old
+        masks.new (cut_columns (grid_of width height cells.now) (segment_of g) strip from to) }
+{
+    if to <= from + 1 {
+        mark_column(width, height, cells, g, masks, strip, from);
+        return;
+    }
+    mark_between(width, height, cells, g, masks, strip, from, to);
+}
+
+// The cut steps of one span. One without a column, or row, between its ends has single ones only.
 fn mark_span(width: usize, height: usize, cells: &[u8], g: SpanGeometry, masks: &mut [u16])
     requires { MarkAsked width height cells.now masks.old g × SpanAsked width height g }
     ensures { Marked (grid_of width height cells.now) masks.old
@@ -264,12 +296,13 @@ fn mark_span(width: usize, height: usize, cells: &[u8], g: SpanGeometry, masks: 
 {
     let strip = Strip::new(g);
     let parts = parts_of(strip, pick(strip.columns, width, height));
-    for k in parts.first..parts.from {
-        mark_column(width, height, cells, g, masks, strip, k);
-    }
-    mark_between(width, height, cells, g, masks, strip, parts.from, parts.to);
-    for k in parts.to..parts.end {
-        mark_column(width, height, cells, g, masks, strip, k);
+    let mut k = parts.first;
+    // Kept: with a loop before, a call between and a loop behind, maps of short spans took a quarter longer (docs/DECISIONS.md), since the walk of a column is then
+    // called at two places.
+    while k < parts.end {
+        let next = part_end(parts, k);
+        mark_part(width, height, cells, g, masks, strip, k, next);
+        k = next;
     }
 }
 

@@ -1,8 +1,8 @@
 -- When each answer is given: by the four checks in their order, and the verdicts at exit by the answer's number. Assumes nothing.
-use Prim.Native.Nat.{ℕ, ◌*◌, ◌%◌, ◌≤◌, ◌<◌}
+use Prim.Native.Nat.{ℕ, ◌%◌, ◌≤◌, ◌<◌}
 use native.Mathlib.Omega.{arith}
-use mathlib.Core.Path.{◌≡◌, refl, sym, ap, ap₂, ◌∙◌}
-use mathlib.Core.Bool.{Bool, true, false, ◌&&◌, cond}
+use mathlib.Core.Path.{◌≡◌, refl, sym, ap, ◌∙◌}
+use mathlib.Core.Bool.{Bool, true, false, cond}
 use mathlib.Core.List.{List, [], ◌∷◌}
 use lib.ListN.{length}
 use lib.Dec.{eqb, leb}
@@ -11,13 +11,13 @@ use Rattle.definitions.specs.Lists.{overwrite}
 use Rattle.definitions.specs.Refusals.{unless}
 use Rattle.definitions.specs.Verdict.{Answer, refusal, first_refusal}
 use Rattle.game.specs.Game.{Game, is_region}
-use Rattle.game.specs.Graph.{graph_of, place_count, solve_answer, verdict_numbers, verdicts_at_exit}
+use Rattle.game.specs.Graph.{place_count, solve_answer, verdict_numbers, verdicts_at_exit}
 
 -- by its four checks
 abbrev by : Bool → Bool → Bool → Bool → ℕ → Answer
 by a b c d n = first_refusal (refusal 3 (unless a) ∷ refusal 10 (unless b) ∷ refusal 23 (unless c) ∷ refusal 24 (unless d) ∷ []) n
 
-abbrev answer : ℕ → ℕ → Answer
+abbrev pub answer : ℕ → ℕ → Answer
 answer number value = record { number = number; value = value }
 
 module _ (regions : ℕ) (list : List ℕ) (goal room : ℕ) {pairs : ℕ} (l : length list ≡ pairs) where
@@ -28,25 +28,21 @@ module _ (regions : ℕ) (list : List ℕ) (goal room : ℕ) {pairs : ℕ} (l : 
   told : (a b c d : Bool) → eqb (length list % 2) 0 ≡ a → leb 6144 room ≡ b → leb regions 32 ≡ c → is_region regions goal ≡ d → by a b c d (place_count regions) ≡ solve_answer regions list goal room
   told a b c d p q r s = sym (λ i. by (p i) (q i) (r i) (s i) (place_count regions)) ∙ is_by
 
-  -- with a number and a value that are these
-  given : {number value n v : ℕ} → number ≡ n → value ≡ v → answer n v ≡ solve_answer regions list goal room → answer number value ≡ solve_answer regions list goal room
-  given e f h = (λ i. answer (e i) (f i)) ∙ h
-
   whole : pairs % 2 ≡ 0 → eqb (length list % 2) 0 ≡ true
   whole h = eq-eqb (length list % 2) 0 (ap (λ n. n % 2) l ∙ h)
 
-  pub pairs-refused : (pairs % 2 ≡ 0 → ⊥) → {number value : ℕ} → number ≡ 3 → value ≡ 0 → answer number value ≡ solve_answer regions list goal room
-  pairs-refused h e f = given e f (told false _ _ _ (ne_eqb (length list % 2) 0 (λ z. h (sym (ap (λ n. n % 2) l) ∙ z))) refl refl refl)
+  pub pairs-refused : (pairs % 2 ≡ 0 → ⊥) → answer 3 0 ≡ solve_answer regions list goal room
+  pairs-refused h = told false _ _ _ (ne_eqb (length list % 2) 0 (λ z. h (sym (ap (λ n. n % 2) l) ∙ z))) refl refl refl
 
-  pub room-refused : pairs % 2 ≡ 0 → room < 6144 → {number value : ℕ} → number ≡ 10 → value ≡ 0 → answer number value ≡ solve_answer regions list goal room
-  room-refused h k e f = given e f (told true false _ _ (whole h) (lt-leb 6144 room k) refl refl)
+  pub room-refused : pairs % 2 ≡ 0 → room < 6144 → answer 10 0 ≡ solve_answer regions list goal room
+  room-refused h k = told true false _ _ (whole h) (lt-leb 6144 room k) refl refl
 
   module _ (h : pairs % 2 ≡ 0) (k : 6144 ≤ room) where
-    pub regions-refused : 32 < regions → {number value : ℕ} → number ≡ 23 → value ≡ 0 → answer number value ≡ solve_answer regions list goal room
-    regions-refused m e f = given e f (told true true false _ (whole h) (le-leb 6144 room k) (lt-leb regions 32 m) refl)
+    pub regions-refused : 32 < regions → answer 23 0 ≡ solve_answer regions list goal room
+    regions-refused m = told true true false _ (whole h) (le-leb 6144 room k) (lt-leb regions 32 m) refl
 
-    pub goal-refused : regions ≤ 32 → is_region regions goal ≡ false → {number value : ℕ} → number ≡ 24 → value ≡ 0 → answer number value ≡ solve_answer regions list goal room
-    goal-refused m g e f = given e f (told true true true false (whole h) (le-leb 6144 room k) (le-leb regions 32 m) g)
+    pub goal-refused : regions ≤ 32 → is_region regions goal ≡ false → answer 24 0 ≡ solve_answer regions list goal room
+    goal-refused m g = told true true true false (whole h) (le-leb 6144 room k) (le-leb regions 32 m) g
 
     pub accepted : regions ≤ 32 → is_region regions goal ≡ true → answer 0 (place_count regions) ≡ solve_answer regions list goal room
     accepted m g = told true true true true (whole h) (le-leb 6144 room k) (le-leb regions 32 m) g

@@ -7,11 +7,12 @@ ghost use Rattle.definitions.specs.Limits.{numbers_per_pair};
 ghost use Rattle.definitions.specs.Lists.{overwrite};
 ghost use Rattle.game.specs.Graph.{graph_of, edges_in, max_game_regions, verdicts_room, place_count, solve_answer, verdict_numbers, Solves};
 ghost use Rattle.game_sets.specs.Words.{Near};
-ghost use Rattle.game_solver.specs.Forms.{answer_in};
+ghost use Rattle.game_solver.specs.Forms.{answer_in, answer_of};
 
 use game_search::neighbours::{find_neighbours, find_row_neighbours};
 use game_search::search;
 use game_verdicts::put_verdicts;
+use refusals::Cause;
 
 const MAX_REGIONS: u64 = 32;
 
@@ -27,32 +28,23 @@ pub struct Answer {
     pub value: u64,
 }
 
-fn refused(number: u64) -> Answer
-    ensures { (result.number ≡ number) × (result.value ≡ 0) }
-{
-    Answer { number, value: 0 }
-}
-
-// What the operation answers.
-fn verdict(regions: u64, pairs: usize, goal: u64, room: usize) -> Answer
-    ensures { (list : List ℕ) → length list ≡ pairs → answer_in result ≡ solve_answer regions list goal room }
+// How many verdicts there are, or why the operation refuses.
+fn verdict(regions: u64, pairs: usize, goal: u64, room: usize) -> Result<u64, Cause>
+    ensures { (list : List ℕ) → length list ≡ pairs → answer_of result ≡ solve_answer regions list goal room }
 {
     if pairs % NUMBERS_PER_EDGE != 0 {
-        return refused(3);
+        return Err(Cause::Entries);
     }
     if room < VERDICTS_ROOM {
-        return refused(10);
+        return Err(Cause::Room);
     }
     if MAX_REGIONS < regions {
-        return refused(23);
+        return Err(Cause::Graph);
     }
     if !((1 <= goal) & (goal <= regions)) {
-        return refused(24);
+        return Err(Cause::Goal);
     }
-    Answer {
-        number: 0,
-        value: 2 * (regions * regions),
-    }
+    Ok(2 * (regions * regions))
 }
 
 // The verdicts of a graph of up to 32 regions, whose goal is one of them, by the steps from each region.
@@ -98,10 +90,14 @@ pub fn game_solver_solve_game(
 ) -> Answer
     ensures { Solves regions pairs.now goal verdicts.old (answer_in result) verdicts.new }
 {
-    let answer = verdict(regions, pairs.len(), goal, verdicts.len());
-    if answer.number != 0 {
-        return answer;
+    match verdict(regions, pairs.len(), goal, verdicts.len()) {
+        Ok(value) => {
+            solve(regions as usize, pairs, goal as usize, verdicts);
+            Answer { number: 0, value }
+        }
+        Err(cause) => Answer {
+            number: cause.number(),
+            value: 0,
+        },
     }
-    solve(regions as usize, pairs, goal as usize, verdicts);
-    answer
 }

@@ -1,5 +1,5 @@
--- `mark_span` meets its contract. The loops' invariant: the cut steps of the columns, or rows, before k are marked. Assumes nothing.
-use Prim.Native.Nat.{◌≤◌}
+-- `mark_span` meets its contract. The loop's invariant: the cut steps of the parts before k are marked. Assumes nothing.
+use Prim.Native.Nat.{◌-◌, ◌≤◌}
 use Rattle.span_geometry.specs.Shapes.{segment_of}
 use Rattle.grid_steps.specs.Walk.{grid_of}
 use Rattle.cut_steps.specs.Marking.{Marked}
@@ -7,7 +7,7 @@ use Rattle.cut_steps.specs.Crossed.{cut_columns}
 use Rattle.cut_steps.proofs.mark_span.Given as goal
 
 abbrev pub invariant-loop-k : goal.invariant-loop-k
-invariant-loop-k l = (l.parts.first ≤ l.k) × Marked (grid_of l.width l.height l.cells) l.initial.masks l.masks (cut_columns (grid_of l.width l.height l.cells) (segment_of l.g) l.strip l.parts.first l.k)
+invariant-loop-k l = let parts = l.parts in let k = l.k in (parts.first ≤ k) × (k ≤ parts.end) × Marked (grid_of l.width l.height l.cells) l.initial.masks l.masks (cut_columns (grid_of l.width l.height l.cells) (segment_of l.g) l.strip parts.first k)
 
-abbrev pub invariant-loop-k-2 : goal.invariant-loop-k-2
-invariant-loop-k-2 l = (l.initial.k ≤ l.k) × Marked (grid_of l.width l.height l.cells) l.initial.masks l.masks (cut_columns (grid_of l.width l.height l.cells) (segment_of l.g) l.strip l.initial.k l.k)
+abbrev pub decreases-loop-k : goal.decreases-loop-k
+decreases-loop-k l = l.parts.end - l.k

@@ -8,25 +8,24 @@ use Rattle.game_solver.proofs.verdict.Goals as goal
 pub returns-then-pairs-ne0 : goal.returns-then-pairs-ne0
 returns-then-pairs-ne0 c =
     let a = c.args in
-    λ list l. pairs-refused a.regions list a.goal a.room l c.if-pairs-ne0.true c.refused.ensures.0 c.refused.ensures.1
+    λ list l. pairs-refused a.regions list a.goal a.room l c.if-pairs-ne0.true
 
 pub returns-then-room-lt-VERDICTS_ROOM : goal.returns-then-room-lt-VERDICTS_ROOM
 returns-then-room-lt-VERDICTS_ROOM c =
     let a = c.args in
-    λ list l. room-refused a.regions list a.goal a.room l c.if-pairs-ne0.false c.if-room-lt-VERDICTS_ROOM.true c.refused-then-room-lt-VERDICTS_ROOM.ensures.0 c.refused-then-room-lt-VERDICTS_ROOM.ensures.1
+    λ list l. room-refused a.regions list a.goal a.room l c.if-pairs-ne0.false c.if-room-lt-VERDICTS_ROOM.true
 
 pub returns-then-regions-gt-MAX_REGIONS : goal.returns-then-regions-gt-MAX_REGIONS
 returns-then-regions-gt-MAX_REGIONS c =
     let a = c.args in
     λ list l.
-    regions-refused a.regions list a.goal a.room l c.if-pairs-ne0.false c.if-room-lt-VERDICTS_ROOM.false c.if-regions-gt-MAX_REGIONS.true c.refused-then-regions-gt-MAX_REGIONS.ensures.0 c.refused-then-regions-gt-MAX_REGIONS.ensures.1
+    regions-refused a.regions list a.goal a.room l c.if-pairs-ne0.false c.if-room-lt-VERDICTS_ROOM.false c.if-regions-gt-MAX_REGIONS.true
 
 pub returns-then-not-goal-regions : goal.returns-then-not-goal-regions
 returns-then-not-goal-regions c =
     let a = c.args in
     λ list l.
-    goal-refused a.regions list a.goal a.room l c.if-pairs-ne0.false c.if-room-lt-VERDICTS_ROOM.false c.if-regions-gt-MAX_REGIONS.false (not-true _ c.if-not-goal-regions.true-raw) c.refused-then-not-goal-regions.ensures.0
-    c.refused-then-not-goal-regions.ensures.1
+    goal-refused a.regions list a.goal a.room l c.if-pairs-ne0.false c.if-room-lt-VERDICTS_ROOM.false c.if-regions-gt-MAX_REGIONS.false (not-true _ c.if-not-goal-regions.true-raw)
 
 pub overflow_mul-result : goal.overflow_mul-result
 overflow_mul-result c =
