@@ -5,12 +5,12 @@
 
 ghost use Rattle.std.specs.Prelude.{◌≤◌, length};
 
-use areas::{Partitioned, partition};
+use areas::partition;
 use replay_lists::{
     CASES, CELLS, HEIGHT, LABELS, MASKS, OPENING, PAIRS, QUEUE, SPANS, TALLIES, WIDTH,
     masks_before, number, number_within, numbers_before, read_bytes, read_opening, write_partition,
 };
-use sheet::{Answer, read_sheet};
+use sheet::read_sheet;
 use std::io;
 use std::io::{Read, Write};
 use streams::write_bytes;
@@ -31,11 +31,18 @@ fn run<W: Write>(
         width, height, cells, spans, labels, masks, queue, tallies, pairs,
     );
     match answer {
-        Partitioned::Regions(count) => write_partition(
+        Ok(count) => write_partition(
             out, 0, count, labels, masks, queue, tallies, pairs,
         )?,
-        Partitioned::Refused(number, place) => write_partition(
-            out, number, place, labels, masks, queue, tallies, pairs,
+        Err(refusal) => write_partition(
+            out,
+            refusal.cause.number(),
+            refusal.place,
+            labels,
+            masks,
+            queue,
+            tallies,
+            pairs,
         )?,
     };
     Ok(())
@@ -75,8 +82,8 @@ fn replay<W: Write>(out: &mut W, opening: &[u8; 30], bytes: &[u8]) -> io::Result
     let mut anchors = [0u64; 512];
     let answer = read_sheet(bytes, &mut cells, &mut spans, &mut boundaries, &mut anchors);
     match answer {
-        Answer::Read(_) => lend(out, opening, &cells, &spans),
-        Answer::Refused(_, _) => write_bytes(out, b"no sheet\n"),
+        Ok(_) => lend(out, opening, &cells, &spans),
+        Err(_) => write_bytes(out, b"no sheet\n"),
     }
 }
 

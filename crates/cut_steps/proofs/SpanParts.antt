@@ -10,13 +10,16 @@ use Rattle.definitions.specs.Scan.{run, concat_map}
 use Rattle.definitions.specs.Grid.{Map, Segment}
 use Rattle.definitions.specs.Spans.{range_inclusive}
 use Rattle.span_geometry.specs.declared.strips.RangeInclusive.{RangeInclusive}
+use Rattle.span_geometry.specs.declared.SpanGeometry.{SpanGeometry}
 use Rattle.span_geometry.specs.declared.strips.Strip.{Strip}
+use Rattle.span_geometry.specs.Shapes.{Sound, segment_of}
 use Rattle.span_geometry.specs.Strips.{Usable, strip_of}
 use Rattle.span_geometry.specs.Candidates.{major_side}
 use Rattle.line_crossings.specs.Crossings.{Between, tie_of, Crossing, Gentle, Close}
 use Rattle.line_crossings.proofs.NearLine.{strip_gentle}
 use Rattle.cut_steps.specs.Columns.{ColumnAsked, cut_column}
 use Rattle.cut_steps.specs.Extents.{NearAxis}
+use Rattle.cut_steps.proofs.Across.{tie-few}
 use Rattle.cut_steps.proofs.Trimmed.{concat-split}
 use Rattle.cut_steps.specs.Crossed.{Follows, FollowsIn, Inside, BetweenAsked, ColumnsAsked, cut_columns, Parted}
 
@@ -129,6 +132,10 @@ one_before h = omega arith
 
 pub gentle_of : (g : Segment) {t : Strip} → t ≡ strip_of g → g.a.x ≤ g.b.x → Gentle t
 gentle_of g e o = subst⁻¹ Gentle e (strip_gentle g o)
+
+-- what is asked of the line
+pub line_asked : {t : Strip} {g : SpanGeometry} {tie : ℕ} → Usable t → t ≡ strip_of (segment_of g) → Sound g → tie ≡ tie_of (segment_of g) → Usable t × Gentle t × (tie ≤ 1)
+line_asked {g = g} usable strip sound tie = (usable, gentle_of (segment_of g) strip sound.ordered, subst⁻¹ (λ n. n ≤ 1) tie (tie-few (segment_of g)))
 
 pub next_from : {t : Strip} {tie from m r : ℕ} → 1 ≤ from → Crossing t tie (from - 1 + 1) m r → Crossing t tie from m r
 next_from {t} {tie} {from} {m} {r} h c =

@@ -1,15 +1,21 @@
 -- When 23, 24 and success are answered, behind the second partition; and what success says of the graph. Assumes nothing.
-use Prim.Native.Nat.{ℕ, ◌≤◌, ◌<◌}
+use Prim.Native.Nat.{ℕ, ◌≤◌}
 use native.Mathlib.Omega.{arith}
-use mathlib.Core.Path.{◌≡◌, refl, sym, ap, ap₂}
-use mathlib.Core.Bool.{Bool, true, false}
+use mathlib.Core.Path.{◌≡◌, refl, sym, ap, ◌∙◌}
+use mathlib.Core.Bool.{Bool, true, false, cond}
 use mathlib.Core.List.{[], ◌∷◌}
 use lib.Dec.{leb}
-use borrow.Author.Tests.{leb-true, le-leb, lt-leb}
-use Rattle.definitions.specs.Refusals.{unless}
+use borrow.Author.Tests.{leb-true, ne_eqb}
+use Rattle.std.specs.Prelude.{Option, None, Some}
+use Rattle.definitions.specs.Refusals.{Refusal, or_else, unless}
 use Rattle.definitions.specs.Verdict.{refusal, first_refusal}
 use Rattle.laws.specs.ListLaws.Tests.{both}
+use Rattle.refusals.specs.declared.Refusal as code
+use Rattle.refusals.specs.Refusals.{number_of, refusal_of}
+use Rattle.refusals.proofs.Steps.{positive}
+use Rattle.areas.proofs.FirstRefusal.{first_joined}
 use Rattle.game.specs.Game.{is_region}
+use Rattle.game.specs.Graph.{graph_fault, goal_fault}
 use Rattle.game_calls.specs.GameVerdict.{GameAnswer, with_regions}
 use Rattle.game_lists.specs.Forms.{late_answer}
 
@@ -18,15 +24,21 @@ abbrev by : Bool → Bool → ℕ → ℕ → GameAnswer
 by few inside kept regions = with_regions (first_refusal (refusal 23 (unless few) ∷ refusal 24 (unless inside) ∷ []) kept) regions
 
 module _ (kept regions goal : ℕ) where
-  pub too_many : 32 < regions → record { number = 23; value = 0; regions = 0 } ≡ late_answer kept regions goal
-  too_many h = ap (λ b. by b (is_region regions goal) kept regions) (sym (lt-leb regions 32 h))
+  abbrev checked : Option Refusal
+  checked = or_else (refusal 23 (graph_fault regions)) (refusal 24 (goal_fault regions goal))
 
-  module _ (few : regions ≤ 32) where
-    pub outside : is_region regions goal ≡ false → record { number = 24; value = 0; regions = 0 } ≡ late_answer kept regions goal
-    outside e = ap₂ (λ a b. by a b kept regions) (sym (le-leb regions 32 few)) (sym e)
+  joined : {x : Option Refusal} → x ≡ checked → with_regions (first_refusal (x ∷ []) kept) regions ≡ late_answer kept regions goal
+  joined e =
+      ap (λ o. with_regions (first_refusal (o ∷ []) kept) regions) e
+      ∙ ap (λ a. with_regions a regions) (sym (first_joined (refusal 23 (graph_fault regions) ∷ []) (refusal 24 (goal_fault regions goal)) [] kept))
 
-    pub accepted : is_region regions goal ≡ true → record { number = 0; value = kept; regions = regions } ≡ late_answer kept regions goal
-    accepted e = ap₂ (λ a b. by a b kept regions) (sym (le-leb regions 32 few)) (sym e)
+  pub late-refused : (r : code.Refusal) → Some (refusal_of r) ≡ checked → record { number = number_of r.cause; value = r.place; regions = 0 } ≡ late_answer kept regions goal
+  late-refused r e =
+      ap (λ b. record { number = number_of r.cause; value = r.place; regions = cond b regions 0 }) (sym (ne_eqb (number_of r.cause) 0 (λ z. omega (arith, z, positive r.cause))))
+      ∙ joined e
+
+  pub late-kept : None ≡ checked → record { number = 0; value = kept; regions = regions } ≡ late_answer kept regions goal
+  late-kept e = joined e
 
   -- a graph that is played on
   pub record Playable : Type 0 where

@@ -23,17 +23,18 @@ use Rattle.laws.specs.ListLaws.Tests.{both}
 use Rattle.laws.specs.ListLaws.NoFault.{no_fault_lem}
 use Rattle.row_runs.specs.Contract.{Chain}
 use Rattle.areas.specs.Fit.{Fit}
-use Rattle.call_partition.specs.declared.Prepared.{Prepared}
-use Rattle.call_partition.specs.declared.Prepared.TheVariants.{Refused, Ready}
+use Rattle.std.specs.Prelude.{Result, Ok, Err, IsOk}
+use Rattle.refusals.specs.declared.Refusal as code
+use Rattle.refusals.proofs.Steps.{positive, is-ok}
+use Rattle.call_partition.specs.declared.Ready.{Ready}
 use Rattle.call_partition.specs.Early.{early_refusal}
-use Rattle.call_partition.specs.Prepared.{PreparedAs, DividedAs, RefusedLate}
+use Rattle.call_partition.specs.Prepared.{PreparedAs, DividedAs}
 use Rattle.call_partition.proofs.EarlyFits.{early-fits}
 use Rattle.call_partition.proofs.Exits.{verdict-kept}
 use Rattle.rest.specs.FlatLists.{flat_spans, flat_boundaries}
 use Rattle.boundary_blocks.specs.Blocks.{left_blocks}
 use Rattle.game_calls.specs.KeptGraph.{graph_map}
 use Rattle.game_calls.specs.SecondPartition.{second-records, second-pairs}
-use Rattle.game_lists.specs.declared.kept.Graph.{Graph}
 use Rattle.game_lists.specs.Kept.{Divides, DividedKept}
 use Rattle.game_lists.proofs.KeptSpans.{left-spans, spans-few, spans-long, second-map, second-early}
 
@@ -97,7 +98,7 @@ module _ (L : Lent) {removed : List Bool} {rows room : ℕ} {l m q t p : List �
         let few = leb-true (length (pair_rows_of (context_of K))) lent (no_fault_lem (leb (length (pair_rows_of (context_of K))) lent) 0 (second-pairs L D.accepted D.lists)) in
         omega (arith, few, ap (λ N. length (pair_rows_of (context_of N))) same_map, ap (λ n. n / 3 * 3) (longP ∙ D.pairs_long))
 
-    module _ (r : Prepared) (l' m' q' t' p' : List ℕ) (divided : DividedAs L.width L.height L.cells kept room l m q t₁ p₁ r l' m' q' t' p') where
+    module _ (r : Result Ready code.Refusal) (l' m' q' t' p' : List ℕ) (divided : DividedAs L.width L.height L.cells kept room l m q t₁ p₁ r l' m' q' t' p') where
       prepared : PreparedAs 1 L.width L.height L.cells kept bs L.anchors room 1280 l m q t₁ p₁ r l' m' q' t' p'
       prepared = divided 1 bs L.anchors 1280 early
 
@@ -107,26 +108,29 @@ module _ (L : Lent) {removed : List Bool} {rows room : ℕ} {l m q t p : List �
       abbrev output : List ℕ
       output = replicate 1280 0
 
-      pub not-refused : {number place : ℕ} → RefusedLate r → r ≡ Refused number place → ⊥
-      not-refused {number} {place} late e =
+      not-refused : (x : code.Refusal) → r ≡ Err x → ⊥
+      not-refused x e =
           let ran = subst (λ a. PreparedAs 1 L.width L.height L.cells kept bs L.anchors room 1280 l m q t₁ p₁ a l' m' q' t' p') e prepared records output
           (length-replicate room empty_region) (length-replicate {A = ℕ} 1280 0) in
           let kept-0 = verdict-kept 1 L.width L.height L.cells kept bs L.anchors l m q t₁ p₁ records output
           (early ∙ ap (early_refusal 1 L.width L.height L.cells kept bs L.anchors (length l) (length m) (length q) (length t₁)) (sym (length-replicate {A = ℕ} 1280 0)))
           (omega (arith, regions-few, length-replicate room empty_region)) pairs-few in
-          omega (arith, subst RefusedLate e late, ap (λ (a : Answer). a.number) (ran.answer ∙ kept-0))
+          omega (arith, positive x.cause, ap (λ (a : Answer). a.number) (ran.answer ∙ kept-0))
+
+      pub is-ready : IsOk r
+      is-ready = is-ok r not-refused
 
       spans-lent : span_count M ≡ spans
       unfolding span_count map_in map_of
       spans-lent = length-map (run 0 spans) (λ i. segment_at L.spans (4 * i)) ∙ length_run 0 spans
 
-      pub kept-ready : {regions rows' : ℕ} → r ≡ Ready regions rows' → t₁ ≡ zeroed (2 * spans) t → p₁ ≡ zeroed (3 * rows) p
-          → {g : Graph} → g.regions ≡ regions → g.rows ≡ rows' → DividedKept L l m q t p g l' m' q' t' p'
-      kept-ready e clearedT clearedP same_regions same_rows =
+      pub kept-ready : {g : Ready} → r ≡ Ok g → t₁ ≡ zeroed (2 * spans) t → p₁ ≡ zeroed (3 * rows) p
+          → DividedKept L l m q t p g l' m' q' t' p'
+      kept-ready e clearedT clearedP =
           let R = subst (λ a. PreparedAs 1 L.width L.height L.cells kept bs L.anchors room 1280 l m q t₁ p₁ a l' m' q' t' p') e prepared in
           record {
-            count = same_regions ∙ R.count ∙ ap region_count same_map;
-            row_count_lem = ap (λ n. 3 * n) same_rows ∙ R.row_count_lem ∙ ap (λ N. length (pair_rows_of (context_of N))) same_map;
+            count = R.count ∙ ap region_count same_map;
+            row_count_lem = R.row_count_lem ∙ ap (λ N. length (pair_rows_of (context_of N))) same_map;
             filled = R.filled ∙ ap (λ N. overwrite (labels N) l) same_map;
             masks = R.masks;
             chain = subst (λ N. Chain N q' 0) same_map R.chain;

@@ -1,13 +1,15 @@
 -- The contract of the first part of the call (`GamePreparedAs`), from what its checks and its partition answer. Assumes nothing.
 use Prim.Native.Nat.{ℕ}
 use mathlib.Core.Path.{◌≡◌, sym, ap₂, ◌∙◌}
-use Rattle.std.specs.Prelude.{None, Some}
+use Rattle.std.specs.Prelude.{None, Some, Result, Ok, Err}
 use mathlib.Core.List.{List}
 use lib.ListN.{length}
 use Rattle.areas.specs.Fit.{Fit}
-use Rattle.call_partition.specs.declared.Prepared.{Prepared}
-use Rattle.call_partition.specs.declared.Prepared.TheVariants.{Refused, Ready}
-use Rattle.call_partition.specs.Prepared.{DividedAs, RefusedLate}
+use Rattle.refusals.specs.declared.Refusal.{Refusal}
+use Rattle.refusals.specs.Refusals.{number_of, refusal_of}
+use Rattle.refusals.proofs.Steps.{positive}
+use Rattle.call_partition.specs.declared.Ready.{Ready}
+use Rattle.call_partition.specs.Prepared.{DividedAs}
 use Rattle.call_partition.proofs.EarlyFits.{early-fits}
 use Rattle.game_lists.specs.Early.{game_early}
 use Rattle.game_lists.specs.Prepared.{GamePreparedAs}
@@ -20,22 +22,22 @@ lists-fit pass w h cells spans boundaries anchors l m q t output verdicts e =
 
 module _ (pass w h : ℕ) (cells spans boundaries anchors : List ℕ) (room output verdicts : ℕ) (l m q t p : List ℕ) where
   -- a check refuses
-  pub refused-early : (number place : ℕ)
-      → Some (record { number = number; place = place }) ≡ game_early pass w h cells spans boundaries anchors (length l) (length m) (length q) (length t) output verdicts
-      → GamePreparedAs pass w h cells spans boundaries anchors room output verdicts l m q t p (Refused number place) l m q t p
-  refused-early number place e goal s o v long wide table =
-      played-refused pass w h cells spans boundaries anchors l m q t p s o goal v number place
+  pub refused-early : (r : Refusal)
+      → Some (refusal_of r) ≡ game_early pass w h cells spans boundaries anchors (length l) (length m) (length q) (length t) output verdicts
+      → GamePreparedAs pass w h cells spans boundaries anchors room output verdicts l m q t p (Err r) l m q t p
+  refused-early r e goal s o v long wide table =
+      played-refused pass w h cells spans boundaries anchors l m q t p s o goal v (number_of r.cause) r.place
       (e ∙ ap₂ (game_early pass w h cells spans boundaries anchors (length l) (length m) (length q) (length t)) (sym wide) (sym table))
 
   -- none does
   module _ (e : None ≡ game_early pass w h cells spans boundaries anchors (length l) (length m) (length q) (length t) output verdicts) where
-    pub prepared_game : (r : Prepared) (l' m' q' t' p' : List ℕ) → DividedAs w h cells spans room l m q t p r l' m' q' t' p' → RefusedLate r
+    pub prepared_game : (r : Result Ready Refusal) (l' m' q' t' p' : List ℕ) → DividedAs w h cells spans room l m q t p r l' m' q' t' p'
         → GamePreparedAs pass w h cells spans boundaries anchors room output verdicts l m q t p r l' m' q' t' p'
-    prepared_game (Refused number place) l' m' q' t' p' D late =
+    prepared_game (Err r) l' m' q' t' p' D =
         λ goal s o v long wide table.
         played-late pass w h cells spans boundaries anchors l m q t p s o goal v
-        (e ∙ ap₂ (game_early pass w h cells spans boundaries anchors (length l) (length m) (length q) (length t)) (sym wide) (sym table)) late
+        (e ∙ ap₂ (game_early pass w h cells spans boundaries anchors (length l) (length m) (length q) (length t)) (sym wide) (sym table)) (positive r.cause)
         (D pass boundaries anchors output (all_past pass w h cells spans boundaries anchors (length l) (length m) (length q) (length t) output verdicts e).early s o long wide)
-    prepared_game (Ready regions rows) l' m' q' t' p' D late =
+    prepared_game (Ok ready) l' m' q' t' p' D =
         let past = all_past pass w h cells spans boundaries anchors (length l) (length m) (length q) (length t) output verdicts e in
         record { ready = D pass boundaries anchors output past.early; lists = past.lists; enough = past.enough }

@@ -16,7 +16,7 @@ use Rattle.row_runs.specs.Contract.{Chain}
 use Rattle.call_partition.specs.Contract.{given}
 use Rattle.rest_definitions.specs.RestVerdict.{lists_fault}
 use Rattle.game_calls.specs.KeptGraph.{graph_map}
-use Rattle.game_lists.specs.declared.kept.Graph.{Graph}
+use Rattle.call_partition.specs.declared.Ready.{Ready}
 
 -- what is lent to a call of a pass beside the sides, the cells and the spans
 pub record Source : Type 0 where
@@ -51,7 +51,7 @@ pub record Divides (L : Lent) (removed : List Bool) (rows room : ℕ) (l m q t p
 
 -- Labels, tallies and pairs are those of the kept graph; beyond them, as far as the first partition filled, zero. The queue has the stretches, from the first cell on;
 -- masks and queue are written over the needed length alone.
-pub record DividedKept (L : Lent) (l m q t p : List ℕ) (r : Graph) (l' m' q' t' p' : List ℕ) : Type 0 where
+pub record DividedKept (L : Lent) (l m q t p : List ℕ) (r : Ready) (l' m' q' t' p' : List ℕ) : Type 0 where
   pub count : r.regions ≡ region_count (graph_map L.pass (map_in L))
   pub row_count_lem : numbers_per_pair * r.rows ≡ length (pair_rows_of (context_of (graph_map L.pass (map_in L))))
   pub filled : l' ≡ overwrite (labels (graph_map L.pass (map_in L))) l

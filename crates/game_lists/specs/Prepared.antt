@@ -1,10 +1,11 @@
 -- What the first part of the call leaves, before its records are filled: the whole contract where it refuses, and otherwise what the rest goes on from. Definitions
 -- only; assumes nothing.
 use Rattle.std.specs.Prelude.{ℕ, ◌≤◌, ◌≡◌, List, length}
-use Rattle.std.specs.Prelude.{None}
+use Rattle.std.specs.Prelude.{None, Result, Ok, Err}
 use Rattle.definitions.specs.RegionRecord.{Region}
-use Rattle.call_partition.specs.declared.Prepared.{Prepared}
-use Rattle.call_partition.specs.declared.Prepared.TheVariants.{Refused, Ready}
+use Rattle.refusals.specs.declared.Refusal.{Refusal}
+use Rattle.refusals.specs.Refusals.{number_of}
+use Rattle.call_partition.specs.declared.Ready.{Ready}
 use Rattle.call_partition.specs.Contract.{given}
 use Rattle.call_partition.specs.Prepared.{ReadyAs}
 use Rattle.rest_definitions.specs.RestVerdict.{lists_fault}
@@ -19,10 +20,10 @@ pub record GameReady (pass w h : ℕ) (cells spans boundaries anchors : List ℕ
   pub enough : verdicts_room ≤ verdicts
 
 -- A refusal is the call's, for whatever goal, and records, output and verdicts of these lengths.
-abbrev pub GamePreparedAs : (pass w h : ℕ) (cells spans boundaries anchors : List ℕ) (room output verdicts : ℕ) (l m q t p : List ℕ) → Prepared
+abbrev pub GamePreparedAs : (pass w h : ℕ) (cells spans boundaries anchors : List ℕ) (room output verdicts : ℕ) (l m q t p : List ℕ) → Result Ready Refusal
     → (l' m' q' t' p' : List ℕ) → Type 0
-GamePreparedAs pass w h cells spans boundaries anchors room output verdicts l m q t p (Refused number place) l' m' q' t' p' =
+GamePreparedAs pass w h cells spans boundaries anchors room output verdicts l m q t p (Err r) l' m' q' t' p' =
     (goal : ℕ) (s : List Region) (o v : List ℕ) → length s ≡ room → length o ≡ output → length v ≡ verdicts
-    → Played (given pass w h cells spans boundaries anchors l m q t p s o) goal v (record { number = number; value = place; regions = 0 }) l' m' q' t' p' s o v
-GamePreparedAs pass w h cells spans boundaries anchors room output verdicts l m q t p (Ready regions rows) l' m' q' t' p' =
-    GameReady pass w h cells spans boundaries anchors room output verdicts l m q t p regions rows l' m' q' t' p'
+    → Played (given pass w h cells spans boundaries anchors l m q t p s o) goal v (record { number = number_of r.cause; value = r.place; regions = 0 }) l' m' q' t' p' s o v
+GamePreparedAs pass w h cells spans boundaries anchors room output verdicts l m q t p (Ok ready) l' m' q' t' p' =
+    GameReady pass w h cells spans boundaries anchors room output verdicts l m q t p ready.regions ready.rows l' m' q' t' p'

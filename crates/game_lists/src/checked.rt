@@ -1,13 +1,12 @@
 // The checks of the call before its first partition, in their order: 1 to 4, 16, and 5 to 10; and this partition.
 ghost use Rattle.std.specs.Prelude.{◌≡◌};
-ghost use Rattle.areas.specs.Answers.{refusal_of};
+ghost use Rattle.refusals.specs.Refusals.{refusal_in};
 ghost use Rattle.game_lists.specs.Early.{game_early};
 ghost use Rattle.game_lists.specs.Prepared.{GamePreparedAs};
 
-use areas::checked::Check;
 use call_partition::checked::{check_sizes, checks_before};
-use call_partition::{Prepared, divide};
-use checks::Fault;
+use call_partition::{Ready, divide};
+use refusals::{Cause, Refusal, ensure, no_fault};
 use rest_lists::lists::lists_fault;
 
 // Room for the verdicts of the largest graph.
@@ -28,28 +27,17 @@ pub fn game_checks(
     tallies: usize,
     output: usize,
     verdicts: usize,
-) -> Check
-    ensures { refusal_of result ≡ game_early pass width height cells.now spans.now boundaries.now anchors.now
+) -> Result<(), Refusal>
+    ensures { refusal_in result ≡ game_early pass width height cells.now spans.now boundaries.now anchors.now
         labels masks queue tallies output verdicts }
 {
-    if let Check::Refused(number, place) = check_sizes(
-        pass, width, height, cells, spans, boundaries, anchors,
-    ) {
-        return Check::Refused(number, place);
-    }
-    if let Fault::At(entry) = lists_fault(spans, boundaries) {
-        return Check::Refused(16, entry);
-    }
-    if let Check::Refused(number, place) = checks_before(
+    check_sizes(pass, width, height, cells, spans, boundaries, anchors)?;
+    no_fault(lists_fault(spans, boundaries), Cause::Lists)?;
+    checks_before(
         pass, width, height, cells, spans, boundaries, anchors, labels, masks, queue, tallies,
         output,
-    ) {
-        return Check::Refused(number, place);
-    }
-    if verdicts < VERDICTS_ROOM {
-        return Check::Refused(10, 0);
-    }
-    Check::Fit
+    )?;
+    ensure(VERDICTS_ROOM <= verdicts, Cause::Room)
 }
 
 // All that comes before the records: `room` records, an output of length `output` and so many numbers for verdicts are lent.
@@ -69,12 +57,12 @@ pub fn prepare_game(
     queue: &mut [u32],
     tallies: &mut [u32],
     pairs: &mut [u32],
-) -> Prepared
+) -> Result<Ready, Refusal>
     ensures { GamePreparedAs pass width height cells.now spans.now boundaries.now anchors.now
         room output verdicts labels.old masks.old queue.old tallies.old pairs.old result
         labels.new masks.new queue.new tallies.new pairs.new }
 {
-    let check = game_checks(
+    game_checks(
         pass,
         width,
         height,
@@ -88,20 +76,17 @@ pub fn prepare_game(
         tallies.len(),
         output,
         verdicts,
-    );
-    match check {
-        Check::Refused(number, place) => Prepared::Refused(number, place),
-        Check::Fit => divide(
-            width as usize,
-            height as usize,
-            cells,
-            spans,
-            room,
-            labels,
-            masks,
-            queue,
-            tallies,
-            pairs,
-        ),
-    }
+    )?;
+    divide(
+        width as usize,
+        height as usize,
+        cells,
+        spans,
+        room,
+        labels,
+        masks,
+        queue,
+        tallies,
+        pairs,
+    )
 }

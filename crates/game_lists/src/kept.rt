@@ -4,23 +4,15 @@ ghost use Rattle.definitions.specs.Limits.{max_entries, numbers_per_span};
 ghost use Rattle.boundary_blocks.specs.Blocks.{left_blocks, left_count};
 ghost use Rattle.game_lists.specs.Kept.{Source, lent_of, Divides, DividedKept};
 
-use areas::clear::clear_numbers;
 use assessments::TALLIES_PER_SPAN;
 use boundary_blocks::blocks::{copy_block, keep_blocks};
-use call_partition::{Prepared, divide};
+use call_partition::{Ready, divide};
 use checks::limits::NUMBERS_PER_SPAN;
 
 const NUMBERS_PER_PAIR: usize = 3;
 
 // 256 spans.
 const SPANS_LONG: usize = 1024;
-
-// How many regions and rows of pairs there are.
-#[derive(Clone, Copy)]
-pub struct Graph {
-    pub regions: usize,
-    pub rows: usize,
-}
 
 // The spans that are not removed, in list order, and how many there are.
 fn kept_spans(spans: &[u64], removed: &[bool; 256], kept: &mut [u64]) -> usize
@@ -49,7 +41,7 @@ pub fn divide_kept(
     queue: &mut [u32],
     tallies: &mut [u32],
     pairs: &mut [u32],
-) -> Graph
+) -> Ready
     requires { (S : Source) × Divides (lent_of width height cells.now spans.now S) removed.now rows room
         labels.old masks.old queue.old tallies.old pairs.old }
     ensures { (S : Source) → Divides (lent_of width height cells.now spans.now S) removed.now rows room
@@ -61,9 +53,10 @@ pub fn divide_kept(
     let mut kept = [0u64; SPANS_LONG];
     let count = kept_spans(spans, removed, &mut kept);
     let end = NUMBERS_PER_SPAN * count;
-    clear_numbers(tallies, TALLIES_PER_SPAN * (spans.len() / NUMBERS_PER_SPAN));
-    clear_numbers(pairs, NUMBERS_PER_PAIR * rows);
-    let divided = divide(
+    let filled = TALLIES_PER_SPAN * (spans.len() / NUMBERS_PER_SPAN);
+    tallies[..filled].fill(0);
+    pairs[..NUMBERS_PER_PAIR * rows].fill(0);
+    divide(
         width,
         height,
         cells,
@@ -74,12 +67,6 @@ pub fn divide_kept(
         queue,
         tallies,
         pairs,
-    );
-    match divided {
-        Prepared::Refused(_number, _place) => Graph {
-            regions: 0,
-            rows: 0,
-        },
-        Prepared::Ready(regions, rows) => Graph { regions, rows },
-    }
+    )
+    .unwrap()
 }

@@ -1,10 +1,14 @@
 // The game on the kept graph: refusals 23 and 24, and the verdicts.
-ghost use Rattle.std.specs.Prelude.{◌≡◌, [], ◌∷◌, ◌*◌, ◌≤◌, length};
+ghost use Rattle.std.specs.Prelude.{◌≡◌, ◌*◌, ◌≤◌, length};
 ghost use Rattle.definitions.specs.Limits.{numbers_per_pair};
-ghost use Rattle.game.specs.Graph.{graph_of, edges_in, verdicts_room, verdicts_at_exit};
+ghost use Rattle.definitions.specs.Refusals.{or_else};
+ghost use Rattle.definitions.specs.Verdict.{refusal};
+ghost use Rattle.refusals.specs.Refusals.{number_of, refusal_in};
+ghost use Rattle.game.specs.Graph.{graph_of, edges_in, verdicts_room, graph_fault, goal_fault, verdicts_at_exit};
 ghost use Rattle.game_lists.specs.Forms.{answer_in, late_answer};
 
 use game_solver::solve_rows;
+use refusals::{Cause, Refusal, ensure};
 
 const MAX_REGIONS: usize = 32;
 
@@ -17,31 +21,22 @@ pub struct GameAnswer {
     pub regions: u64,
 }
 
-pub fn refused(number: u64, place: u64) -> GameAnswer
-    ensures { answer_in result ≡ record { number = number; value = place; regions = 0 } }
+pub fn refused(refusal: Refusal) -> GameAnswer
+    ensures { answer_in result ≡ record { number = number_of refusal.cause; value = refusal.place; regions = 0 } }
 {
     GameAnswer {
-        number,
-        value: place,
+        number: refusal.cause.number(),
+        value: refusal.place as u64,
         regions: 0,
     }
 }
 
-// 23, 24, or success.
-fn answered(kept: usize, regions: usize, goal: u64) -> GameAnswer
-    ensures { answer_in result ≡ late_answer kept regions goal }
+// 23 and 24.
+fn check_game(regions: usize, goal: u64) -> Result<(), Refusal>
+    ensures { refusal_in result ≡ or_else (refusal 23 (graph_fault regions)) (refusal 24 (goal_fault regions goal)) }
 {
-    if MAX_REGIONS < regions {
-        return refused(23, 0);
-    }
-    if !((1 <= goal) & (goal <= regions as u64)) {
-        return refused(24, 0);
-    }
-    GameAnswer {
-        number: 0,
-        value: kept as u64,
-        regions: regions as u64,
-    }
+    ensure(regions <= MAX_REGIONS, Cause::Graph)?;
+    ensure((1 <= goal) & (goal <= regions as u64), Cause::Goal)
 }
 
 // Plays on the graph of `count` rows of pairs.
@@ -58,10 +53,13 @@ pub fn play(
     ensures verdicts { verdicts.new
         ≡ verdicts_at_exit (graph_of regions (edges_in rows.now count) goal) verdicts.old (answer_in result).number }
 {
-    let answer = answered(kept, regions, goal);
-    if answer.number != 0 {
-        return answer;
+    if let Err(refusal) = check_game(regions, goal) {
+        return refused(refusal);
     }
     solve_rows(regions, rows, count, goal as usize, verdicts);
-    answer
+    GameAnswer {
+        number: 0,
+        value: kept as u64,
+        regions: regions as u64,
+    }
 }

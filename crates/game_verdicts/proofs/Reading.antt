@@ -2,21 +2,20 @@
 use Prim.Native.Nat.{ℕ, zero, suc, ◌+◌, ◌-◌, ◌*◌, ◌/◌, ◌%◌, ◌≤◌, ◌<◌}
 use native.Mathlib.Omega.{arith}
 use native.Mathlib.Nat.{le_refl, mul-le-mul, div-lt_iff_lt-mul, mod-lt}
-use mathlib.Core.Path.{◌≡◌, refl, sym, ap, ap₂, ◌∙◌, subst}
-use mathlib.Core.Bool.{Bool, true, false, not, ◌&&◌, ◌||◌, cond, false≢true, or-true, beq}
+use mathlib.Core.Path.{◌≡◌, refl, sym, ap, ap₂, ◌∙◌}
+use mathlib.Core.Bool.{Bool, true, false, not, ◌&&◌, ◌||◌, cond, false≢true, beq}
 use mathlib.Core.List.{List, [], ◌∷◌, ◌++◌}
 use lib.ListN.{length, get_or, set, length-append}
 use lib.Seq.{sets}
-use lib.Dec.{eqb, ltb, leb}
-use borrow.Author.Tests.{eqb-true, eqb-false, eq-eqb, ne_eqb, lt-ltb, le-ltb, ltb-true, ltb-false, not-true, le-leb}
-use Rattle.definitions.specs.Scan.{any_below_lem, gather}
-use Rattle.definitions.specs.RegionRecord.{has_bit}
-use Rattle.laws.specs.ListLaws.Tests.{both, eqb_same}
+use lib.Dec.{eqb, ltb}
+use borrow.Author.Tests.{ne_eqb, lt-ltb, ltb-true, ltb-false, not-true, not-false, le-leb}
+use Rattle.definitions.specs.Scan.{gather}
+use Rattle.laws.specs.ListLaws.Tests.{eqb_same}
 use Rattle.laws.specs.ListLaws.Below.{below_none, below_at}
 use Rattle.definitions.specs.Lists.{overwrite}
 use Rattle.laws.specs.ListLaws.Overwritten.{sets_append, sets_overwrite}
-use Rattle.game.specs.Game.{Game, Place, mover, move_to, is_captured, is_region, is_step, is_move, runner_has_won, is_over, Inside}
-use Rattle.game.specs.Search.{least_below, verdict_of}
+use Rattle.game.specs.Game.{Game, mover, move_to, is_captured, is_region, is_step, is_move, runner_has_won, is_over, Inside}
+use Rattle.game.specs.Search.{least_below}
 use Rattle.game.proofs.Sweeps.{Least, least_is}
 use Rattle.game.specs.Ranks.{is_found, serves_by, verdict_by}
 use Rattle.game.proofs.RankLaws.{verdict_by_lem}
@@ -24,7 +23,8 @@ use Rattle.game.specs.Graph.{place_at, numbers_of, place_count, graph_of, verdic
 use Rattle.game.proofs.EntryLaws.{numbers-length}
 use Rattle.game_sets.specs.Words.{bit_at, Near, Plays}
 use Rattle.game_search.specs.Words.{rank_place, rank_at, Ranked, at}
-use Rattle.game_verdicts.specs.Words.{verdicts_by}
+use Rattle.std.specs.Prelude.{Option, None, Some, MatchOption, unwrap_or}
+use Rattle.game_verdicts.specs.Words.{verdicts_by, Served}
 
 -- ---- the least
 
@@ -47,13 +47,6 @@ least_first n d f l h none = omega (arith, not_more (ltb (least_below n f) d) re
 pub least_last : (n d : ℕ) (f : ℕ → Bool) → d ≡ n → ((e : ℕ) → e < d → f e ≡ false) → d ≡ least_below (suc n) f
 unfolding least_below
 least_last n d f q none = q ∙ sym (ap (λ b. cond b (least_below n f) n) (below_none n f (λ e l. none e (omega arith))))
-
--- ---- where a rank stands
-
-pub place_is : (r g turn : ℕ) → r < 32 → g < 32 → turn < 2 → (64 * r + 2 * g + turn ≡ rank_place r g (eqb turn 0)) × (64 * r + 2 * g + turn < 2048)
-place_is r g zero h k l = (refl, omega arith)
-place_is r g (suc zero) h k l = (refl, omega arith)
-place_is r g (suc (suc t)) h k l = absurd (omega arith)
 
 -- ---- a region that serves
 
@@ -138,111 +131,50 @@ module _ (near : List ℕ) (regions goal : ℕ) (G : Game) (P : Plays near regio
 
   -- ---- by the code's tests
 
-  unranked : (rank : ℕ) → eqb rank 0 ≡ true → ltb 0 rank ≡ false
-  unranked rank h = le-ltb 0 rank (omega (arith, eqb-true rank 0 h))
+  module _ (r g rank : ℕ) (t : Bool) (e : rank ≡ rank_at ranks (at r g t)) where
+    pub idle-told : not (beq t (ltb 0 rank)) ≡ true → 0 ≡ (verdict_by G (rank_at ranks) (at r g t)).region
+    idle-told h = idle-unnamed r g t (ltb 0 rank) (ap (ltb 0) (sym e)) (not-true (beq t (ltb 0 rank)) h)
 
-  ranked : (rank : ℕ) → not (eqb rank 0) ≡ true → ltb 0 rank ≡ true
-  ranked rank h = lt-ltb 0 rank (omega (arith, eqb-false rank 0 (not-true (eqb rank 0) h)))
-
-  module _ (r g turn rank : ℕ) (e : rank ≡ rank_at ranks (at r g (eqb turn 0))) where
-    pub runner-idle : (eqb turn 0 && eqb rank 0) ≡ true → 0 ≡ (verdict_by G (rank_at ranks) (at r g (eqb turn 0))).region
-    runner-idle h =
-        let k = both (eqb turn 0) (eqb rank 0) h in
-        idle-unnamed r g (eqb turn 0) false (ap (ltb 0) (sym e) ∙ unranked rank k.1) (ap (λ t. beq t false) k.0)
-
-    pub guard-idle : (eqb turn 1 && not (eqb rank 0)) ≡ true → 0 ≡ (verdict_by G (rank_at ranks) (at r g (eqb turn 0))).region
-    guard-idle h =
-        let k = both (eqb turn 1) (not (eqb rank 0)) h in
-        idle-unnamed r g (eqb turn 0) true (ap (ltb 0) (sym e) ∙ ranked rank k.1) (ap (λ t. beq t true) (second turn k.0))
-      where
-        second : (n : ℕ) → eqb n 1 ≡ true → eqb n 0 ≡ false
-        second n h = ne_eqb n 0 (λ z. never (eqb-true n 1 h) z)
-          where
-            never : n ≡ 1 → n ≡ 0 → ⊥
-            never p q = omega arith
-
-    pub region-told : turn < 2 → (eqb r g || eqb r goal) ≡ false → (eqb turn 0 && eqb rank 0) ≡ false → (eqb turn 1 && not (eqb rank 0)) ≡ false
-        → least_below (suc regions) (serves_by G (rank_at ranks) (at r g (eqb turn 0))) ≡ (verdict_by G (rank_at ranks) (at r g (eqb turn 0))).region
-    region-told l o h k = go (eqb turn 0) refl (eqb rank 0) refl
-      where
-        go : (t : Bool) → eqb turn 0 ≡ t → (z : Bool) → eqb rank 0 ≡ z → least_below (suc regions) (serves_by G (rank_at ranks) (at r g (eqb turn 0))) ≡ (verdict_by G (rank_at ranks) (at r g (eqb turn 0))).region
-        go true p true q = absurd (false≢true (sym h ∙ ap₂ ◌&&◌ p q))
-        go true p false q = region-named r g (eqb turn 0) true o (ap (ltb 0) (sym e) ∙ ranked rank (ap not q)) (ap (λ t. beq t true) p)
-        go false p true q = region-named r g (eqb turn 0) false o (ap (ltb 0) (sym e) ∙ unranked rank q) (ap (λ t. beq t false) p)
-        go false p false q = absurd (false≢true (sym k ∙ ap₂ ◌&&◌ (eq-eqb turn 1 (omega (arith, eqb-false turn 0 p))) (ap not q)))
+    pub region-told : (eqb r g || eqb r goal) ≡ false → not (beq t (ltb 0 rank)) ≡ false
+        → least_below (suc regions) (serves_by G (rank_at ranks) (at r g t)) ≡ (verdict_by G (rank_at ranks) (at r g t)).region
+    region-told o h = region-named r g t (ltb 0 rank) o (ap (ltb 0) (sym e)) (not-false (beq t (ltb 0 rank)) h)
 
   pub verdict-told : (r g : ℕ) (t : Bool) (rank region : ℕ) → rank ≡ rank_at ranks (at r g t) → region ≡ (verdict_by G (rank_at ranks) (at r g t)).region
       → (cond (ltb 0 rank) 1 2 ∷ (rank - 1) ∷ region ∷ []) ≡ numbers_of (verdict_by G (rank_at ranks) (at r g t))
   unfolding verdict_by is_found
   verdict-told r g t rank region e h = λ i. cond (ltb 0 (e i)) 1 2 ∷ (e i - 1) ∷ h i ∷ []
 
--- ---- the least region that serves: none before d does, whatever the game of the steps
+-- ---- the least region that serves: what `find` gives, whatever the game of the steps
 
-pub record NoneBefore (near ranks : List ℕ) (regions r g turn d : ℕ) : Type 0 where
-  pub some : 1 ≤ d
-  pub upto : d ≤ regions
-  pub none : (G : Game) (goal : ℕ) → Plays near regions goal G → (e : ℕ) → e < d → serves_by G (rank_at ranks) (at r g (eqb turn 0)) e ≡ false
+module _ (near ranks : List ℕ) (regions r g : ℕ) (t : Bool) (some : 1 ≤ regions) (G : Game) (goal : ℕ) (P : Plays near regions goal G) where
+  serving : ℕ → Bool
+  serving = serves_by G (rank_at ranks) (at r g t)
 
-module _ (near ranks : List ℕ) (regions r g turn : ℕ) where
-  pub none_starts : 1 ≤ regions → NoneBefore near ranks regions r g turn 1
-  none_starts h =
-      record {
-        some = omega arith;
-        upto = h;
-        none =
-            λ G goal P e l.
-            ap (serves_by G (rank_at ranks) (at r g (eqb turn 0))) (first e l) ∙ none_served near regions goal G P ranks r g (eqb turn 0);
-      }
-    where
-      first : (e : ℕ) → e < 1 → e ≡ 0
-      first e l = omega arith
-
-  -- what was asked of region d
-  abbrev Asked : ℕ → Bool → Type 0
-  Asked d s = (G : Game) (regions' goal : ℕ) → Plays near regions' goal G → s ≡ serves_by G (rank_at ranks) (at r g (eqb turn 0)) (suc (d - 1))
+  first_serves : (d : ℕ) → ((e : ℕ) → 1 ≤ e → e < d → serving e ≡ false) → (e : ℕ) → e < d → serving e ≡ false
+  unfolding serving
+  first_serves d none zero h = none_served near regions goal G P ranks r g t
+  first_serves d none (suc e) h = none (suc e) (omega arith) h
 
   this : (d : ℕ) → 1 ≤ d → suc (d - 1) ≡ d
   this d h = omega arith
 
-  pub none_more : (d : ℕ) (s : Bool) → NoneBefore near ranks regions r g turn d → d < regions → Asked d s → s ≡ false → NoneBefore near ranks regions r g turn (d + 1)
-  none_more d s N h a f =
-      record {
-        some = omega arith;
-        upto = omega arith;
-        none = λ G goal P e l. go G goal P e l (ltb e d) refl;
-      }
-    where
-      go : (G : Game) (goal : ℕ) → Plays near regions goal G → (e : ℕ) → e < d + 1 → (b : Bool) → ltb e d ≡ b → serves_by G (rank_at ranks) (at r g (eqb turn 0)) e ≡ false
-      go G goal P e l true q = N.none G goal P e (ltb-true e d q)
-      go G goal P e l false q =
-          ap (serves_by G (rank_at ranks) (at r g (eqb turn 0))) (last ∙ sym (this d N.some)) ∙ sym (a G regions goal P) ∙ f
-        where
-          last : e ≡ d
-          last = omega (arith, ltb-false e d q)
+  tested : (d : ℕ) {b : Bool} → 1 ≤ d → Served near ranks r g t (d - 1) b → serving d ≡ b
+  unfolding serving
+  tested d h s = ap serving (sym (this d h)) ∙ sym (s.is G regions goal P)
 
-  pub none_found : (d : ℕ) (s : Bool) → NoneBefore near ranks regions r g turn d → d < regions → Asked d s → s ≡ true
-      → (G : Game) (goal : ℕ) → Plays near regions goal G → d ≡ least_below (suc regions) (serves_by G (rank_at ranks) (at r g (eqb turn 0)))
-  none_found d s N h a t G goal P =
-      least_first (suc regions) d (serves_by G (rank_at ranks) (at r g (eqb turn 0))) (omega arith)
-      (ap (serves_by G (rank_at ranks) (at r g (eqb turn 0))) (sym (this d N.some)) ∙ sym (a G regions goal P) ∙ t) (N.none G goal P)
+  pub least_found : (o : Option ℕ) → MatchOption o ((k : ℕ) → 1 ≤ k → k < regions → Served near ranks r g t (k - 1) false)
+      (λ i. (1 ≤ i) × (i < regions) × Served near ranks r g t (i - 1) true × ((k : ℕ) → 1 ≤ k → k < i → Served near ranks r g t (k - 1) false))
+      → unwrap_or o regions ≡ least_below (suc regions) (serves_by G (rank_at ranks) (at r g t))
+  unfolding serving
+  least_found None none = least_last regions regions serving refl (first_serves regions (λ e l h. tested e l (none e l h)))
+  least_found (Some d) (low, l, e, none) = least_first (suc regions) d serving (omega arith) (tested d low e) (first_serves d (λ e l h. tested e l (none e l h)))
 
-  pub none_ends : (d : ℕ) → NoneBefore near ranks regions r g turn d → regions ≤ d
-      → (G : Game) (goal : ℕ) → Plays near regions goal G → d ≡ least_below (suc regions) (serves_by G (rank_at ranks) (at r g (eqb turn 0)))
-  none_ends d N h G goal P = least_last regions d (serves_by G (rank_at ranks) (at r g (eqb turn 0))) whole (N.none G goal P)
-    where
-      whole : d ≡ regions
-      whole = omega (arith, N.upto)
-
--- ---- a verdict by its rank
-
-pub guards-verdict : (rank region : ℕ) → rank ≡ 0 → (2 ∷ 0 ∷ region ∷ []) ≡ (cond (ltb 0 rank) 1 2 ∷ (rank - 1) ∷ region ∷ [])
-guards-verdict rank region e = sym (λ i. cond (ltb 0 (e i)) 1 2 ∷ (e i - 1) ∷ region ∷ [])
-
-pub runners-verdict : (rank region : ℕ) → (rank ≡ 0 → ⊥) → (1 ∷ (rank - 1) ∷ region ∷ []) ≡ (cond (ltb 0 rank) 1 2 ∷ (rank - 1) ∷ region ∷ [])
-runners-verdict rank region e = λ i. cond (sym (lt-ltb 0 rank (some rank e)) i) 1 2 ∷ (rank - 1) ∷ region ∷ []
-  where
-    some : (n : ℕ) → (n ≡ 0 → ⊥) → 0 < n
-    some n h = omega (arith, h)
+-- a region that is found is one of them
+pub found-few : (near ranks : List ℕ) (regions r g : ℕ) (t : Bool) (o : Option ℕ) → regions ≤ 32 → MatchOption o ((k : ℕ) → 1 ≤ k → k < regions → Served near ranks r g t (k - 1) false)
+    (λ i. (1 ≤ i) × (i < regions) × Served near ranks r g t (i - 1) true × ((k : ℕ) → 1 ≤ k → k < i → Served near ranks r g t (k - 1) false))
+    → unwrap_or o regions ≤ 32
+found-few near ranks regions r g t None few h = few
+found-few near ranks regions r g t (Some i) few (low, l, q, none) = omega arith
 
 -- ---- all verdicts
 

@@ -2,7 +2,7 @@
 
 #![tactic(auto)]
 
-ghost use Rattle.std.specs.Prelude.{◌≡◌, cond, [], ◌∷◌, ℕ, suc, ◌+◌, ◌-◌, ◌*◌, ◌≤◌, ◌<◌, eqb, ltb, length};
+ghost use Rattle.std.specs.Prelude.{◌≡◌, cond, [], ◌∷◌, ℕ, suc, ◌+◌, ◌-◌, ◌*◌, ◌≤◌, ◌<◌, ltb, length};
 ghost use Rattle.std.proofs.lemmas.List.Edits.{sets};
 ghost use Rattle.game.specs.Game.{Game};
 ghost use Rattle.game.specs.Search.{least_below};
@@ -10,44 +10,50 @@ ghost use Rattle.game.specs.Ranks.{serves_by, verdict_by};
 ghost use Rattle.game.specs.Graph.{numbers_of, place_count};
 ghost use Rattle.game_sets.specs.Words.{Plays};
 ghost use Rattle.game_search.specs.Words.{rank_place, rank_at, at};
-ghost use Rattle.game_verdicts.specs.Words.{verdicts_by, AtPlace, Fits};
+ghost use Rattle.game_verdicts.specs.Words.{verdicts_by, AtPlace, Served, Fits};
 ghost use Rattle.game_verdicts.specs.Forms.{numbers_in};
 
 use game_sets::sets::has;
 
-// Who wins, 1 for the runner and 2 for the guard; the moves; the region.
+// Whether the runner wins; the moves; the region.
 #[derive(Clone, Copy)]
 pub struct Verdict {
-    pub winner: u32,
+    pub runner_wins: bool,
     pub moves: u32,
     pub region: u32,
 }
 
-// Where the rank of a place stands: runner on r + 1, guard on g + 1, turn 0 for the runner's.
-fn rank_place(r: usize, g: usize, turn: usize) -> usize
-    requires { (r < 32) × (g < 32) × (turn < 2) }
-    ensures { (result ≡ rank_place r g (eqb turn 0)) × (result < 2048) }
+// Where the rank of a place stands: runner on r + 1, guard on g + 1, the runner to move or not.
+fn rank_place(r: usize, g: usize, runners_turn: bool) -> usize
+    requires { (r < 32) × (g < 32) }
+    ensures { (result ≡ rank_place r g runners_turn) × (result < 2048) }
 {
-    64 * r + 2 * g + turn
+    64 * r + 2 * g + usize::from(!runners_turn)
 }
 
 // Whether going to region d + 1 serves the one to move, who can force a win.
-fn serves(near: &[u32; 32], ranks: &[u32; 2048], r: usize, g: usize, turn: usize, d: usize) -> bool
-    requires { (r < 32) × (g < 32) × (turn < 2) × (d < 32) }
-    ensures { (G : Game) (regions goal : ℕ) → Plays near.now regions goal G →
-        result ≡ serves_by G (rank_at ranks.now) (at r g (eqb turn 0)) (suc d) }
+fn serves(
+    near: &[u32; 32],
+    ranks: &[u32; 2048],
+    r: usize,
+    g: usize,
+    runners_turn: bool,
+    d: usize,
+) -> bool
+    requires { (r < 32) × (g < 32) × (d < 32) }
+    ensures { Served near.now ranks.now r g runners_turn d result }
 {
-    if turn == 0 {
+    if runners_turn {
         if !has(near[r], d) {
             return false;
         }
-        let there = ranks[rank_place(d, g, 1)];
-        return (0 < there) & (there < ranks[rank_place(r, g, 0)]);
+        let there = ranks[rank_place(d, g, false)];
+        return (0 < there) & (there < ranks[rank_place(r, g, true)]);
     }
     if !has(near[g], d) {
         return false;
     }
-    ranks[rank_place(r, d, 0)] == 0
+    ranks[rank_place(r, d, true)] == 0
 }
 
 // The least region that serves.
@@ -57,21 +63,16 @@ fn region_for(
     regions: usize,
     r: usize,
     g: usize,
-    turn: usize,
+    runners_turn: bool,
 ) -> usize
-    requires { AtPlace regions r g turn }
+    requires { AtPlace regions r g }
     ensures answer { (G : Game) (goal : ℕ) → Plays near.now regions goal G →
-        result ≡ least_below (suc regions) (serves_by G (rank_at ranks.now) (at r g (eqb turn 0))) }
+        result ≡ least_below (suc regions) (serves_by G (rank_at ranks.now) (at r g runners_turn)) }
     ensures bound { result ≤ 32 }
 {
-    let mut d = 1;
-    while d < regions {
-        if serves(near, ranks, r, g, turn, d - 1) {
-            return d;
-        }
-        d += 1;
-    }
-    d
+    (1..regions)
+        .find(|&d| serves(near, ranks, r, g, runners_turn, d - 1))
+        .unwrap_or(regions)
 }
 
 // 0 where play is over or the winner is not to move, else the least region that serves.
@@ -82,40 +83,30 @@ fn region_at(
     goal: usize,
     r: usize,
     g: usize,
-    turn: usize,
+    runners_turn: bool,
     rank: u32,
 ) -> usize
-    requires { AtPlace regions r g turn }
-    ensures answer { (G : Game) → Plays near.now regions goal G → rank ≡ rank_at ranks.now (at r g (eqb turn 0)) →
-        result ≡ (verdict_by G (rank_at ranks.now) (at r g (eqb turn 0))).region }
+    requires { AtPlace regions r g }
+    ensures answer { (G : Game) → Plays near.now regions goal G → rank ≡ rank_at ranks.now (at r g runners_turn) →
+        result ≡ (verdict_by G (rank_at ranks.now) (at r g runners_turn)).region }
     ensures bound { result ≤ 32 }
 {
     if (r == g) | (r == goal) {
         return 0;
     }
-    if (turn == 0) & (rank == 0) {
+    if runners_turn != (0 < rank) {
         return 0;
     }
-    if (turn == 1) & (rank != 0) {
-        return 0;
-    }
-    region_for(near, ranks, regions, r, g, turn)
+    region_for(near, ranks, regions, r, g, runners_turn)
 }
 
 // Who wins and in how few moves, by the rank.
 fn verdict_of(rank: u32, region: u32) -> Verdict
     ensures { numbers_in result ≡ (cond (ltb 0 rank) 1 2 ∷ (rank - 1) ∷ region ∷ []) }
 {
-    if rank == 0 {
-        return Verdict {
-            winner: 2,
-            moves: 0,
-            region,
-        };
-    }
     Verdict {
-        winner: 1,
-        moves: rank - 1,
+        runner_wins: 0 < rank,
+        moves: rank.saturating_sub(1),
         region,
     }
 }
@@ -127,22 +118,29 @@ fn verdict_at(
     goal: usize,
     r: usize,
     g: usize,
-    turn: usize,
+    runners_turn: bool,
 ) -> Verdict
-    requires { AtPlace regions r g turn }
+    requires { AtPlace regions r g }
     ensures { (G : Game) → Plays near.now regions goal G →
-        numbers_in result ≡ numbers_of (verdict_by G (rank_at ranks.now) (at r g (eqb turn 0))) }
+        numbers_in result ≡ numbers_of (verdict_by G (rank_at ranks.now) (at r g runners_turn)) }
 {
-    let rank = ranks[rank_place(r, g, turn)];
-    let region = region_at(near, ranks, regions, goal, r, g, turn, rank);
+    let rank = ranks[rank_place(r, g, runners_turn)];
+    let region = region_at(near, ranks, regions, goal, r, g, runners_turn, rank);
     verdict_of(rank, region as u32)
+}
+
+// 1 for the runner and 2 for the guard.
+fn winner(v: Verdict) -> u32
+    ensures { result ≡ cond v.runner_wins 1 2 }
+{
+    if v.runner_wins { 1 } else { 2 }
 }
 
 fn put_verdict(verdicts: &mut [u32], k: usize, v: Verdict)
     requires { k + 2 < length verdicts.old }
     ensures { verdicts.new ≡ sets verdicts.old k (numbers_in v) }
 {
-    verdicts[k] = v.winner;
+    verdicts[k] = winner(v);
     verdicts[k + 1] = v.moves;
     verdicts[k + 2] = v.region;
 }
@@ -168,7 +166,7 @@ pub fn put_verdicts(
             goal,
             c / 2 / regions,
             c / 2 % regions,
-            c % 2,
+            c % 2 == 0,
         );
         put_verdict(verdicts, 3 * c, v);
     }

@@ -12,7 +12,7 @@ use Rattle.laws.specs.ListLaws.Lists.{All, done, more, get_d_tab}
 use Rattle.laws.specs.ListLaws.Members.{all-place}
 use Rattle.grid_steps.specs.Masks.{bit_of}
 use Rattle.grid_steps.specs.Walk.{direction_at}
-use Rattle.grid_steps.specs.Inner.{placed, byte_at}
+use Rattle.grid_steps.specs.Inner.{placed}
 
 pub direction_near : (d : ℕ) → d < 8 → ((direction_at d).x ≤ 2) × ((direction_at d).y ≤ 2)
 direction_near d h =
@@ -25,23 +25,23 @@ pub all_by_place : {A : Type 0} {P : A → Type 0} (x : A) (l : List A) → ((i 
 all_by_place x [] h = done
 all_by_place x (a ∷ l) h = more (h 0 (omega arith)) (all_by_place x l (λ i b. h (suc i) (omega arith)))
 
--- ---- the directions as the code holds them: a word of eight bytes
+-- ---- the directions as the code holds them
 
--- `DIRECTIONS`: the bytes 1, 3, 5, 7, 0, 2, 6, 8, the first lowest
-abbrev pub direction_word : ℕ
-direction_word = 578151801304711937
+-- `DIRECTIONS`
+abbrev pub places : List ℕ
+places = 1 ∷ 3 ∷ 5 ∷ 7 ∷ 0 ∷ 2 ∷ 6 ∷ 8 ∷ []
 
 -- a place is the bit of its direction
 pub placed-back : (p : ℕ) → bit_of (placed p) ≡ p
 placed-back p = div-add-mod' p 3
 
 -- the whole table
-word-directions : map (λ d. placed (byte_at direction_word d)) (run 0 8) ≡ directions
+places-directions : map (λ d. placed (get_or places d 0)) (run 0 8) ≡ directions
 unfolding run
-word-directions = refl
+places-directions = refl
 
-pub word_at : (d : ℕ) → d < 8 → placed (byte_at direction_word d) ≡ direction_at d
-word_at d h = sym (get_d_tab (λ e. placed (byte_at direction_word e)) (at 0 0) 8 d h) ∙ ap (λ l. get_or l d (at 0 0)) word-directions
+pub place_of : (d : ℕ) → d < 8 → placed (get_or places d 0) ≡ direction_at d
+place_of d h = sym (get_d_tab (λ e. placed (get_or places e 0)) (at 0 0) 8 d h) ∙ ap (λ l. get_or l d (at 0 0)) places-directions
 
-pub word_below : (d : ℕ) → d < 8 → byte_at direction_word d < 9
-word_below d h = omega (arith, placed-back (byte_at direction_word d), direction_near d h, ap (λ p. p.x) (word_at d h), ap (λ p. p.y) (word_at d h))
+pub place_below : (d : ℕ) → d < 8 → get_or places d 0 < 9
+place_below d h = omega (arith, placed-back (get_or places d 0), direction_near d h, ap (λ p. p.x) (place_of d h), ap (λ p. p.y) (place_of d h))

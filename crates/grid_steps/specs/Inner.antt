@@ -1,5 +1,5 @@
 -- The words of the other functions' contracts, over the grid of the lent bytes. Definitions only; assumes nothing.
-use Rattle.std.specs.Prelude.{ℕ, ◌+◌, ◌*◌, ◌/◌, ◌%◌, ◌^◌, ◌≤◌, ◌<◌, ◌≡◌, Bool, true, false, List, length}
+use Rattle.std.specs.Prelude.{ℕ, ◌+◌, ◌*◌, ◌/◌, ◌%◌, ◌≤◌, ◌<◌, ◌≡◌, Bool, true, false, List, length}
 use Rattle.definitions.specs.Grid.{Position, at, walkable}
 use Rattle.grid_steps.specs.Walk.{grid_of}
 
@@ -8,10 +8,6 @@ use Rattle.grid_steps.specs.Walk.{grid_of}
 -- the direction at place p of the three by three square around the cell, row by row from 0 (document 02, request 5). Its bit in a mask is p again.
 abbrev pub placed : ℕ → Position
 placed p = at (p % 3) (p / 3)
-
--- byte d of a word, the lowest being byte 0
-abbrev pub byte_at : ℕ → ℕ → ℕ
-byte_at word d = word / 2 ^ (8 * d) % 256
 
 -- a position of the grid, and a direction
 pub record Nearby (w h x y dx dy : ℕ) : Type 0 where

@@ -8,10 +8,9 @@ ghost use Rattle.grid_steps.specs.Masks.{cut_bit};
 ghost use Rattle.grid_steps.specs.Walk.{grid_of, direction_at};
 ghost use Rattle.grid_steps.specs.Inner.{placed, Nearby, Inner, Inside, Says, Stepping};
 
-// The eight directions, in the order of `neighbors` of lib.rs, the first in the lowest byte: 1, 3, 5, 7, 0, 2, 6, 8. Each is its place in the three by three
-// square around the cell, row by row from 0, which is also its bit in a mask of cut steps. One word, and not an array: a loop over it is unrolled, and its
-// turns have the places as constants.
-const DIRECTIONS: u64 = 0x08_06_02_00_07_05_03_01;
+// The eight directions, in the order of `neighbors` of lib.rs. Each is its place in the three by three square around the cell, row by row from 0, which is also its
+// bit in a mask of cut steps.
+const DIRECTIONS: [usize; 8] = [1, 3, 5, 7, 0, 2, 6, 8];
 
 // The place of direction d.
 pub fn place_at(d: usize) -> usize
@@ -19,7 +18,7 @@ pub fn place_at(d: usize) -> usize
     ensures direction { placed result ≡ direction_at d }
     ensures bound { result < 9 }
 {
-    ((DIRECTIONS >> (8 * d)) % 256) as usize
+    DIRECTIONS[d]
 }
 
 // Whether every neighbour of (x, y) is in the grid.

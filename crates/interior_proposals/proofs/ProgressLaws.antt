@@ -176,10 +176,9 @@ pub not-region : (owners : List ℕ) (i : ℕ) → (eqb (get_or owners i 0) 0 ||
 unfolding is_first
 not-region owners i e = sym (ap (λ t. not t && not (any_below_lem i (λ j. eqb (get_or owners j 0) (get_or owners i 0)))) e)
 
-pub not_first : (owners : List ℕ) (i j : ℕ) → j < i → get_or owners j 0 ≡ get_or owners i 0 → false ≡ is_first owners i
+pub first_by_scan : (owners : List ℕ) (i : ℕ) → (eqb (get_or owners i 0) 0 || eqb (get_or owners i 0) several) ≡ false → not (any_below_lem i (λ j. eqb (get_or owners j 0) (get_or owners i 0))) ≡ is_first owners i
 unfolding is_first
-not_first owners i j l e =
-    sym (ap (λ t. not (eqb (get_or owners i 0) 0 || eqb (get_or owners i 0) several) && not t) (below_at i (λ k. eqb (get_or owners k 0) (get_or owners i 0)) j l (eq-eqb _ _ e)) ∙ and-false (not (eqb (get_or owners i 0) 0 || eqb (get_or owners i 0) several)))
+first_by_scan owners i e = sym (ap (λ t. not t && not (any_below_lem i (λ j. eqb (get_or owners j 0) (get_or owners i 0)))) e)
 
 pub is_first_lem : (owners : List ℕ) (i : ℕ) {j : ℕ} → (eqb (get_or owners i 0) 0 || eqb (get_or owners i 0) several) ≡ false → j ≤ i → i ≤ j → any_below_lem j (λ k. eqb (get_or owners k 0) (get_or owners i 0)) ≡ false → true ≡ is_first owners i
 unfolding is_first

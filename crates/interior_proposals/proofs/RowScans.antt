@@ -1,11 +1,12 @@
 -- The pairs of rows, row by row. Assumes nothing.
 use Prim.Native.Nat.{ℕ, zero, suc, ◌+◌, ◌-◌, ◌≤◌, ◌<◌}
 use native.Mathlib.Omega.{arith}
-use mathlib.Core.Path.{◌≡◌, refl, sym, ap, subst, ◌∙◌}
+use mathlib.Core.Path.{◌≡◌, refl, sym, ap, ap₂, subst, ◌∙◌}
 use mathlib.Core.Bool.{Bool, true, false, ◌&&◌, ◌||◌, or-false, and-true, true≢false}
 use mathlib.Core.List.{List, [], ◌∷◌, ◌++◌, map}
 use mathlib.Core.Logic.{⊎_elim}
 use lib.Arith.{lt_of_le-ne}
+use Rattle.std.specs.Prelude.{MatchBool}
 use Rattle.definitions.specs.Scan.{run, any, all}
 use Rattle.definitions.specs.Grid.{Pair}
 use Rattle.laws.specs.ListLaws.Lists.{All, done, more, map-append, any_append, run_last}
@@ -103,3 +104,19 @@ all-rows_fail f rows first k end h l e = go (all f (pairs_between rows first end
     go : (b : Bool) → all f (pairs_between rows first end) ≡ b → b ≡ false
     go true q = absurd (true≢false (sym (between_at rows first end (all-holds f (pairs_between rows first end) q) k h l) ∙ e))
     go false q = refl
+
+-- ---- what a chain over the rows gives
+
+module _ (f : Pair → Bool) (rows : List ℕ) (first end : ℕ) (rising : first ≤ end) where
+  none_of : ((k : ℕ) → first ≤ k → k < end → f (pair_at rows k) ≡ false) → (n : ℕ) → first + n ≤ end → any f (pairs_between rows first (first + n)) ≡ false
+  none_of h zero l = ap (λ m. any f (pairs_between rows first m)) (omega arith) ∙ any-rows_none f rows first
+  none_of h (suc n) l =
+      let next : first + suc n ≡ first + n + 1 = omega arith in
+      ap (λ m. any f (pairs_between rows first m)) next ∙ any-rows_next f rows first (first + n) (omega arith) ∙ ap₂ ◌||◌ (none_of h n (omega arith)) (h (first + n) (omega arith) (omega arith))
+
+  pub any-rows_is : (r : Bool) → MatchBool r ((k : ℕ) × (first ≤ k) × (k < end) × (f (pair_at rows k) ≡ true)) ((k : ℕ) → first ≤ k → k < end → f (pair_at rows k) ≡ false) → r ≡ any f (pairs_between rows first end)
+  any-rows_is true (k, a, b, e) = sym (any-rows_at f rows first k end a b e)
+  any-rows_is false h = sym (ap (λ m. any f (pairs_between rows first m)) last ∙ none_of h (end - first) (omega arith))
+    where
+      last : end ≡ first + (end - first)
+      last = omega arith

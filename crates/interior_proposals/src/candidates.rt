@@ -24,14 +24,9 @@ fn any_anchored(marks: &[u16], pairs: &[u32], first: usize, end: usize) -> bool
     requires { Walkable pairs.now first end (length marks.now) }
     ensures { result ≡ any (pair_marked marks.now) (pairs_between pairs.now first end) }
 {
-    for k in first..end {
-        let lo = is_anchored(marks, smaller_at(pairs, k));
-        let hi = is_anchored(marks, larger_at(pairs, k));
-        if lo | hi {
-            return true;
-        }
-    }
-    false
+    (first..end).any(|k| {
+        is_anchored(marks, smaller_at(pairs, k)) | is_anchored(marks, larger_at(pairs, k))
+    })
 }
 
 // Whether boundary i is an edge that keeps the component r from being a candidate: it has a pair elsewhere, or a region of it is anchored.

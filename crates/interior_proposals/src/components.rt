@@ -10,7 +10,6 @@ ghost use Rattle.interior_proposals.specs.Given.{Given, Lent, SomeLent, flags_of
 
 use context::pairs::full_cut;
 use geometry::boundaries::kind_at;
-use plain_numbers::{greater, lesser};
 
 pub const NUMBERS_PER_PAIR: usize = 3;
 
@@ -55,7 +54,7 @@ fn join(parents: &mut [u32], lo: u32, hi: u32)
 {
     let a = root_of(parents, lo);
     let b = root_of(parents, hi);
-    set_parent(parents, greater(a, b), lesser(a, b));
+    set_parent(parents, a.max(b), a.min(b));
 }
 
 // The smaller region of row k.

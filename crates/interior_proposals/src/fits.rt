@@ -76,12 +76,7 @@ fn elevation_fits(mask: u8, lower: u64, upper: u64, e: u32) -> bool
 fn elevations_fit(mask: u8, lower: u64, upper: u64) -> bool
     ensures { result ≡ all_below 8 (elevation_fits mask lower upper) }
 {
-    for e in 0..ELEVATIONS {
-        if !elevation_fits(mask, lower, upper, e) {
-            return false;
-        }
-    }
-    true
+    (0..ELEVATIONS).all(|e| elevation_fits(mask, lower, upper, e))
 }
 
 // Whether a corner is within the radius of one of the two centers.

@@ -17,14 +17,11 @@ pub fn touches(names: &[u32], pairs: &[u32], first: usize, end: usize, r: u32) -
     requires { Walkable pairs.now first end (length names.now) }
     ensures { result ≡ any (pair_named names.now r) (pairs_between pairs.now first end) }
 {
-    for k in first..end {
+    (first..end).any(|k| {
         let lo = parent_of(names, smaller_at(pairs, k));
         let hi = parent_of(names, larger_at(pairs, k));
-        if (lo == r) | (hi == r) {
-            return true;
-        }
-    }
-    false
+        (lo == r) | (hi == r)
+    })
 }
 
 // The name that the smaller regions of all rows from `first` on, before `end`, have.

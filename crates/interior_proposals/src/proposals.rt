@@ -80,12 +80,7 @@ fn is_first(owners: &[u32; 256], i: usize) -> bool
     if (owner == 0) | (owner == SEVERAL) {
         return false;
     }
-    for j in 0..i {
-        if owners[j] == owner {
-            return false;
-        }
-    }
-    true
+    !(0..i).any(|j| owners[j] == owner)
 }
 
 // What is found at boundary i, if it comes first.

@@ -6,7 +6,6 @@ use Rattle.definitions.specs.Verdict.{Lent, Answer}
 use Rattle.definitions.specs.AtExit.{partition_exit}
 use Rattle.areas.specs.Answers.{answer_of}
 use Rattle.areas.specs.Contract.{Ran}
-use Rattle.areas.specs.declared.Partitioned.{Partitioned}
 use Rattle.definitions.specs.Sheet.{Reading}
 use Rattle.std.specs.Prelude.{Result}
 use Rattle.refusals.specs.declared.Refusal.{Refusal}
@@ -16,7 +15,7 @@ use Rattle.jenwyllt.specs.Contract.{answer_in, Partitions, sheet_in, Reads}
 use Rattle.jenwyllt.specs.declared.JenwylltAnswer.{JenwylltAnswer}
 use Rattle.jenwyllt.specs.declared.JenwylltSheet.{JenwylltSheet}
 
-pub answered : {L : Lent} {f : Partitioned} {l m q t p : List ℕ} (r : JenwylltAnswer) → Ran L f l m q t p → answer_of f ≡ answer_in r → Partitions L r l m q t p
+pub answered : {L : Lent} {f : Result ℕ Refusal} {l m q t p : List ℕ} (r : JenwylltAnswer) → Ran L f l m q t p → answer_of f ≡ answer_in r → Partitions L r l m q t p
 answered {L} {f} {l} {m} {q} {t} {p} r ran e =
     record {
       answer = sym e ∙ ran.answer;

@@ -9,7 +9,7 @@ ghost use Rattle.areas.specs.Contract.{given};
 ghost use Rattle.refusals.specs.Refusals.{refusal_of};
 ghost use Rattle.jenwyllt.specs.Contract.{Partitions, sheet_in, Reads};
 
-use areas::{Partitioned, partition};
+use areas::partition;
 use hypotenuse::hypotenuse;
 use refusals::Refusal;
 use sheet::{Header, read_sheet};
@@ -40,12 +40,12 @@ pub fn jenwyllt_partition(
     match partition(
         width, height, cells, spans, labels, masks, queue, tallies, pairs,
     ) {
-        Partitioned::Regions(count) => JenwylltAnswer {
+        Ok(count) => JenwylltAnswer {
             number: 0,
             value: count as u64,
         },
-        Partitioned::Refused(number, place) => JenwylltAnswer {
-            number,
+        Err(Refusal { cause, place }) => JenwylltAnswer {
+            number: cause.number(),
             value: place as u64,
         },
     }

@@ -1,10 +1,9 @@
 -- What `is_allowed` reads of a row and of the lists is what the context says. Assumes nothing.
 use Prim.Native.Nat.{ℕ, ◌+◌, ◌*◌}
 use mathlib.Core.Path.{◌≡◌, sym, ap, ap₂, ◌∙◌, subst⁻¹}
-use mathlib.Core.Bool.{Bool}
+use mathlib.Core.Bool.{Bool, true, false}
 use mathlib.Core.List.{List}
 use lib.Dec.{eqb}
-use borrow.Author.Tests.{eq-eqb, ne_eqb}
 use Rattle.definitions.specs.Limits.{numbers_per_boundary}
 use Rattle.definitions.specs.Scan.{bit}
 use Rattle.definitions.specs.Grid.{Segment, segment_at}
@@ -13,18 +12,19 @@ use Rattle.definitions.specs.Context.{Context}
 use Rattle.laws.specs.FloatLaws.Pixels.{PixelRegion, PixelSegment}
 use Rattle.context.specs.declared.Region.{Region}
 use Rattle.context.specs.Records.{record_of, Counted}
+use Rattle.junction_proposals.specs.declared.proposals.Candidate.{Candidate}
 use Rattle.junction_proposals.specs.Unions.{mark_at}
 use Rattle.junction_proposals.specs.Rows.{row_at, is_allowed, bridge_region}
 use Rattle.junction_regions.specs.Tests.{is_local, union_of, bridge_of}
 use Rattle.junction_regions.specs.Asked.{OnMap, Asked}
 
-module _ {C : Context} {boundaries marks rows : List ℕ} {k : ℕ} {first second : Region} (h : Asked C boundaries marks rows k first second) where
+module _ {C : Context} {boundaries marks : List ℕ} {rows : List Candidate} {k : ℕ} {first second : Region} (h : Asked C boundaries marks rows k first second) where
   abbrev row : Proposal
   row = row_at rows k
 
-  -- s is what stands in the list as boundary i
-  pub ends-are : {i : ℕ} {s : Segment} → i ≡ row.index → s ≡ segment_at boundaries (numbers_per_boundary * i) → s ≡ (C.boundary row.index).endpoints
-  ends-are w e = e ∙ ap (λ i. segment_at boundaries (numbers_per_boundary * i)) w ∙ sym (ap (λ b. b.endpoints) (h.told.bounds.at row.index h.fits.index_in))
+  -- s is what stands in the list as its boundary
+  pub ends-are : {s : Segment} → s ≡ segment_at boundaries (numbers_per_boundary * row.index) → s ≡ (C.boundary row.index).endpoints
+  ends-are e = e ∙ sym (ap (λ b. b.endpoints) (h.told.bounds.at row.index h.fits.index_in))
 
   pub row-pixels : {s : Segment} → s ≡ (C.boundary row.index).endpoints → PixelSegment s
   row-pixels e = subst⁻¹ PixelSegment e (h.told.pixels.ends row.index)
@@ -40,16 +40,16 @@ module _ {C : Context} {boundaries marks rows : List ℕ} {k : ℕ} {first secon
       }
 
   module _ {s : Segment} (ends : s ≡ (C.boundary row.index).endpoints) where
-    pub allowed-bridge : {r : Bool} → (row.kind ≡ 0 → ⊥) → r ≡ bridge_of (record_of first) s → r ≡ is_allowed C row
+    pub allowed-bridge : {r : Bool} → eqb row.kind 0 ≡ false → r ≡ bridge_of (record_of first) s → r ≡ is_allowed C row
     unfolding is_allowed bridge_region bridge_of
-    allowed-bridge n e = e ∙ ap₂ bridge_of h.first_is ends ∙ rw (ne_eqb row.kind 0 n)
+    allowed-bridge n e = e ∙ ap₂ bridge_of h.first_is ends ∙ rw n
 
     -- n counts the anchored regions
-    pub allowed-union : {r : Bool} {n : ℕ} → row.kind ≡ 0 → n ≡ bit (mark_at marks row.first) + bit (mark_at marks row.second)
+    pub allowed-union : {r : Bool} {n : ℕ} → eqb row.kind 0 ≡ true → n ≡ bit (mark_at marks row.first) + bit (mark_at marks row.second)
         → r ≡ union_of (record_of first) (record_of second) s (eqb n 1) → r ≡ is_allowed C row
     unfolding is_allowed union_regions union_of is_local
     allowed-union {n = n} z m e =
-        e ∙ (λ i. union_of (h.first_is i) (h.second_is i) (ends i) (eqb (anchored i) 1)) ∙ rw (eq-eqb row.kind 0 z)
+        e ∙ (λ i. union_of (h.first_is i) (h.second_is i) (ends i) (eqb (anchored i) 1)) ∙ rw z
       where
         anchored : n ≡ bit (C.anchored row.first) + bit (C.anchored row.second)
         anchored =

@@ -1,12 +1,13 @@
 -- What the functions on records ask of them, and of what a context has that `is_allowed` reads. Definitions only; assumes nothing.
-use Rattle.std.specs.Prelude.{ℕ, ◌+◌, ◌*◌, ◌<◌, ◌≡◌, List, length}
+use Rattle.std.specs.Prelude.{ℕ, ◌<◌, ◌≡◌, List, length}
 use Rattle.definitions.specs.RegionRecord as def
 use Rattle.definitions.specs.Context.{Context}
 use Rattle.laws.specs.FloatLaws.Pixels.{PixelRegion, PixelContext}
 use Rattle.context.specs.declared.Region.{Region}
 use Rattle.context.specs.Records.{record_of, Counted}
 use Rattle.context.specs.Shown.{ShownBoundaries, ShownAnchored}
-use Rattle.junction_proposals.specs.Rows.{numbers_per_proposal, row_at, RowFits}
+use Rattle.junction_proposals.specs.declared.proposals.Candidate.{Candidate}
+use Rattle.junction_proposals.specs.Rows.{row_at, RowFits}
 
 -- the record of a region of a map
 pub record OnMap (s : def.Region) : Type 0 where
@@ -21,9 +22,9 @@ pub record Told (C : Context) (boundaries marks : List ℕ) : Type 0 where
   pub counted : (r : ℕ) → Counted (C.region r)
 
 -- row k is whole, and the records are those of its regions
-pub record Asked (C : Context) (boundaries marks rows : List ℕ) (k : ℕ) (first second : Region) : Type 0 where
+pub record Asked (C : Context) (boundaries marks : List ℕ) (rows : List Candidate) (k : ℕ) (first second : Region) : Type 0 where
   pub told : Told C boundaries marks
-  pub whole : numbers_per_proposal * k + 3 < length rows
+  pub whole : k < length rows
   pub fits : RowFits C.count C.regions (row_at rows k)
   pub first_is : record_of first ≡ C.region (row_at rows k).first
   pub second_is : record_of second ≡ C.region (row_at rows k).second

@@ -12,7 +12,7 @@ ghost use Rattle.span_geometry.specs.Shapes.{InLimits};
 ghost use Rattle.elevations.specs.Forms.{share_form};
 ghost use Rattle.geometry.specs.Forms.{point_form, segment_from};
 ghost use Rattle.context.specs.Records.{record_of, Counted};
-ghost use Rattle.junction_proposals.specs.Rows.{numbers_per_proposal, row_at, is_allowed};
+ghost use Rattle.junction_proposals.specs.Rows.{row_at, is_allowed};
 ghost use Rattle.junction_regions.specs.Tests.{near_middle, near_span, is_local, union_of, bridge_of};
 ghost use Rattle.junction_regions.specs.Asked.{OnMap, Asked};
 
@@ -22,9 +22,8 @@ use geometry::Point;
 use geometry::boundaries::segment_of;
 use geometry::points::{center, point, point_segment_distance};
 use junction_proposals::distances::within_distance;
-use junction_proposals::proposals::NUMBERS_PER_PROPOSAL;
+use junction_proposals::proposals::Candidate;
 use junction_proposals::unions::anchored_bit;
-use plain_numbers::wide;
 use span_geometry::PixelPosition;
 
 const MAX_UNION_RADIUS_PIXELS: f64 = 512.0;
@@ -88,13 +87,10 @@ fn is_local(first: Region, second: Region, a: PixelPosition, b: PixelPosition, o
 }
 
 // Unions accept at 99 percent.
-fn is_accepted(share: Share) -> bool
+fn is_accepted(share: Option<Share>) -> bool
     ensures { result ≡ accepts (share_form share) }
 {
-    match share {
-        Share::None => false,
-        Share::Of(percent, _) => ACCEPTED_PERCENT <= percent,
-    }
+    share.is_some_and(|s| ACCEPTED_PERCENT <= s.percent)
 }
 
 // Whether both regions have an elevation of an accepted share, and it is the same.
@@ -136,27 +132,27 @@ pub fn bridge_region(pocket: Region, a: PixelPosition, b: PixelPosition) -> bool
 // ---- rows
 
 // Where the records of row k's regions stand.
-pub fn first_place(rows: &[u32], k: usize) -> usize
-    requires rows_room { numbers_per_proposal * k + 3 < length rows.now }
+pub fn first_place(rows: &[Candidate], k: usize) -> usize
+    requires rows_room { k < length rows.now }
     requires first_named { 1 ≤ (row_at rows.now k).first }
     ensures { result ≡ (row_at rows.now k).first - 1 }
 {
-    wide(rows[NUMBERS_PER_PROPOSAL * k + 2]) - 1
+    rows[k].first as usize - 1
 }
 
-pub fn second_place(rows: &[u32], k: usize) -> usize
-    requires rows_room { numbers_per_proposal * k + 3 < length rows.now }
+pub fn second_place(rows: &[Candidate], k: usize) -> usize
+    requires rows_room { k < length rows.now }
     requires second_named { 1 ≤ (row_at rows.now k).second }
     ensures { result ≡ (row_at rows.now k).second - 1 }
 {
-    wide(rows[NUMBERS_PER_PROPOSAL * k + 3]) - 1
+    rows[k].second as usize - 1
 }
 
 // Whether the records of its two regions allow the proposal of row k.
 pub fn is_allowed(
     boundaries: &[u64],
     marks: &[u16],
-    rows: &[u32],
+    rows: &[Candidate],
     k: usize,
     first: Region,
     second: Region,
@@ -166,11 +162,11 @@ pub fn is_allowed(
         Asked C boundaries.now marks.now rows.now k first second →
         result ≡ is_allowed C (row_at rows.now k) }
 {
-    let row = NUMBERS_PER_PROPOSAL * k;
-    let ends = segment_of(boundaries, wide(rows[row]));
-    if rows[row + 1] != 0 {
+    let row = rows[k];
+    let ends = segment_of(boundaries, row.index);
+    if !row.kind.is_union() {
         return bridge_region(first, ends.a, ends.b);
     }
-    let anchored = anchored_bit(marks, rows[row + 2]) + anchored_bit(marks, rows[row + 3]);
+    let anchored = anchored_bit(marks, row.first) + anchored_bit(marks, row.second);
     union_regions(first, second, ends.a, ends.b, anchored == 1)
 }

@@ -7,6 +7,7 @@ use lib.ListN.{get_or}
 use Rattle.definitions.specs.Scan.{filter, member}
 use Rattle.definitions.specs.Context.{Context}
 use Rattle.definitions.specs.Junctions.{proposals, removed}
+use Rattle.junction_proposals.specs.declared.proposals.Candidate.{Candidate}
 use Rattle.junction_proposals.specs.Lent.{Shows}
 use Rattle.junction_proposals.specs.Rows.{row_at, rows_of, is_allowed}
 use Rattle.junction_selection.specs.Taken.{removed_at}
@@ -15,7 +16,7 @@ use Rattle.junction_selection.proofs.Removing.{removed_is}
 use Rattle.junction_selection.proofs.ReservedPorts.{proposals_reserve}
 
 -- what `find_proposals` ensures of the rows, `allow_proposals` of the verdicts and `select_proposals` of the marks
-pub pass-removed : (boundaries smaller larger counts marks rows : List ℕ) (verdicts marked : List Bool) (count regions n : ℕ) (C : Context) → Shows boundaries smaller larger counts marks count regions C → filter (is_allowed C) (rows_of rows n) ≡ proposals C → ((k : ℕ) → k < n → get_or verdicts k false ≡ is_allowed C (row_at rows k)) → ((j : ℕ) → j < count → get_or marked j false ≡ removed_at boundaries smaller larger rows verdicts count n j) → (j : ℕ) → j < count → get_or marked j false ≡ member j (removed C)
+pub pass-removed : (boundaries smaller larger counts marks : List ℕ) (rows : List Candidate) (verdicts marked : List Bool) (count regions n : ℕ) (C : Context) → Shows boundaries smaller larger counts marks count regions C → filter (is_allowed C) (rows_of rows n) ≡ proposals C → ((k : ℕ) → k < n → get_or verdicts k false ≡ is_allowed C (row_at rows k)) → ((j : ℕ) → j < count → get_or marked j false ≡ removed_at boundaries smaller larger rows verdicts count n j) → (j : ℕ) → j < count → get_or marked j false ≡ member j (removed C)
 pass-removed boundaries smaller larger counts marks rows verdicts marked count regions n C S are judged selected j l =
     selected j l ∙ ap (λ c. removed_at boundaries smaller larger rows verdicts c n j) (sym S.counted)
     ∙ removed_is boundaries smaller larger counts marks C (shows-own S) (proposals_reserve boundaries smaller larger counts marks C (shows-own S)) rows verdicts n are judged j

@@ -15,6 +15,7 @@ use Rattle.laws.specs.ListLaws.Lists.{All, done}
 use Rattle.laws.specs.ListLaws.Below.{below_ext}
 use Rattle.laws.specs.OrderLaws.StableSort.{all-sort, map-sort}
 use Rattle.laws.specs.OrderLaws.Selection.{map-select}
+use Rattle.junction_proposals.specs.declared.proposals.Candidate.{Candidate}
 use Rattle.junction_proposals.specs.Lent.{Shows}
 use Rattle.junction_proposals.specs.Rows.{row_at, rows_of, is_allowed}
 use Rattle.junction_selection.specs.Ranks.{key_at, ranks_at, allowed_of, reserves_at, conflict_at}
@@ -59,7 +60,7 @@ module _ (boundaries smaller larger counts marks : List ℕ) (C : Context) (S : 
   conflict_is q p a b =
       λ t. b.same q.index a.index_in t || a.same p.index b.index_in t || below_ext C.count _ _ (λ j l. ap₂ ◌&&◌ (b.same j l) (a.same j l)) t || region_conflict q.kind p.kind q p
 
-  module _ (formed : All Reserving (proposals C)) (rows : List ℕ) (verdicts : List Bool) (n : ℕ) (are : filter (is_allowed C) (rows_of rows n) ≡ proposals C) (judged : (k : ℕ) → k < n → get_or verdicts k false ≡ is_allowed C (row_at rows k)) where
+  module _ (formed : All Reserving (proposals C)) (rows : List Candidate) (verdicts : List Bool) (n : ℕ) (are : filter (is_allowed C) (rows_of rows n) ≡ proposals C) (judged : (k : ℕ) → k < n → get_or verdicts k false ≡ is_allowed C (row_at rows k)) where
     allowed_is : allowed_of rows verdicts n ≡ proposals C
     unfolding allowed_of rows_of
     allowed_is = sym (collect-filter (is_allowed C) n (λ k. Some (row_at rows k)) (λ k. only_if (get_or verdicts k false) (row_at rows k)) (λ k l. filter_only (is_allowed C) true (row_at rows k) ∙ ap (λ b. to_list (only_if b (row_at rows k))) (sym (judged k l)))) ∙ are

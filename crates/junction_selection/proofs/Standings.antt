@@ -17,6 +17,7 @@ use Rattle.laws.specs.ListLaws.Below.{below_ext}
 use Rattle.laws.specs.ListLaws.Scans.{collect_ext}
 use Rattle.laws.specs.ListLaws.ScansOfAll.{collect-below}
 use Rattle.laws.specs.ListLaws.ScanSteps.{collect_next}
+use Rattle.junction_proposals.specs.declared.proposals.Candidate.{Candidate}
 use Rattle.junction_proposals.specs.Rows.{row_at}
 use Rattle.junction_selection.specs.Ranks.{order_of, reserves_at, conflict_at, selected_of, Rows}
 use Rattle.junction_selection.specs.Taken.{Standing}
@@ -55,19 +56,19 @@ marked_more {was} {reserved} {test} {j} {t} h l e =
 -- ---- the chosen
 
 -- the rows that an order names have boundaries
-pub order-all : (rows order : List ℕ) (count n t : ℕ) → ((k : ℕ) → k < n → (row_at rows k).index < count) → Rows order t n → All (λ q. q.index < count) (order_of rows order t)
+pub order-all : (rows : List Candidate) (order : List ℕ) (count n t : ℕ) → ((k : ℕ) → k < n → (row_at rows k).index < count) → Rows order t n → All (λ q. q.index < count) (order_of rows order t)
 unfolding order_of
 order-all rows order count n t below rs = collect-below (λ q. q.index < count) (λ k. Some (row_at rows (get_or order k 0))) t (λ k l. more (below (get_or order k 0) (rs k l)) done)
 
 -- one more in the order
-order_more : (rows taken : List ℕ) (t p : ℕ) → t < length taken → order_of rows (set taken t p) (t + 1) ≡ order_of rows taken t ++ (row_at rows p ∷ [])
+order_more : (rows : List Candidate) (taken : List ℕ) (t p : ℕ) → t < length taken → order_of rows (set taken t p) (t + 1) ≡ order_of rows taken t ++ (row_at rows p ∷ [])
 unfolding order_of
 order_more rows taken t p l =
     collect_next (λ k. Some (row_at rows (get_or (set taken t p) k 0))) t
     ∙ ap₂ (λ (x : List Proposal) (y : Proposal). x ++ (y ∷ [])) (collect_ext t (λ k. Some (row_at rows (get_or (set taken t p) k 0))) (λ k. Some (row_at rows (get_or taken k 0))) (λ k h. ap (λ x. Some (row_at rows x)) (get_or-set_other taken t k p 0 (λ e. omega arith))))
     (ap (row_at rows) (get_or-set_same taken t p 0 l))
 
-module _ (smaller larger rows taken : List ℕ) (removed reserved : List Bool) (count n t : ℕ) (chosen : List Proposal) (st : Standing smaller larger rows taken removed reserved count n t chosen) where
+module _ (smaller larger : List ℕ) (rows : List Candidate) (taken : List ℕ) (removed reserved : List Bool) (count n t : ℕ) (chosen : List Proposal) (st : Standing smaller larger rows taken removed reserved count n t chosen) where
   chosen-all : ((k : ℕ) → k < n → (row_at rows k).index < count) → All (λ q. q.index < count) chosen
   chosen-all below = rw st.are at (order-all rows taken count n t below st.rows_in)
 
@@ -128,15 +129,15 @@ module _ {A : Type 0} (conflict : A → A → Bool) where
   select_more acc [] x = refl
   select_more acc (y ∷ l) x = select_more (grown conflict acc y) l x
 
-pub selected_next : (smaller larger rows order : List ℕ) (count k : ℕ) → selected_of smaller larger rows order count (k + 1) ≡ grown (conflict_at smaller larger count) (selected_of smaller larger rows order count k) (row_at rows (get_or order k 0))
+pub selected_next : (smaller larger : List ℕ) (rows : List Candidate) (order : List ℕ) (count k : ℕ) → selected_of smaller larger rows order count (k + 1) ≡ grown (conflict_at smaller larger count) (selected_of smaller larger rows order count k) (row_at rows (get_or order k 0))
 unfolding selected_of order_of
 selected_next smaller larger rows order count k =
     ap (select (conflict_at smaller larger count) []) (collect_next (λ j. Some (row_at rows (get_or order j 0))) k)
     ∙ select_more (conflict_at smaller larger count) [] (collect k (λ j. Some (row_at rows (get_or order j 0)))) (row_at rows (get_or order k 0))
 
-pub standing-start : (smaller larger rows taken order : List ℕ) (removed reserved : List Bool) (count n : ℕ) → ((j : ℕ) → j < count → get_or removed j false ≡ false) → ((j : ℕ) → j < count → get_or reserved j false ≡ false) → Standing smaller larger rows taken removed reserved count n 0 (selected_of smaller larger rows order count 0)
+pub standing-start : (smaller larger : List ℕ) (rows : List Candidate) (taken order : List ℕ) (removed reserved : List Bool) (count n : ℕ) → ((j : ℕ) → j < count → get_or removed j false ≡ false) → ((j : ℕ) → j < count → get_or reserved j false ≡ false) → Standing smaller larger rows taken removed reserved count n 0 (selected_of smaller larger rows order count 0)
 unfolding selected_of order_of collect select any
 standing-start smaller larger rows taken order removed reserved count n a b = record { are = refl; rows_in = λ k h. absurd (omega arith); removed_at_lem = a; reserved_at = b }
 
-pub standing_as : {smaller larger rows taken : List ℕ} {removed reserved : List Bool} {count n t : ℕ} {chosen others : List Proposal} → Standing smaller larger rows taken removed reserved count n t chosen → chosen ≡ others → Standing smaller larger rows taken removed reserved count n t others
+pub standing_as : {smaller larger : List ℕ} {rows : List Candidate} {taken : List ℕ} {removed reserved : List Bool} {count n t : ℕ} {chosen others : List Proposal} → Standing smaller larger rows taken removed reserved count n t chosen → chosen ≡ others → Standing smaller larger rows taken removed reserved count n t others
 standing_as {smaller} {larger} {rows} {taken} {removed} {reserved} {count} {n} {t} st e = subst (λ (x : List Proposal). Standing smaller larger rows taken removed reserved count n t x) e st

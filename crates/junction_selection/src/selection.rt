@@ -2,35 +2,37 @@
 ghost use Rattle.std.specs.Prelude.{◌≡◌, false, ◌&&◌, ◌||◌, cond, List, [], ◌∷◌, ◌++◌, ℕ, ◌+◌, ◌*◌, ◌≤◌, ◌<◌, length, get_or, eqb};
 ghost use Rattle.definitions.specs.Scan.{any, any_below_lem};
 ghost use Rattle.definitions.specs.Junctions.{Proposal, region_conflict};
-ghost use Rattle.junction_proposals.specs.Rows.{numbers_per_proposal, row_at};
+ghost use Rattle.junction_proposals.specs.Rows.{row_at};
 ghost use Rattle.junction_selection.specs.Ranks.{order_of, reserves_at, conflict_at, selected_of, Rows};
 ghost use Rattle.junction_selection.specs.Taken.{Within, Selecting, Standing, Judged, removed_at};
 
 use crate::ranks::rank_proposals;
 use junction_proposals::ports::names_region;
-use junction_proposals::proposals::{MAX_PROPOSALS, NUMBERS_PER_PROPOSAL};
-use plain_numbers::wide;
+use junction_proposals::proposals::{Candidate, MAX_PROPOSALS};
 
 // Whether row p reserves boundary j as a port.
-pub fn reserves(smaller: &[u32; 256], larger: &[u32; 256], rows: &[u32], p: usize, j: usize) -> bool
-    requires { (numbers_per_proposal * p + 3 < length rows.now) × (j < 256) }
+pub fn reserves(
+    smaller: &[u32; 256],
+    larger: &[u32; 256],
+    rows: &[Candidate],
+    p: usize,
+    j: usize,
+) -> bool
+    requires { (p < length rows.now) × (j < 256) }
     ensures { result ≡ reserves_at smaller.now larger.now (row_at rows.now p) j }
 {
-    let k = NUMBERS_PER_PROPOSAL * p;
-    let index = wide(rows[k]);
-    let union = rows[k + 1] == 0;
-    let a = smaller[j];
-    let b = larger[j];
-    let first = names_region(a, b, rows[k + 2]);
-    let second = names_region(a, b, rows[k + 3]);
-    (first | (union & second)) & !(union & (j == index))
+    let row = rows[p];
+    let union = row.kind.is_union();
+    let first = names_region(smaller[j], larger[j], row.first);
+    let second = names_region(smaller[j], larger[j], row.second);
+    (first | (union & second)) & !(union & (j == row.index))
 }
 
 // Whether a port of row p is removed or reserved.
 fn port_taken(
     smaller: &[u32; 256],
     larger: &[u32; 256],
-    rows: &[u32],
+    rows: &[Candidate],
     removed: &[bool],
     reserved: &[bool],
     count: usize,
@@ -40,55 +42,42 @@ fn port_taken(
     ensures { result ≡ any_below_lem count (λ j. reserves_at smaller.now larger.now (row_at rows.now p) j
         && (get_or removed.now j false || get_or reserved.now j false)) }
 {
-    for j in 0..count {
-        if (removed[j] | reserved[j]) & reserves(smaller, larger, rows, p, j) {
-            return true;
-        }
-    }
-    false
+    (0..count).any(|j| (removed[j] | reserved[j]) & reserves(smaller, larger, rows, p, j))
 }
 
 // Whether row q, taken, keeps row p from being taken by its regions: two bridges may share their exterior, and nothing else.
-pub fn region_conflict(rows: &[u32], q: usize, p: usize) -> bool
-    requires { (numbers_per_proposal * q + 3 < length rows.now) × (numbers_per_proposal * p + 3 < length rows.now) }
+pub fn region_conflict(rows: &[Candidate], q: usize, p: usize) -> bool
+    requires { (q < length rows.now) × (p < length rows.now) }
     ensures { result ≡ region_conflict (row_at rows.now q).kind (row_at rows.now p).kind (row_at rows.now q)
         (row_at rows.now p) }
 {
-    let k = NUMBERS_PER_PROPOSAL * q;
-    let l = NUMBERS_PER_PROPOSAL * p;
-    let pockets = rows[k + 2] == rows[l + 2];
-    let outward = rows[k + 2] == rows[l + 3];
-    let inward = rows[k + 3] == rows[l + 2];
-    let exteriors = rows[k + 3] == rows[l + 3];
-    if rows[k + 1] == 0 {
-        return (pockets | inward) | (outward | exteriors);
-    }
-    if rows[l + 1] == 0 {
+    let taken = rows[q];
+    let other = rows[p];
+    let pockets = taken.first == other.first;
+    let outward = taken.first == other.second;
+    let inward = taken.second == other.first;
+    let exteriors = taken.second == other.second;
+    if taken.kind.is_union() | other.kind.is_union() {
         return (pockets | inward) | (outward | exteriors);
     }
     pockets | outward | inward
 }
 
 // Whether the regions of row p are taken by one of the first t taken rows.
-fn region_taken(rows: &[u32], taken: &[u32], n: usize, t: usize, p: usize) -> bool
-    requires sizes { (numbers_per_proposal * n ≤ length rows.now) × ((p < n) × (t ≤ length taken.now)) }
+fn region_taken(rows: &[Candidate], taken: &[u32], n: usize, t: usize, p: usize) -> bool
+    requires sizes { (n ≤ length rows.now) × ((p < n) × (t ≤ length taken.now)) }
     requires taken_rows { (k : ℕ) → k < t → get_or taken.now k 0 < n }
     ensures { result ≡ any (λ q. region_conflict q.kind (row_at rows.now p).kind q (row_at rows.now p))
         (order_of rows.now taken.now t) }
 {
-    for k in 0..t {
-        if region_conflict(rows, wide(taken[k]), p) {
-            return true;
-        }
-    }
-    false
+    (0..t).any(|k| region_conflict(rows, taken[k] as usize, p))
 }
 
 // Whether one of the first t taken rows conflicts with row p.
 fn is_refused(
     smaller: &[u32; 256],
     larger: &[u32; 256],
-    rows: &[u32],
+    rows: &[Candidate],
     removed: &[bool],
     reserved: &[bool],
     taken: &[u32],
@@ -105,8 +94,7 @@ fn is_refused(
         count n t chosen →
         result ≡ any (λ q. conflict_at smaller.now larger.now count q (row_at rows.now p)) chosen }
 {
-    let index = wide(rows[NUMBERS_PER_PROPOSAL * p]);
-    let own = reserved[index];
+    let own = reserved[rows[p].index];
     let ports = port_taken(smaller, larger, rows, removed, reserved, count, p);
     ports | own | region_taken(rows, taken, n, t, p)
 }
@@ -115,12 +103,12 @@ fn is_refused(
 fn reserve_ports(
     smaller: &[u32; 256],
     larger: &[u32; 256],
-    rows: &[u32],
+    rows: &[Candidate],
     reserved: &mut [bool],
     count: usize,
     p: usize,
 )
-    requires { (numbers_per_proposal * p + 3 < length rows.now) × ((count ≤ 256) × (count ≤ length reserved.old)) }
+    requires { (p < length rows.now) × ((count ≤ 256) × (count ≤ length reserved.old)) }
     ensures { (j : ℕ) →
         j < count →
         get_or reserved.new j false
@@ -135,7 +123,7 @@ fn reserve_ports(
 fn take_if_free(
     smaller: &[u32; 256],
     larger: &[u32; 256],
-    rows: &[u32],
+    rows: &[Candidate],
     removed: &mut [bool],
     reserved: &mut [bool],
     taken: &mut [u32],
@@ -161,8 +149,7 @@ fn take_if_free(
     ) {
         return t;
     }
-    let index = wide(rows[NUMBERS_PER_PROPOSAL * p]);
-    removed[index] = true;
+    removed[rows[p].index] = true;
     reserve_ports(smaller, larger, rows, reserved, count, p);
     taken[t] = p as u32;
     t + 1
@@ -172,7 +159,7 @@ fn take_if_free(
 fn select_ranked(
     smaller: &[u32; 256],
     larger: &[u32; 256],
-    rows: &[u32],
+    rows: &[Candidate],
     order: &[u32],
     removed: &mut [bool],
     reserved: &mut [bool],
@@ -193,7 +180,7 @@ fn select_ranked(
 {
     let mut t = 0;
     for k in 0..m {
-        let p = wide(order[k]);
+        let p = order[k] as usize;
         t = take_if_free(
             smaller, larger, rows, removed, reserved, taken, count, n, t, p,
         );
@@ -205,7 +192,7 @@ pub fn select_proposals(
     boundaries: &[u64],
     smaller: &[u32; 256],
     larger: &[u32; 256],
-    rows: &[u32],
+    rows: &[Candidate],
     verdicts: &[bool],
     removed: &mut [bool],
     count: usize,

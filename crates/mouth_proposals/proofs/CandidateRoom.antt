@@ -1,4 +1,5 @@
 -- The list of the candidates of a ramp goes on, mouth by mouth; a boundary that is no ramp, or no full cut, has none. Assumes nothing.
+use Rattle.mouth_proposals.specs.declared.candidates.Candidate.{Candidate}
 use Prim.Native.Nat.{ℕ, zero, suc}
 use native.Mathlib.Omega.{arith}
 use mathlib.Core.Path.{◌≡◌, refl, sym, ap₂, ◌∙◌}
@@ -20,26 +21,26 @@ unfolding collect
 collected f h zero = refl
 collected f h (suc k) = ap₂ (λ l o. l ++ to_list o) (collected f h k) (h k)
 
-pub filled_as : {C : Context} {mouths ramps outers kinds separations : List ℕ} {n : ℕ} {l k : List MouthProposal} → Filled C mouths ramps outers kinds separations n l → l ≡ k → Filled C mouths ramps outers kinds separations n k
-filled_as F e = record { listed = F.listed; entries = F.entries ∙ e }
+pub filled_as : {C : Context} {entries : List Candidate} {n : ℕ} {l k : List MouthProposal} → Filled C entries n l → l ≡ k → Filled C entries n k
+filled_as F e = record { listed = F.listed; proposed = F.proposed ∙ e }
 
 -- nothing is listed, and there is no candidate
-pub filled-empty : {C : Context} {mouths ramps outers kinds separations : List ℕ} (f : ℕ → Option MouthProposal) (k : ℕ) → ((m : ℕ) → f m ≡ None) → Filled C mouths ramps outers kinds separations 0 (collect k f)
+pub filled-empty : {C : Context} {entries : List Candidate} (f : ℕ → Option MouthProposal) (k : ℕ) → ((m : ℕ) → f m ≡ None) → Filled C entries 0 (collect k f)
 filled-empty f k none_at = filled_as nothing (sym (collected f none_at k))
   where
-    nothing : {C : Context} {mouths ramps outers kinds separations : List ℕ} → Filled C mouths ramps outers kinds separations 0 []
+    nothing : {C : Context} {entries : List Candidate} → Filled C entries 0 []
     nothing =
         record {
           listed = record { few = omega arith; mouth = λ k h. absurd (omega arith); ramp = λ k h. absurd (omega arith); outer = λ k h. absurd (omega arith); bits = λ k h. absurd (omega arith) };
-          entries = unfold collect in refl;
+          proposed = unfold collect in refl;
         }
 
-pub filled-start : {C : Context} {mouths ramps outers kinds separations : List ℕ} (f : ℕ → Option MouthProposal) → Filled C mouths ramps outers kinds separations 0 (collect 0 f)
+pub filled-start : {C : Context} {entries : List Candidate} (f : ℕ → Option MouthProposal) → Filled C entries 0 (collect 0 f)
 unfolding collect
 filled-start f =
     record {
       listed = record { few = omega arith; mouth = λ k h. absurd (omega arith); ramp = λ k h. absurd (omega arith); outer = λ k h. absurd (omega arith); bits = λ k h. absurd (omega arith) };
-      entries = refl;
+      proposed = refl;
     }
 
 -- ---- a boundary that is no ramp, or no full cut, has no candidates

@@ -1,5 +1,6 @@
 -- What is found of a mouth and a ramp is made of the regions of the mouth's pairs, by `proposal_of` or as a triangle; the region outside is a region of the map. Assumes
 -- nothing.
+use Rattle.mouth_proposals.specs.declared.mouths.MouthKind.{MouthKind}
 use Prim.Native.Nat.{ℕ, ◌≤◌, zero-le}
 use mathlib.Core.Path.{◌≡◌, refl, sym, ap, subst}
 use mathlib.Core.Bool.{Bool, true, false, not, ◌&&◌, ◌||◌, cond}
@@ -58,7 +59,7 @@ module _ (C : Context) (a m : ℕ) (named : All (Named C.regions) (C.pairs m)) w
       only false = tt
 
   -- what holds of both forms
-  module _ {P : MouthProposal → Type 0} (formed : (outer kind : ℕ) → outer ≤ C.regions → P (proposal_of C m a outer kind)) (three : P (triangle_of C a m)) where
+  module _ {P : MouthProposal → Type 0} (formed : (outer : ℕ) (kind : MouthKind) → outer ≤ C.regions → P (proposal_of C m a outer kind)) (three : P (triangle_of C a m)) where
     approach_on : (A : Option Approach) → Within C.regions A → OnO P (approach_mouth C m a A)
     unfolding approach_mouth
     approach_on None w = absent
@@ -97,7 +98,7 @@ module _ (C : Context) (a m : ℕ) (named : All (Named C.regions) (C.pairs m)) w
   abbrev Inside : MouthProposal → Type 0
   Inside p = All (λ r. r ≤ C.regions) p.outer
 
-  proposal-inside : (outer kind : ℕ) → outer ≤ C.regions → Inside (proposal_of C m a outer kind)
+  proposal-inside : (outer : ℕ) (kind : MouthKind) → outer ≤ C.regions → Inside (proposal_of C m a outer kind)
   unfolding proposal_of
   proposal-inside outer kind h = all_filter (λ r. not (eqb r 0)) (more h done)
 
@@ -105,7 +106,7 @@ module _ (C : Context) (a m : ℕ) (named : All (Named C.regions) (C.pairs m)) w
   unfolding distinct_regions
   triangle-inside = all_filter C.anchored (all_map (λ s h. h.1) (all-add_all done (all-named-regions named)))
 
-  pub outer-inside : (outer kind : ℕ) → Some (proposal_of C m a outer kind) ≡ found_mouth C a m → outer ≤ C.regions
+  pub outer-inside : (outer : ℕ) (kind : MouthKind) → Some (proposal_of C m a outer kind) ≡ found_mouth C a m → outer ≤ C.regions
   outer-inside outer kind e = head (subst (OnO Inside) (sym e) (found_on proposal-inside triangle-inside))
     where
       first : (b : Bool) → eqb outer 0 ≡ b → All (λ r. r ≤ C.regions) (cond (not b) (outer ∷ []) []) → outer ≤ C.regions

@@ -1,5 +1,5 @@
 -- What a mouth and a ramp propose before the records of regions are looked at, as the code has it: the region outside, and a kind. Definitions only; assumes nothing.
-use Rattle.std.specs.Prelude.{ℕ, ◌≤◌, Bool, ◌&&◌, ◌||◌, [], ◌∷◌}
+use Rattle.std.specs.Prelude.{ℕ, ◌≤◌, Bool, true, false, ◌&&◌, ◌||◌, [], ◌∷◌}
 use Rattle.std.proofs.Math.Bool.{not, cond}
 use Rattle.std.specs.Prelude.{Option, None, Some}
 use Rattle.std.proofs.Math.Dec.{eqb}
@@ -13,6 +13,8 @@ use Rattle.mouth_proposals.specs.Rows.{inner_of, one_of}
 use Rattle.mouth_proposals.specs.declared.approaches.Approach.{Approach}
 use Rattle.mouth_proposals.specs.declared.approaches.Approach.TheVariants as approach
 use Rattle.mouth_proposals.specs.declared.mouths.Mouth.{Mouth}
+use Rattle.mouth_proposals.specs.declared.mouths.MouthKind.{MouthKind}
+use Rattle.mouth_proposals.specs.declared.mouths.MouthKind.TheVariants as kind-of
 
 -- ---- approaches: the one region of the mouth that the ramp's own pair names
 
@@ -39,18 +41,28 @@ Within n (Some (approach.Star outer r)) = ((1 ≤ outer) × (outer ≤ n)) × ((
 
 -- ---- proposals
 
-abbrev pub plain : ℕ
-plain = 0
+abbrev pub plain : MouthKind
+plain = kind-of.Plain
 
-abbrev pub triangular : ℕ
-triangular = 1
+abbrev pub triangular : MouthKind
+triangular = kind-of.Triangular
 
-abbrev pub broad : ℕ
-broad = 2
+abbrev pub broad : MouthKind
+broad = kind-of.Broad
+
+abbrev pub is_triangular : MouthKind → Bool
+is_triangular kind-of.Plain = false
+is_triangular kind-of.Triangular = true
+is_triangular kind-of.Broad = false
+
+abbrev pub is_broad : MouthKind → Bool
+is_broad kind-of.Plain = false
+is_broad kind-of.Triangular = false
+is_broad kind-of.Broad = true
 
 module _ (C : Context) where
   -- of mouth m and ramp a; outer is 0 where no region is outside, and inner are the others that the mouth's pairs name
-  unfoldable pub proposal_of : ℕ → ℕ → ℕ → ℕ → MouthProposal
+  unfoldable pub proposal_of : ℕ → ℕ → ℕ → MouthKind → MouthProposal
   unfolding filter inner_of separation_of
   proposal_of m a outer kind =
       record {
@@ -58,8 +70,8 @@ module _ (C : Context) where
         ramp_index = a;
         outer = filter (λ r. not (eqb r 0)) (outer ∷ []);
         inner = inner_of outer (C.pairs m);
-        is_triangle = eqb kind triangular;
-        two_port_broad_approach = eqb kind broad;
+        is_triangle = is_triangular kind;
+        two_port_broad_approach = is_broad kind;
         separation = separation_of C m a;
       }
 

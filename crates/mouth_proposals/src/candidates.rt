@@ -9,37 +9,50 @@ ghost use Rattle.context.specs.Shown.{ShownTallies};
 ghost use Rattle.mouth_proposals.specs.Lent.{Shows, Shown};
 ghost use Rattle.mouth_proposals.specs.Candidates.{mouth_candidate};
 ghost use Rattle.mouth_proposals.specs.Ends.{EndsOf};
-ghost use Rattle.mouth_proposals.specs.Listed.{max_candidates, Filled, Roomy, Put};
+ghost use Rattle.mouth_proposals.specs.Listed.{max_candidates, blank, candidate, Filled, Roomy};
 
 use crate::ends::{OtherEnds, find_other_ends};
 use crate::measures::{is_close, separation_of};
-use crate::mouths::{Mouth, mouth_candidate};
+use crate::mouths::{Mouth, MouthKind, mouth_candidate};
 use context::pairs::full_cut;
 use geometry::boundaries::kind_at;
 
-// Writes entry n.
-fn put_candidate(
-    mouths: &mut [u8; 256],
-    ramps: &mut [u8; 256],
-    outers: &mut [u32; 256],
-    kinds: &mut [u8; 256],
-    separations: &mut [u64; 256],
-    n: usize,
-    m: usize,
-    a: usize,
-    outer: u32,
-    kind: u8,
-    bits: u64,
-)
-    requires { (n < max_candidates) × ((m < 256) × (a < 256)) }
-    ensures { Put mouths.old ramps.old outers.old kinds.old separations.old n m a outer
-        kind bits mouths.new ramps.new outers.new kinds.new separations.new }
-{
-    mouths[n] = m as u8;
-    ramps[n] = a as u8;
-    outers[n] = outer;
-    kinds[n] = kind;
-    separations[n] = bits;
+// What a mouth proposes to a ramp: their numbers, the region outside, 0 for none, the kind, and the bits of the separation.
+#[derive(Clone, Copy, PartialEq, Eq)]
+pub struct Candidate {
+    pub mouth: u8,
+    pub ramp: u8,
+    pub outer: u32,
+    pub kind: MouthKind,
+    pub separation: u64,
+}
+
+impl Candidate {
+    // What stands in a list where no candidate is written.
+    pub fn blank() -> Self
+        ensures { result ≡ blank }
+    {
+        Self {
+            mouth: 0,
+            ramp: 0,
+            outer: 0,
+            kind: MouthKind::Plain,
+            separation: 0,
+        }
+    }
+
+    fn of(m: usize, a: usize, found: Mouth, separation: u64) -> Self
+        requires { (m < 256) × (a < 256) }
+        ensures { result ≡ candidate m a found.outer found.kind separation }
+    {
+        Self {
+            mouth: m as u8,
+            ramp: a as u8,
+            outer: found.outer,
+            kind: found.kind,
+            separation,
+        }
+    }
 }
 
 // The bits of a separation.
@@ -59,51 +72,35 @@ fn push_mouth(
     counts: &[u32],
     marks: &[u16],
     count: usize,
-    mouths: &mut [u8; 256],
-    ramps: &mut [u8; 256],
-    outers: &mut [u32; 256],
-    kinds: &mut [u8; 256],
-    separations: &mut [u64; 256],
+    entries: &mut [Candidate; 256],
     n: usize,
     m: usize,
     a: usize,
     ends: OtherEnds,
 ) -> usize
     requires shown { Shown boundaries.now tallies.now pairs.now starts.now counts.now marks.now count }
-    requires roomy { Roomy mouths.old ramps.old outers.old kinds.old separations.old }
+    requires roomy { Roomy entries.old }
     requires places { (n < max_candidates) × ((m < count) × (a < count)) }
     ensures bound { (n ≤ result) × (result ≤ n + 1) }
-    ensures still_roomy { Roomy mouths.new ramps.new outers.new kinds.new separations.new }
+    ensures still_roomy { Roomy entries.new }
     ensures filled { (C : Context) (l : List MouthProposal) →
         Shows boundaries.now pairs.now starts.now counts.now marks.now count C →
         ShownTallies C tallies.now →
         no_ramp C a ≡ false →
         full_cut C a ≡ true →
         EndsOf C a ends →
-        Filled C mouths.old ramps.old outers.old kinds.old separations.old n l →
-        Filled C mouths.new ramps.new outers.new kinds.new separations.new result (l
+        Filled C entries.old n l →
+        Filled C entries.new result (l
         ++ to_list (mouth_candidate C a m)) }
 {
     match mouth_candidate(
         boundaries, tallies, pairs, starts, counts, marks, count, m, a, ends,
     ) {
         None => n,
-        Some(Mouth { outer, kind }) => {
+        Some(found) => {
             let separation = separation_of(boundaries, m, a);
             if is_close(separation) {
-                put_candidate(
-                    &mut *mouths,
-                    &mut *ramps,
-                    &mut *outers,
-                    &mut *kinds,
-                    &mut *separations,
-                    n,
-                    m,
-                    a,
-                    outer,
-                    kind,
-                    bits_of(separation),
-                );
+                entries[n] = Candidate::of(m, a, found, bits_of(separation));
                 n + 1
             } else {
                 n
@@ -121,26 +118,22 @@ fn push_mouths(
     counts: &[u32],
     marks: &[u16],
     count: usize,
-    mouths: &mut [u8; 256],
-    ramps: &mut [u8; 256],
-    outers: &mut [u32; 256],
-    kinds: &mut [u8; 256],
-    separations: &mut [u64; 256],
+    entries: &mut [Candidate; 256],
     a: usize,
     ends: OtherEnds,
 ) -> usize
     requires shown { Shown boundaries.now tallies.now pairs.now starts.now counts.now marks.now count }
-    requires roomy { Roomy mouths.old ramps.old outers.old kinds.old separations.old }
+    requires roomy { Roomy entries.old }
     requires place { a < count }
     ensures bound { result ≤ max_candidates }
-    ensures still_roomy { Roomy mouths.new ramps.new outers.new kinds.new separations.new }
+    ensures still_roomy { Roomy entries.new }
     ensures filled { (C : Context) →
         Shows boundaries.now pairs.now starts.now counts.now marks.now count C →
         ShownTallies C tallies.now →
         no_ramp C a ≡ false →
         full_cut C a ≡ true →
         EndsOf C a ends →
-        Filled C mouths.new ramps.new outers.new kinds.new separations.new result
+        Filled C entries.new result
         (collect count (mouth_candidate C a)) }
 {
     let mut n = 0;
@@ -153,11 +146,7 @@ fn push_mouths(
             counts,
             marks,
             count,
-            &mut *mouths,
-            &mut *ramps,
-            &mut *outers,
-            &mut *kinds,
-            &mut *separations,
+            &mut *entries,
             n,
             m,
             a,
@@ -176,22 +165,18 @@ pub fn push_ramp(
     counts: &[u32],
     marks: &[u16],
     count: usize,
-    mouths: &mut [u8; 256],
-    ramps: &mut [u8; 256],
-    outers: &mut [u32; 256],
-    kinds: &mut [u8; 256],
-    separations: &mut [u64; 256],
+    entries: &mut [Candidate; 256],
     a: usize,
 ) -> usize
     requires shown { Shown boundaries.now tallies.now pairs.now starts.now counts.now marks.now count }
-    requires roomy { Roomy mouths.old ramps.old outers.old kinds.old separations.old }
+    requires roomy { Roomy entries.old }
     requires place { a < count }
     ensures bound { result ≤ max_candidates }
-    ensures still_roomy { Roomy mouths.new ramps.new outers.new kinds.new separations.new }
+    ensures still_roomy { Roomy entries.new }
     ensures filled { (C : Context) →
         Shows boundaries.now pairs.now starts.now counts.now marks.now count C →
         ShownTallies C tallies.now →
-        Filled C mouths.new ramps.new outers.new kinds.new separations.new result
+        Filled C entries.new result
         (collect count (mouth_candidate C a)) }
 {
     if kind_at(boundaries, a) == 0 {
@@ -209,11 +194,7 @@ pub fn push_ramp(
         counts,
         marks,
         count,
-        &mut *mouths,
-        &mut *ramps,
-        &mut *outers,
-        &mut *kinds,
-        &mut *separations,
+        &mut *entries,
         a,
         ends,
     )

@@ -8,7 +8,7 @@ ghost use Rattle.context.specs.Shown.{pairs_between, ShownTallies, ShownPairs, S
 ghost use Rattle.context.specs.Rows.{Stretch, NamedRow};
 ghost use Rattle.mouth_proposals.specs.Lent.{Shows, Shown};
 ghost use Rattle.mouth_proposals.specs.Outers.{mark_at, inner_fits, with_region};
-ghost use Rattle.mouth_proposals.specs.Candidates.{Within, candidate_form, found_mouth, approach_mouth};
+ghost use Rattle.mouth_proposals.specs.Candidates.{is_triangular, is_broad, Within, candidate_form, found_mouth, approach_mouth};
 ghost use Rattle.mouth_proposals.specs.Ends.{EndsOf, EndKnown};
 
 use crate::approaches::{Approach, approach_of};
@@ -18,17 +18,39 @@ use crate::shapes::triangle_representative;
 use context::pairs::{full_cut, row_at};
 use geometry::boundaries::kind_at;
 
-pub const PLAIN: u8 = 0;
+// What a proposal is made of: one pair or a star, a triangle, or a broad approach of two ports.
+#[derive(Clone, Copy, PartialEq, Eq)]
+pub enum MouthKind {
+    Plain,
+    Triangular,
+    Broad,
+}
 
-pub const TRIANGULAR: u8 = 1;
+impl MouthKind {
+    pub fn is_triangular(self) -> bool
+        ensures { result ≡ is_triangular self }
+    {
+        match self {
+            MouthKind::Triangular => true,
+            _ => false,
+        }
+    }
 
-pub const BROAD: u8 = 2;
+    pub fn is_broad(self) -> bool
+        ensures { result ≡ is_broad self }
+    {
+        match self {
+            MouthKind::Broad => true,
+            _ => false,
+        }
+    }
+}
 
 // The region outside, 0 for none, and the kind; `candidate_form` of specs/Candidates.antt gives the proposal.
 #[derive(Clone, Copy, PartialEq, Eq)]
 pub struct Mouth {
     pub outer: u32,
-    pub kind: u8,
+    pub kind: MouthKind,
 }
 
 // The anchored regions of a triangle.
@@ -118,9 +140,15 @@ fn single_mouth(
         return None;
     }
     if (wide | overlay) & two {
-        Some(Mouth { outer, kind: BROAD })
+        Some(Mouth {
+            outer,
+            kind: MouthKind::Broad,
+        })
     } else {
-        Some(Mouth { outer, kind: PLAIN })
+        Some(Mouth {
+            outer,
+            kind: MouthKind::Plain,
+        })
     }
 }
 
@@ -169,9 +197,15 @@ fn star_mouth(
         return None;
     }
     if wide {
-        Some(Mouth { outer, kind: BROAD })
+        Some(Mouth {
+            outer,
+            kind: MouthKind::Broad,
+        })
     } else {
-        Some(Mouth { outer, kind: PLAIN })
+        Some(Mouth {
+            outer,
+            kind: MouthKind::Plain,
+        })
     }
 }
 
@@ -215,11 +249,11 @@ fn triangle_mouth(pairs: &[u32], starts: &[usize; 257], marks: &[u16], m: usize)
     match with_region(marks, three, q.hi) {
         Outers::None => Some(Mouth {
             outer: 0,
-            kind: TRIANGULAR,
+            kind: MouthKind::Triangular,
         }),
         Outers::One(r) => Some(Mouth {
             outer: r,
-            kind: TRIANGULAR,
+            kind: MouthKind::Triangular,
         }),
         Outers::Several => None,
     }

@@ -1,4 +1,6 @@
 -- A walk over the places of a mouth's rows asks every inner region of its proposal, and so whether their corners are near. Assumes nothing.
+use Rattle.mouth_proposals.specs.Candidates.{is_broad}
+use Rattle.mouth_proposals.specs.declared.mouths.MouthKind.{MouthKind}
 use Prim.Native.Nat.{ℕ, zero, suc, ◌+◌, ◌-◌, ◌*◌, ◌/◌, ◌%◌, ◌≤◌, ◌<◌}
 use native.Mathlib.Omega.{arith}
 use mathlib.Core.Path.{◌≡◌, refl, sym, ap, ap₂, ◌∙◌}
@@ -98,6 +100,6 @@ module _ {C : Context} {pairs starts : List ℕ} (P : ShownPairs C pairs starts)
       spread a b h = omega arith
 
   -- the second half of `is_local`, place by place
-  pub corners-near : (a kind : ℕ) → corners_near_lem C (proposal_of C m a outer kind) ≡ all_below (places_of starts m) (λ k. passes (λ r. region_near C m a (eqb kind broad) (C.region r)) (at k))
+  pub corners-near : (a : ℕ) (kind : MouthKind) → corners_near_lem C (proposal_of C m a outer kind) ≡ all_below (places_of starts m) (λ k. passes (λ r. region_near C m a (is_broad kind) (C.region r)) (at k))
   unfolding corners_near_lem proposal_of region_near corner_near
-  corners-near a kind = inner-all (λ r. region_near C m a (eqb kind broad) (C.region r))
+  corners-near a kind = inner-all (λ r. region_near C m a (is_broad kind) (C.region r))

@@ -1,5 +1,6 @@
 -- What the bests of the ramps say of all proposals: the least of them, if it is left, is the least of all that is left; and what is known of a ramp stays known when one
 -- more is taken. Assumes nothing.
+use Rattle.mouth_proposals.specs.declared.candidates.Candidate.{Candidate}
 use Prim.Native.Nat.{ℕ, ◌<◌}
 use mathlib.Core.Path.{◌≡◌, sym, ap, ◌∙◌, subst}
 use mathlib.Core.Bool.{Bool, true, false, not, ◌||◌, false≢true}
@@ -31,21 +32,21 @@ module _ (C : Context) where
   unfolding least_among proposals
   rows_least T = least_rows_lem (ranks_before C) weak (is_free T) (row_of C) C.count
 
-  module _ (T : List MouthProposal) {isKnown : ℕ → Type 0} {mouthof rampof outerof kindof apart : List ℕ} {found : List Bool} (B : Bests C T isKnown mouthof rampof outerof kindof apart found)
+  module _ (T : List MouthProposal) {isKnown : ℕ → Type 0} {bestof : List Candidate} {found : List Bool} (B : Bests C T isKnown bestof found)
       (every : (a : ℕ) → a < C.count → isKnown a) where
-    known : Under (ranks_before C) (is_free T) (least_from (ranks_before C) None (marked_entries C mouthof rampof outerof kindof found C.count)) (least_among C T (proposals C))
+    known : Under (ranks_before C) (is_free T) (least_from (ranks_before C) None (marked_entries C bestof found C.count)) (least_among C T (proposals C))
     unfolding marked_entries
     known =
-        subst (λ o. Under (ranks_before C) (is_free T) o (least_among C T (proposals C))) (sym (least_collected (ranks_before C) weak (marked_at C mouthof rampof outerof kindof found) C.count))
-        (subst (Under (ranks_before C) (is_free T) (least_rows (ranks_before C) weak C.count (marked_at C mouthof rampof outerof kindof found))) (sym (rows_least T))
-        (under-rows (ranks_before C) weak (is_free T) (marked_at C mouthof rampof outerof kindof found) (λ a. least_among C T (row_of C a)) C.count (λ a h. B.under a h (every a h))))
+        subst (λ o. Under (ranks_before C) (is_free T) o (least_among C T (proposals C))) (sym (least_collected (ranks_before C) weak (marked_at C bestof found) C.count))
+        (subst (Under (ranks_before C) (is_free T) (least_rows (ranks_before C) weak C.count (marked_at C bestof found))) (sym (rows_least T))
+        (under-rows (ranks_before C) weak (is_free T) (marked_at C bestof found) (λ a. least_among C T (row_of C a)) C.count (λ a h. B.under a h (every a h))))
 
     -- the least of the bests is left: it is the least of all that is left
-    pub best_least : (p : MouthProposal) → Some p ≡ least_from (ranks_before C) None (marked_entries C mouthof rampof outerof kindof found C.count) → is_refused C T p ≡ false → Some p ≡ least_among C T (proposals C)
+    pub best_least : (p : MouthProposal) → Some p ≡ least_from (ranks_before C) None (marked_entries C bestof found C.count) → is_refused C T p ≡ false → Some p ≡ least_among C T (proposals C)
     best_least p e free = sym (under_left (ranks_before C) weak (is_free T) (ap not free) (subst (λ o. Under (ranks_before C) (is_free T) o (least_among C T (proposals C))) (sym e) known))
 
     -- there is no best: nothing is left
-    pub none_left : None ≡ least_from (ranks_before C) None (marked_entries C mouthof rampof outerof kindof found C.count) → None ≡ least_among C T (proposals C)
+    pub none_left : None ≡ least_from (ranks_before C) None (marked_entries C bestof found C.count) → None ≡ least_among C T (proposals C)
     none_left e = sym (under_none (ranks_before C) weak (is_free T) (subst (λ o. Under (ranks_before C) (is_free T) o (least_among C T (proposals C))) (sym e) known))
 
   still-refused : (T : List MouthProposal) (q p : MouthProposal) → is_free (T ++ (q ∷ [])) p ≡ true → is_free T p ≡ true

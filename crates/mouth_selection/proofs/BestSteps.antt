@@ -1,4 +1,5 @@
 -- The steps of the choice by bests: the best of a ramp is put, a proposal is taken, and what falls with each. Assumes nothing.
+use Rattle.mouth_proposals.specs.declared.candidates.Candidate.{Candidate}
 use Prim.Native.Nat.{ℕ, ◌-◌, ◌%◌, ◌≤◌, ◌<◌}
 use native.Mathlib.Omega.{arith}
 use mathlib.Core.Path.{◌≡◌, refl, sym, ap, ◌∙◌, subst}
@@ -19,8 +20,7 @@ use Rattle.laws.specs.ListLaws.ScanSteps.{count-le}
 use Rattle.laws.specs.NumberLaws.Comparisons.{same_or}
 use Rattle.laws.specs.RegionLaws.OneMore.{OneMore, count_more}
 use Rattle.context.specs.Shown.{ShownPairs, ShownAnchored}
-use Rattle.mouth_proposals.specs.Candidates.{proposal_of}
-use Rattle.mouth_proposals.specs.Listed.{entry_at, Roomy}
+use Rattle.mouth_proposals.specs.Listed.{blank, proposal_in, entry_at, Roomy}
 use Rattle.mouth_selection.specs.Held.{is_refused, TakenState}
 use Rattle.mouth_selection.specs.Entries.{marked_at, marked_entries, entry_if, Named, Measured}
 use Rattle.mouth_selection.specs.Rounds.{Under, same, least_from, least_among}
@@ -32,8 +32,8 @@ use Rattle.mouth_selection.proofs.GoneMouths.{used_none}
 
 -- ---- what the bests say
 
-pub progress_as : {C : Context} {isKnown willKnow : ℕ → Type 0} {marks : List ℕ} {gone used : List Bool} {mouthof rampof outerof kindof apart : List ℕ} {found fresh : List Bool}
-    → ((i : ℕ) → willKnow i → isKnown i) → Progress C isKnown marks gone used mouthof rampof outerof kindof apart found fresh → Progress C willKnow marks gone used mouthof rampof outerof kindof apart found fresh
+pub progress_as : {C : Context} {isKnown willKnow : ℕ → Type 0} {marks : List ℕ} {gone used : List Bool} {bestof : List Candidate} {found fresh : List Bool}
+    → ((i : ℕ) → willKnow i → isKnown i) → Progress C isKnown marks gone used bestof found fresh → Progress C willKnow marks gone used bestof found fresh
 progress_as f P =
     record {
       chosen = P.chosen;
@@ -44,13 +44,13 @@ progress_as f P =
       anchored = P.anchored;
     }
 
-module _ {boundaries pairs starts : List ℕ} {count : ℕ} {C : Context} {marks : List ℕ} {gone used : List Bool} {mouthof rampof outerof kindof apart : List ℕ} {found fresh : List Bool}
-    (L : Lists boundaries pairs starts count C) (P : Progress C (λ i. i < count) marks gone used mouthof rampof outerof kindof apart found fresh) where
-  pub named_count : Named C mouthof rampof outerof count
-  named_count = subst (Named C mouthof rampof outerof) L.counted P.bests.named
+module _ {boundaries pairs starts : List ℕ} {count : ℕ} {C : Context} {marks : List ℕ} {gone used : List Bool} {bestof : List Candidate} {found fresh : List Bool}
+    (L : Lists boundaries pairs starts count C) (P : Progress C (λ i. i < count) marks gone used bestof found fresh) where
+  pub named_count : Named C bestof count
+  named_count = subst (Named C bestof) L.counted P.bests.named
 
-  pub measured-count : Measured C mouthof rampof apart found count
-  measured-count = subst (Measured C mouthof rampof apart found) L.counted P.bests.measured
+  pub measured-count : Measured C bestof found count
+  measured-count = subst (Measured C bestof found) L.counted P.bests.measured
 
   pub few-count : count ≤ 256
   few-count = omega (arith, L.counted, L.bounds.few)
@@ -60,21 +60,21 @@ module _ {boundaries pairs starts : List ℕ} {count : ℕ} {C : Context} {marks
   ended e = record { at = round_last P.chosen P.state P.same e }
 
   -- a is the least of the bests
-  module _ (a : ℕ) (e : entry_if C mouthof rampof outerof kindof count a ≡ least_from (ranks_before C) None (marked_entries C mouthof rampof outerof kindof found count)) where
-    least_all : entry_if C mouthof rampof outerof kindof count a ≡ least_from (ranks_before C) None (marked_entries C mouthof rampof outerof kindof found C.count)
-    least_all = e ∙ ap (λ n. least_from (ranks_before C) None (marked_entries C mouthof rampof outerof kindof found n)) (sym L.counted)
+  module _ (a : ℕ) (e : entry_if C bestof count a ≡ least_from (ranks_before C) None (marked_entries C bestof found count)) where
+    least_all : entry_if C bestof count a ≡ least_from (ranks_before C) None (marked_entries C bestof found C.count)
+    least_all = e ∙ ap (λ n. least_from (ranks_before C) None (marked_entries C bestof found n)) (sym L.counted)
 
     pub no_best : a ≡ count → Ended C gone
-    no_best f = ended (none_left C P.chosen P.bests (λ i h. omega (arith, h, L.counted)) (sym (entry_none C mouthof rampof outerof kindof count a f) ∙ least_all))
+    no_best f = ended (none_left C P.chosen P.bests (λ i h. omega (arith, h, L.counted)) (sym (entry_none C bestof count a f) ∙ least_all))
 
-    pub best_first : a < count → is_refused C P.chosen (entry_at C mouthof rampof outerof kindof a) ≡ false → Some (entry_at C mouthof rampof outerof kindof a) ≡ least_among C P.chosen (proposals C)
+    pub best_first : a < count → is_refused C P.chosen (entry_at C bestof a) ≡ false → Some (entry_at C bestof a) ≡ least_among C P.chosen (proposals C)
     best_first h free =
-        best_least C P.chosen P.bests (λ i h. omega (arith, h, L.counted)) (entry_at C mouthof rampof outerof kindof a)
-        (sym (entry_in C mouthof rampof outerof kindof count a h) ∙ least_all) free
+        best_least C P.chosen P.bests (λ i h. omega (arith, h, L.counted)) (entry_at C bestof a)
+        (sym (entry_in C bestof count a h) ∙ least_all) free
 
 -- ---- a list with one entry put
 
-module _ {b : Bool} {l : List ℕ} {a v : ℕ} {k : List ℕ} (e : PutIf b l a v k) where
+module _ {b : Bool} {l : List Candidate} {a : ℕ} {v : Candidate} {k : List Candidate} (e : PutIf b l a v k) where
   pub put-length : {n : ℕ} → length l ≡ n → length k ≡ n
   put-length h = ap length e.is ∙ go b ∙ h
     where
@@ -82,58 +82,43 @@ module _ {b : Bool} {l : List ℕ} {a v : ℕ} {k : List ℕ} (e : PutIf b l a v
       go true = length-set l a v
       go false = refl
 
-  put_at : a < length l → b ≡ true → get_or k a 0 ≡ v
-  put_at h t = ap (λ k. get_or k a 0) e.is ∙ ap (λ b. get_or (cond b (set l a v) l) a 0) t ∙ get_or-set_same l a v 0 h
+  put_at : a < length l → b ≡ true → get_or k a blank ≡ v
+  put_at h t = ap (λ k. get_or k a blank) e.is ∙ ap (λ b. get_or (cond b (set l a v) l) a blank) t ∙ get_or-set_same l a v blank h
 
-  put_none : (i : ℕ) → b ≡ false → get_or k i 0 ≡ get_or l i 0
-  put_none i f = ap (λ k. get_or k i 0) e.is ∙ ap (λ b. get_or (cond b (set l a v) l) i 0) f
+  put_none : (i : ℕ) → b ≡ false → get_or k i blank ≡ get_or l i blank
+  put_none i f = ap (λ k. get_or k i blank) e.is ∙ ap (λ b. get_or (cond b (set l a v) l) i blank) f
 
-  put-off : (i : ℕ) → (i ≡ a → ⊥) → get_or k i 0 ≡ get_or l i 0
-  put-off i h = ap (λ k. get_or k i 0) e.is ∙ go b
+  put-off : (i : ℕ) → (i ≡ a → ⊥) → get_or k i blank ≡ get_or l i blank
+  put-off i h = ap (λ k. get_or k i blank) e.is ∙ go b
     where
-      go : (b : Bool) → get_or (cond b (set l a v) l) i 0 ≡ get_or l i 0
-      go true = get_or-set_other l a i v 0 h
+      go : (b : Bool) → get_or (cond b (set l a v) l) i blank ≡ get_or l i blank
+      go true = get_or-set_other l a i v blank h
       go false = refl
 
   -- what holds of an entry before, and of what is put
-  put_keeps : (Q : ℕ → Type 0) → a < length l → (b ≡ true → Q v) → (i : ℕ) → Q (get_or l i 0) → Q (get_or k i 0)
+  put_keeps : (Q : Candidate → Type 0) → a < length l → (b ≡ true → Q v) → (i : ℕ) → Q (get_or l i blank) → Q (get_or k i blank)
   put_keeps Q h new i old = ⊎_elim here (λ n. subst Q (sym (put-off i n)) old) (same_or i a)
     where
-      here : i ≡ a → Q (get_or k i 0)
+      here : i ≡ a → Q (get_or k i blank)
       here s = go b refl
         where
-          go : (c : Bool) → b ≡ c → Q (get_or k i 0)
-          go true t = subst (λ i. Q (get_or k i 0)) (sym s) (subst Q (sym (put_at h t)) (new t))
+          go : (c : Bool) → b ≡ c → Q (get_or k i blank)
+          go true t = subst (λ i. Q (get_or k i blank)) (sym s) (subst Q (sym (put_at h t)) (new t))
           go false f = subst Q (sym (put_none i f)) old
 
 -- ---- the best of ramp a is put
 
-module _ {C : Context} {isKnown : ℕ → Type 0} {marks : List ℕ} {gone used : List Bool} {mouthof rampof outerof kindof apart : List ℕ} {found fresh : List Bool}
-    (P : Progress C isKnown marks gone used mouthof rampof outerof kindof apart found fresh)
-    {a : ℕ} {mouths ramps outers kinds separations : List ℕ} {n k : ℕ} (H : BestOf C P.chosen a mouths ramps outers kinds separations n k)
-    {mouthof' rampof' outerof' kindof' apart' : List ℕ}
-    (W : BestPut mouths ramps outers kinds separations n k a mouthof rampof outerof kindof apart mouthof' rampof' outerof' kindof' apart')
-    (R : Roomy mouthof rampof outerof kindof apart) (few : a < 256) (found_long : length found ≡ 256) (fresh_long : length fresh ≡ 256) where
-  module _ (t : ltb k n ≡ true) where
-    m_at : get_or mouthof' a 0 ≡ get_or mouths k 0
-    m_at = put_at W.mouth (omega (arith, few, R.mouths_long)) t
+module _ {C : Context} {isKnown : ℕ → Type 0} {marks : List ℕ} {gone used : List Bool} {bestof : List Candidate} {found fresh : List Bool}
+    (P : Progress C isKnown marks gone used bestof found fresh)
+    {a : ℕ} {entries : List Candidate} {n k : ℕ} (H : BestOf C P.chosen a entries n k)
+    {bestof' : List Candidate}
+    (W : BestPut entries n k a bestof bestof')
+    (R : Roomy bestof) (few : a < 256) (found_long : length found ≡ 256) (fresh_long : length fresh ≡ 256) where
+  entry_at_lem : ltb k n ≡ true → entry_at C bestof' a ≡ entry_at C entries k
+  entry_at_lem t = ap (proposal_in C) (put_at W.put (omega (arith, few, R.long)) t)
 
-    r_at : get_or rampof' a 0 ≡ get_or ramps k 0
-    r_at = put_at W.ramp (omega (arith, few, R.ramps_long)) t
-
-    entry_at_lem : entry_at C mouthof' rampof' outerof' kindof' a ≡ entry_at C mouths ramps outers kinds k
-    entry_at_lem =
-        let o = put_at W.outer (omega (arith, few, R.outers_long)) t in
-        let d = put_at W.kind (omega (arith, few, R.kinds_long)) t in
-        λ i. proposal_of C (m_at i) (r_at i) (o i) (d i)
-
-  entry-off : (i : ℕ) → (i ≡ a → ⊥) → entry_at C mouthof' rampof' outerof' kindof' i ≡ entry_at C mouthof rampof outerof kindof i
-  entry-off i h =
-      let m = put-off W.mouth i h in
-      let r = put-off W.ramp i h in
-      let o = put-off W.outer i h in
-      let d = put-off W.kind i h in
-      λ j. proposal_of C (m j) (r j) (o j) (d j)
+  entry-off : (i : ℕ) → (i ≡ a → ⊥) → entry_at C bestof' i ≡ entry_at C bestof i
+  entry-off i h = ap (proposal_in C) (put-off W.put i h)
 
   found_at : get_or (set found a (ltb k n)) a false ≡ ltb k n
   found_at = get_or-set_same found a (ltb k n) false (omega (arith, few, found_long))
@@ -141,37 +126,36 @@ module _ {C : Context} {isKnown : ℕ → Type 0} {marks : List ℕ} {gone used 
   found-off : (i : ℕ) → (i ≡ a → ⊥) → get_or (set found a (ltb k n)) i false ≡ get_or found i false
   found-off i h = get_or-set_other found a i (ltb k n) false h
 
-  marked_at_lem : marked_at C mouthof' rampof' outerof' kindof' (set found a (ltb k n)) a ≡ entry_if C mouths ramps outers kinds n k
-  marked_at_lem = ap (λ b. only_if b (entry_at C mouthof' rampof' outerof' kindof' a)) found_at ∙ go (ltb k n) refl
+  marked_at_lem : marked_at C bestof' (set found a (ltb k n)) a ≡ entry_if C entries n k
+  marked_at_lem = ap (λ b. only_if b (entry_at C bestof' a)) found_at ∙ go (ltb k n) refl
     where
-      go : (b : Bool) → ltb k n ≡ b → only_if b (entry_at C mouthof' rampof' outerof' kindof' a) ≡ only_if b (entry_at C mouths ramps outers kinds k)
+      go : (b : Bool) → ltb k n ≡ b → only_if b (entry_at C bestof' a) ≡ only_if b (entry_at C entries k)
       go true t = ap Some (entry_at_lem t)
       go false f = refl
 
-  -- the separation of ramp i
-  bits : (i : ℕ) → i < C.count → get_or (set found a (ltb k n)) i false ≡ true
-      → get_or apart' i 0 ≡ to_bits binary64 (separation_of C (get_or mouthof' i 0) (get_or rampof' i 0))
+  -- an entry has the bits of its separation
+  abbrev HasBits : Candidate → Type 0
+  HasBits e = e.separation ≡ to_bits binary64 (separation_of C e.mouth e.ramp)
+
+  bits : (i : ℕ) → i < C.count → get_or (set found a (ltb k n)) i false ≡ true → HasBits (get_or bestof' i blank)
   bits i h f = ⊎_elim here there (same_or i a)
     where
-      here : i ≡ a → get_or apart' i 0 ≡ to_bits binary64 (separation_of C (get_or mouthof' i 0) (get_or rampof' i 0))
+      here : i ≡ a → HasBits (get_or bestof' i blank)
       here s =
           let t : ltb k n ≡ true = sym found_at ∙ ap (λ i. get_or (set found a (ltb k n)) i false) (sym s) ∙ f in
-          subst (λ i. get_or apart' i 0 ≡ to_bits binary64 (separation_of C (get_or mouthof' i 0) (get_or rampof' i 0))) (sym s)
-          (put_at W.bits (omega (arith, few, R.separations_long)) t ∙ H.bits (ltb-true k n t)
-          ∙ sym (λ j. to_bits binary64 (separation_of C (m_at t j) (r_at t j))))
+          subst (λ i. HasBits (get_or bestof' i blank)) (sym s) (subst HasBits (sym (put_at W.put (omega (arith, few, R.long)) t)) (H.bits (ltb-true k n t)))
 
-      there : (i ≡ a → ⊥) → get_or apart' i 0 ≡ to_bits binary64 (separation_of C (get_or mouthof' i 0) (get_or rampof' i 0))
-      there d =
-          put-off W.bits i d ∙ P.bests.measured.bits i h (sym (found-off i d) ∙ f)
-          ∙ sym (let m = put-off W.mouth i d in let r = put-off W.ramp i d in λ j. to_bits binary64 (separation_of C (m j) (r j)))
+      there : (i ≡ a → ⊥) → HasBits (get_or bestof' i blank)
+      there d = subst HasBits (sym (put-off W.put i d)) (P.bests.measured.bits i h (sym (found-off i d) ∙ f))
 
   pub best_put : {willKnow : ℕ → Type 0} → ((i : ℕ) → willKnow i → (i ≡ a → ⊥) → isKnown i)
-      → Progress C willKnow marks gone used mouthof' rampof' outerof' kindof' apart' (set found a (ltb k n)) (set fresh a true)
+      → Progress C willKnow marks gone used bestof' (set found a (ltb k n)) (set fresh a true)
   best_put more =
       let named = P.bests.named in
-      let mouth : (i : ℕ) → i < C.count → get_or mouthof' i 0 < C.count = λ i h. put_keeps W.mouth (λ x. x < C.count) (omega (arith, few, R.mouths_long)) (λ t. H.mouth (ltb-true k n t)) i (named.mouth i h) in
-      let ramp : (i : ℕ) → i < C.count → get_or rampof' i 0 < C.count = λ i h. put_keeps W.ramp (λ x. x < C.count) (omega (arith, few, R.ramps_long)) (λ t. H.ramp (ltb-true k n t)) i (named.ramp i h) in
-      let outer : (i : ℕ) → i < C.count → get_or outerof' i 0 ≤ C.regions = λ i h. put_keeps W.outer (λ x. x ≤ C.regions) (omega (arith, few, R.outers_long)) (λ t. H.outer (ltb-true k n t)) i (named.outer i h) in
+      let keeps : (Q : Candidate → Type 0) → (ltb k n ≡ true → Q (get_or entries k blank)) → (i : ℕ) → Q (get_or bestof i blank) → Q (get_or bestof' i blank) = λ Q. put_keeps W.put Q (omega (arith, few, R.long)) in
+      let mouth : (i : ℕ) → i < C.count → (get_or bestof' i blank).mouth < C.count = λ i h. keeps (λ x. x.mouth < C.count) (λ t. H.mouth (ltb-true k n t)) i (named.mouth i h) in
+      let ramp : (i : ℕ) → i < C.count → (get_or bestof' i blank).ramp < C.count = λ i h. keeps (λ x. x.ramp < C.count) (λ t. H.ramp (ltb-true k n t)) i (named.ramp i h) in
+      let outer : (i : ℕ) → i < C.count → (get_or bestof' i blank).outer ≤ C.regions = λ i h. keeps (λ x. x.outer ≤ C.regions) (λ t. H.outer (ltb-true k n t)) i (named.outer i h) in
       record {
         chosen = P.chosen;
         state = P.state;
@@ -185,25 +169,25 @@ module _ {C : Context} {isKnown : ℕ → Type 0} {marks : List ℕ} {gone used 
         anchored = P.anchored;
       }
     where
-      here : (i : ℕ) → i ≡ a → Under (ranks_before C) (λ p. not (is_refused C P.chosen p)) (marked_at C mouthof' rampof' outerof' kindof' (set found a (ltb k n)) i) (least_among C P.chosen (row_of C i))
+      here : (i : ℕ) → i ≡ a → Under (ranks_before C) (λ p. not (is_refused C P.chosen p)) (marked_at C bestof' (set found a (ltb k n)) i) (least_among C P.chosen (row_of C i))
       here i s =
-          subst (λ i. Under (ranks_before C) (λ p. not (is_refused C P.chosen p)) (marked_at C mouthof' rampof' outerof' kindof' (set found a (ltb k n)) i) (least_among C P.chosen (row_of C i))) (sym s)
-          (subst (Under (ranks_before C) (λ p. not (is_refused C P.chosen p)) (marked_at C mouthof' rampof' outerof' kindof' (set found a (ltb k n)) a)) (marked_at_lem ∙ H.least) same)
+          subst (λ i. Under (ranks_before C) (λ p. not (is_refused C P.chosen p)) (marked_at C bestof' (set found a (ltb k n)) i) (least_among C P.chosen (row_of C i))) (sym s)
+          (subst (Under (ranks_before C) (λ p. not (is_refused C P.chosen p)) (marked_at C bestof' (set found a (ltb k n)) a)) (marked_at_lem ∙ H.least) same)
 
       there : (i : ℕ) → (i ≡ a → ⊥) → i < C.count → isKnown i
-          → Under (ranks_before C) (λ p. not (is_refused C P.chosen p)) (marked_at C mouthof' rampof' outerof' kindof' (set found a (ltb k n)) i) (least_among C P.chosen (row_of C i))
+          → Under (ranks_before C) (λ p. not (is_refused C P.chosen p)) (marked_at C bestof' (set found a (ltb k n)) i) (least_among C P.chosen (row_of C i))
       there i d h w =
           subst (λ o. Under (ranks_before C) (λ p. not (is_refused C P.chosen p)) o (least_among C P.chosen (row_of C i)))
           (sym (λ j. only_if (found-off i d j) (entry-off i d j))) (P.bests.under i h w)
 
-      left_at : (i : ℕ) → i ≡ a → get_or (set found a (ltb k n)) i false ≡ true → is_refused C P.chosen (entry_at C mouthof' rampof' outerof' kindof' i) ≡ false
+      left_at : (i : ℕ) → i ≡ a → get_or (set found a (ltb k n)) i false ≡ true → is_refused C P.chosen (entry_at C bestof' i) ≡ false
       left_at i s g =
           let t : ltb k n ≡ true = sym found_at ∙ ap (λ i. get_or (set found a (ltb k n)) i false) (sym s) ∙ g in
-          ap (λ i. is_refused C P.chosen (entry_at C mouthof' rampof' outerof' kindof' i)) s ∙ ap (is_refused C P.chosen) (entry_at_lem t)
-          ∙ least_left-over C P.chosen (row_of C a) (entry_at C mouths ramps outers kinds k) (sym (entry_in C mouths ramps outers kinds n k (ltb-true k n t)) ∙ H.least)
+          ap (λ i. is_refused C P.chosen (entry_at C bestof' i)) s ∙ ap (is_refused C P.chosen) (entry_at_lem t)
+          ∙ least_left-over C P.chosen (row_of C a) (entry_at C entries k) (sym (entry_in C entries n k (ltb-true k n t)) ∙ H.least)
 
       left-off : (i : ℕ) → (i ≡ a → ⊥) → i < C.count → get_or (set fresh a true) i false ≡ true → get_or (set found a (ltb k n)) i false ≡ true
-          → is_refused C P.chosen (entry_at C mouthof' rampof' outerof' kindof' i) ≡ false
+          → is_refused C P.chosen (entry_at C bestof' i) ≡ false
       left-off i d h f g =
           ap (is_refused C P.chosen) (entry-off i d) ∙ P.left i h (sym (get_or-set_other fresh a i true false d) ∙ f) (sym (found-off i d) ∙ g)
 
@@ -212,11 +196,11 @@ module _ {C : Context} {isKnown : ℕ → Type 0} {marks : List ℕ} {gone used 
 pub still-anchored : {C : Context} {marks marks' : List ℕ} → ShownAnchored C marks → length marks' ≡ length marks → ((i : ℕ) → i < length marks → get_or marks' i 0 % 2 ≡ get_or marks i 0 % 2) → ShownAnchored C marks'
 still-anchored A e odd = record { long = omega (arith, A.long, e); at = λ r h k. A.at r h k ∙ sym (ap (λ n. eqb n 1) (odd (r - 1) (omega (arith, h, k, A.long)))) }
 
-module _ {C : Context} {count : ℕ} {marks : List ℕ} {gone used : List Bool} {mouthof rampof outerof kindof apart : List ℕ} {found fresh : List Bool}
-    (P : Progress C (λ i. i < count) marks gone used mouthof rampof outerof kindof apart found fresh) (counted : C.count ≡ count) where
+module _ {C : Context} {count : ℕ} {marks : List ℕ} {gone used : List Bool} {bestof : List Candidate} {found fresh : List Bool}
+    (P : Progress C (λ i. i < count) marks gone used bestof found fresh) (counted : C.count ≡ count) where
   pub taken-progress : (p : MouthProposal) → Some p ≡ least_among C P.chosen (proposals C) → {pairs starts : List ℕ} → ShownPairs C pairs starts
       → {marks' : List ℕ} {gone' used' found' fresh' : List Bool} → TakenState C (P.chosen ++ (p ∷ [])) gone' used' marks' → ShownAnchored C marks' → Renewed used' found found' fresh' count
-      → Progress C (λ i. i < count) marks' gone' used' mouthof rampof outerof kindof apart found' fresh'
+      → Progress C (λ i. i < count) marks' gone' used' bestof found' fresh'
   taken-progress p least rows {used' = used'} {found' = found'} {fresh' = fresh'} S A N =
       record {
         chosen = P.chosen ++ (p ∷ []);
@@ -244,14 +228,14 @@ module _ {C : Context} {count : ℕ} {marks : List ℕ} {gone used : List Bool} 
       still_marked false x = refl
 
       under : (i : ℕ) → i < C.count → i < count → (u : Bool) → get_or used' i false ≡ u
-          → Under (ranks_before C) (λ q. not (is_refused C (P.chosen ++ (p ∷ [])) q)) (marked_at C mouthof rampof outerof kindof found' i) (least_among C (P.chosen ++ (p ∷ [])) (row_of C i))
+          → Under (ranks_before C) (λ q. not (is_refused C (P.chosen ++ (p ∷ [])) q)) (marked_at C bestof found' i) (least_among C (P.chosen ++ (p ∷ [])) (row_of C i))
       under i h w true e =
-          subst (Under (ranks_before C) (λ q. not (is_refused C (P.chosen ++ (p ∷ [])) q)) (marked_at C mouthof rampof outerof kindof found' i))
-          (ap (λ b. only_if b (entry_at C mouthof rampof outerof kindof i)) (N.found i w ∙ ap (λ u. get_or found i false && not u) e) ∙ none_marked (get_or found i false) _
+          subst (Under (ranks_before C) (λ q. not (is_refused C (P.chosen ++ (p ∷ [])) q)) (marked_at C bestof found' i))
+          (ap (λ b. only_if b (entry_at C bestof i)) (N.found i w ∙ ap (λ u. get_or found i false && not u) e) ∙ none_marked (get_or found i false) _
           ∙ used_none C (P.chosen ++ (p ∷ [])) rows i (sym (S.ends i h) ∙ e)) same
       under i h w false e =
           subst (λ o. Under (ranks_before C) (λ q. not (is_refused C (P.chosen ++ (p ∷ [])) q)) o (least_among C (P.chosen ++ (p ∷ [])) (row_of C i)))
-          (sym (ap (λ b. only_if b (entry_at C mouthof rampof outerof kindof i)) (N.found i w ∙ ap (λ u. get_or found i false && not u) e) ∙ still_marked (get_or found i false) _))
+          (sym (ap (λ b. only_if b (entry_at C bestof i)) (N.found i w ∙ ap (λ u. get_or found i false && not u) e) ∙ still_marked (get_or found i false) _))
           (under_stays C P.chosen p i (P.bests.under i h w))
 
 -- ---- what falls

@@ -1,4 +1,5 @@
 -- Boundaries that can be the mouth of no proposal any more, and ramps whose end is used: all that is proposed of them conflicts with one taken. Assumes nothing.
+use Rattle.mouth_proposals.specs.declared.mouths.MouthKind.{MouthKind}
 use Prim.Native.Nat.{ℕ, zero, suc, ◌+◌, ◌≤◌, ◌<◌}
 use native.Mathlib.Omega.{arith}
 use mathlib.Core.Path.{◌≡◌, refl, sym, ap, ap₂, ◌∙◌, subst}
@@ -42,7 +43,7 @@ record Formed (C : Context) (a m : ℕ) (p : MouthProposal) : Type 0 where
   names : (r : ℕ) → 1 ≤ r → any (contains r) (C.pairs m) ≡ true → member r (union_of p) ≡ true
 
 module _ (C : Context) (a m : ℕ) (named : All (Named C.regions) (C.pairs m)) where
-  plain-formed : (outer kind : ℕ) → outer ≤ C.regions → Formed C a m (proposal_of C m a outer kind)
+  plain-formed : (outer : ℕ) (kind : MouthKind) → outer ≤ C.regions → Formed C a m (proposal_of C m a outer kind)
   unfolding proposal_of member any
   plain-formed outer kind h =
       record {

@@ -1,4 +1,6 @@
 -- Marks of regions: what holding a region, a row and the rows of a mouth does to them, and that a proposal is held exactly where its marks say so. Assumes nothing.
+use Rattle.mouth_proposals.specs.Candidates.{is_triangular}
+use Rattle.mouth_proposals.specs.declared.mouths.MouthKind.{MouthKind}
 use Prim.Native.Nat.{ℕ, ◌+◌, ◌-◌, ◌*◌, ◌%◌, ◌≤◌, ◌<◌}
 use native.Mathlib.Omega.{arith}
 use mathlib.Core.Path.{◌≡◌, refl, sym, ap, ap₂, ◌∙◌}
@@ -114,16 +116,16 @@ any_of-filter k g (x ∷ l) = go (k x) (any_of-filter k g l)
 held_at-all : (n : ℕ) → leb 3 (n + 2) ≡ leb 1 n
 held_at-all n = ⊎_elim (λ h. le-leb 3 (n + 2) (omega arith) ∙ sym (le-leb 1 n h)) (λ h. lt-leb 3 (n + 2) (omega arith) ∙ sym (lt-leb 1 n h)) (le_or_lt 1 n)
 
-module _ (C : Context) (taken : List MouthProposal) (marks : List ℕ) (H : HeldMarks C taken marks) (m a outer kind : ℕ) (named : All (Named C.regions) (C.pairs m)) (h : outer ≤ C.regions) where
-  outside : (not (eqb outer 0) && leb 3 (hold_at_lem marks outer + cond (eqb kind triangular) 2 1)) ≡ any (λ r. leb 3 (held taken r + cond (eqb kind triangular) 2 1)) (filter (λ r. not (eqb r 0)) (outer ∷ []))
+module _ (C : Context) (taken : List MouthProposal) (marks : List ℕ) (H : HeldMarks C taken marks) (m a outer : ℕ) (kind : MouthKind) (named : All (Named C.regions) (C.pairs m)) (h : outer ≤ C.regions) where
+  outside : (not (eqb outer 0) && leb 3 (hold_at_lem marks outer + cond (is_triangular kind) 2 1)) ≡ any (λ r. leb 3 (held taken r + cond (is_triangular kind) 2 1)) (filter (λ r. not (eqb r 0)) (outer ∷ []))
   unfolding any filter
   outside = go (eqb outer 0) refl
     where
-      go : (b : Bool) → eqb outer 0 ≡ b → (not b && leb 3 (hold_at_lem marks outer + cond (eqb kind triangular) 2 1)) ≡ any (λ r. leb 3 (held taken r + cond (eqb kind triangular) 2 1)) (cond (not b) (outer ∷ []) [])
+      go : (b : Bool) → eqb outer 0 ≡ b → (not b && leb 3 (hold_at_lem marks outer + cond (is_triangular kind) 2 1)) ≡ any (λ r. leb 3 (held taken r + cond (is_triangular kind) 2 1)) (cond (not b) (outer ∷ []) [])
       go true e = refl
       go false e =
-          ap (λ n. leb 3 (n + cond (eqb kind triangular) 2 1)) (H.at outer (omega (arith, eqb-false outer 0 e)) h)
-          ∙ sym (or-false (leb 3 (held taken outer + cond (eqb kind triangular) 2 1)))
+          ap (λ n. leb 3 (n + cond (is_triangular kind) 2 1)) (H.at outer (omega (arith, eqb-false outer 0 e)) h)
+          ∙ sym (or-false (leb 3 (held taken outer + cond (is_triangular kind) 2 1)))
 
   inside : any (λ s. not (eqb s outer) && leb 3 (hold_at_lem marks s + 2)) (regions_of (C.pairs m)) ≡ any (λ r. leb 1 (held taken r)) (inner_of outer (C.pairs m))
   unfolding inner_of distinct_regions any
@@ -133,7 +135,7 @@ module _ (C : Context) (taken : List MouthProposal) (marks : List ℕ) (H : Held
       ∙ any-add_all (λ s. not (eqb s outer) && leb 1 (held taken s)) [] (regions_of (C.pairs m)))
 
   -- x and y are what the code finds of the outer region and of the inner ones
-  pub held_by : {x y : Bool} → x ≡ (not (eqb outer 0) && leb 3 (hold_at_lem marks outer + cond (eqb kind triangular) 2 1)) → y ≡ any (λ s. not (eqb s outer) && leb 3 (hold_at_lem marks s + 2)) (regions_of (C.pairs m))
+  pub held_by : {x y : Bool} → x ≡ (not (eqb outer 0) && leb 3 (hold_at_lem marks outer + cond (is_triangular kind) 2 1)) → y ≡ any (λ s. not (eqb s outer) && leb 3 (hold_at_lem marks s + 2)) (regions_of (C.pairs m))
       → (x || y) ≡ is_held taken (proposal_of C m a outer kind)
   unfolding is_held proposal_of
   held_by e f = ap₂ ◌||◌ (e ∙ outside) (f ∙ inside)

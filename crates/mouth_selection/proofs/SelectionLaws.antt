@@ -1,4 +1,5 @@
 -- The rounds of the selection: what is known between them, that each leaves a mouth less, and that what was taken at the end is the definitions' choice. Assumes nothing.
+use Rattle.mouth_proposals.specs.declared.candidates.Candidate.{Candidate}
 use Prim.Native.Nat.{ℕ, ◌≤◌, ◌<◌}
 use native.Mathlib.Omega.{arith}
 use native.Mathlib.Nat.{le_trans}
@@ -34,14 +35,14 @@ use Rattle.mouth_selection.proofs.Greedy.{is_left, rounds-end, round-taken}
 
 -- ---- what the code may read
 
-module _ {boundaries pairs starts mouths ramps outers : List ℕ} {count n : ℕ} {C : Context} (L : Lists boundaries pairs starts count C) (N : Named C mouths ramps outers n) (few : n ≤ max_candidates) where
-  pub safe-keys : SafeKeys boundaries mouths ramps n
+module _ {boundaries pairs starts : List ℕ} {entries : List Candidate} {count n : ℕ} {C : Context} (L : Lists boundaries pairs starts count C) (N : Named C entries n) (few : n ≤ max_candidates) where
+  pub safe-keys : SafeKeys boundaries entries n
   safe-keys = record { few = few; mouth = λ k h. omega (arith, L.bounds.long, N.mouth k h); ramp = λ k h. omega (arith, L.bounds.long, N.ramp k h) }
 
   wider : {rows : List ℕ} {k l : ℕ} → C.regions ≤ l → NamedRow rows C.regions k → NamedRow rows l k
   wider long r = record { inside = r.inside; lo-pos = r.lo-pos; lo-le = le_trans r.lo-le long; hi-pos = r.hi-pos; hi-le = le_trans r.hi-le long }
 
-  pub safe-entries : {marks : List ℕ} → C.regions ≤ length marks → SafeEntries pairs starts marks mouths outers n
+  pub safe-entries : {marks : List ℕ} → C.regions ≤ length marks → SafeEntries pairs starts marks entries n
   safe-entries {marks} long =
       record {
         few = few;

@@ -1,5 +1,7 @@
 -- One proposal more is taken: what its mouth, its ramp end and its regions add to what is refused is what the code marks. A region outside it was held by no inner
 -- region and no triangle, or the proposal would have been refused. Assumes nothing.
+use Rattle.mouth_proposals.specs.Candidates.{is_triangular}
+use Rattle.mouth_proposals.specs.declared.mouths.MouthKind.{MouthKind}
 use Prim.Native.Nat.{ℕ, ◌+◌, ◌-◌, ◌*◌, ◌/◌, ◌%◌, ◌≤◌, ◌<◌, zero-le}
 use native.Mathlib.Omega.{arith}
 use native.Mathlib.Nat.{le_trans}
@@ -30,7 +32,7 @@ use Rattle.mouth_selection.proofs.Marks.{held-length}
 
 -- ---- what is left
 
-module _ (C : Context) (taken : List MouthProposal) (m a outer kind : ℕ) where
+module _ (C : Context) (taken : List MouthProposal) (m a outer : ℕ) (kind : MouthKind) where
   abbrev p : MouthProposal
   p = proposal_of C m a outer kind
 
@@ -148,12 +150,12 @@ inner_at_lem outer {n} marks r hr hn (more {x = s} {l = l} h t) = next (eqb s ou
         ∙ ap (cond (not (eqb r outer) && any (eqb r) l) 2) (hold_at 2 marks s r h.0 (le_trans h.1 hn) hr)
         ∙ join (hold_at_lem marks r) (eqb r outer) (any (eqb r) l) (eqb r s) (λ k. ne_eqb r outer (λ q. eqb-false s outer e (sym (eqb-true r s k) ∙ q)))
 
-module _ (C : Context) (taken : List MouthProposal) (m a outer kind : ℕ) (marks : List ℕ) (H : HeldMarks C taken marks) (long : C.regions ≤ length marks) (named : All (Named C.regions) (C.pairs m)) (inside : outer ≤ C.regions) (free : is_held taken (proposal_of C m a outer kind) ≡ false) where
+module _ (C : Context) (taken : List MouthProposal) (m a outer : ℕ) (kind : MouthKind) (marks : List ℕ) (H : HeldMarks C taken marks) (long : C.regions ≤ length marks) (named : All (Named C.regions) (C.pairs m)) (inside : outer ≤ C.regions) (free : is_held taken (proposal_of C m a outer kind) ≡ false) where
   abbrev one : MouthProposal
   one = proposal_of C m a outer kind
 
   abbrev tri : Bool
-  tri = eqb kind triangular
+  tri = is_triangular kind
 
   abbrev first : List ℕ
   first = cond (eqb outer 0) marks (mark_held (cond tri 2 1) marks outer)

@@ -1,4 +1,6 @@
 -- Candidates of the lists as the selection reads them: those that are marked, one or none, and what is known and asked of each. Definitions only; assumes nothing.
+use Rattle.mouth_proposals.specs.Listed.{blank}
+use Rattle.mouth_proposals.specs.declared.candidates.Candidate.{Candidate}
 use Rattle.std.specs.Prelude.{ℕ, ◌+◌, ◌*◌, ◌≤◌, ◌<◌, ◌≡◌, Bool, true, false, List, length, get_or, ltb}
 use Rattle.std.specs.Prelude.{Option}
 use Rattle.std.specs.Float.{binary64}
@@ -10,10 +12,10 @@ use Rattle.definitions.specs.RampMouths.{MouthProposal, separation_of}
 use Rattle.context.specs.Rows.{Stretch, NamedRow}
 use Rattle.mouth_proposals.specs.Listed.{max_candidates, entry_at}
 
-module _ (C : Context) (mouths ramps outers kinds : List ℕ) where
+module _ (C : Context) (entries : List Candidate) where
   -- entry k, if it is marked
   abbrev pub marked_at : List Bool → ℕ → Option MouthProposal
-  marked_at marked k = only_if (get_or marked k false) (entry_at C mouths ramps outers kinds k)
+  marked_at marked k = only_if (get_or marked k false) (entry_at C entries k)
 
   -- those of the first n that are marked
   unfoldable pub marked_entries : List Bool → ℕ → List MouthProposal
@@ -22,7 +24,7 @@ module _ (C : Context) (mouths ramps outers kinds : List ℕ) where
 
   -- entry k, none where k is n
   abbrev pub entry_if : ℕ → ℕ → Option MouthProposal
-  entry_if n k = only_if (ltb k n) (entry_at C mouths ramps outers kinds k)
+  entry_if n k = only_if (ltb k n) (entry_at C entries k)
 
 -- what the code needs of a mouth and a region outside
 pub record SafeEntry (pairs starts marks : List ℕ) (m outer : ℕ) : Type 0 where
@@ -31,24 +33,24 @@ pub record SafeEntry (pairs starts marks : List ℕ) (m outer : ℕ) : Type 0 wh
   pub marked : outer ≤ length marks
 
 -- of every entry
-pub record SafeEntries (pairs starts marks mouths outers : List ℕ) (n : ℕ) : Type 0 where
+pub record SafeEntries (pairs starts marks : List ℕ) (entries : List Candidate) (n : ℕ) : Type 0 where
   pub few : n ≤ max_candidates
-  pub safe : (k : ℕ) → k < n → SafeEntry pairs starts marks (get_or mouths k 0) (get_or outers k 0)
+  pub safe : (k : ℕ) → k < n → SafeEntry pairs starts marks ((get_or entries k blank).mouth) ((get_or entries k blank).outer)
 
 -- the boundaries of every entry stand in the list
-pub record SafeKeys (boundaries mouths ramps : List ℕ) (n : ℕ) : Type 0 where
+pub record SafeKeys (boundaries : List ℕ) (entries : List Candidate) (n : ℕ) : Type 0 where
   pub few : n ≤ max_candidates
-  pub mouth : (k : ℕ) → k < n → numbers_per_boundary * get_or mouths k 0 + 8 < length boundaries
-  pub ramp : (k : ℕ) → k < n → numbers_per_boundary * get_or ramps k 0 + 8 < length boundaries
+  pub mouth : (k : ℕ) → k < n → numbers_per_boundary * (get_or entries k blank).mouth + 8 < length boundaries
+  pub ramp : (k : ℕ) → k < n → numbers_per_boundary * (get_or entries k blank).ramp + 8 < length boundaries
 
 -- entries name boundaries and regions of C
-pub record Named (C : Context) (mouths ramps outers : List ℕ) (n : ℕ) : Type 0 where
-  pub mouth : (k : ℕ) → k < n → get_or mouths k 0 < C.count
-  pub ramp : (k : ℕ) → k < n → get_or ramps k 0 < C.count
-  pub outer : (k : ℕ) → k < n → get_or outers k 0 ≤ C.regions
+pub record Named (C : Context) (entries : List Candidate) (n : ℕ) : Type 0 where
+  pub mouth : (k : ℕ) → k < n → (get_or entries k blank).mouth < C.count
+  pub ramp : (k : ℕ) → k < n → (get_or entries k blank).ramp < C.count
+  pub outer : (k : ℕ) → k < n → (get_or entries k blank).outer ≤ C.regions
 
 -- entries that are marked have the bits of their separation
-pub record Measured (C : Context) (mouths ramps separations : List ℕ) (marked : List Bool) (n : ℕ) : Type 0 where
-  pub mouth : (k : ℕ) → k < n → get_or mouths k 0 < C.count
-  pub ramp : (k : ℕ) → k < n → get_or ramps k 0 < C.count
-  pub bits : (k : ℕ) → k < n → get_or marked k false ≡ true → get_or separations k 0 ≡ to_bits binary64 (separation_of C (get_or mouths k 0) (get_or ramps k 0))
+pub record Measured (C : Context) (entries : List Candidate) (marked : List Bool) (n : ℕ) : Type 0 where
+  pub mouth : (k : ℕ) → k < n → (get_or entries k blank).mouth < C.count
+  pub ramp : (k : ℕ) → k < n → (get_or entries k blank).ramp < C.count
+  pub bits : (k : ℕ) → k < n → get_or marked k false ≡ true → (get_or entries k blank).separation ≡ to_bits binary64 (separation_of C ((get_or entries k blank).mouth) ((get_or entries k blank).ramp))

@@ -1,4 +1,5 @@
 -- The first least of what conflicts with none taken, and what may be known of it from before. Definitions only; assumes nothing.
+use Rattle.mouth_proposals.specs.declared.candidates.Candidate.{Candidate}
 use Rattle.std.specs.Prelude.{ℕ, ◌≡◌, Bool, false, List, [], ◌∷◌, get_or}
 use Rattle.std.proofs.Math.Bool.{not, cond}
 use Rattle.std.specs.Prelude.{Option, None, Some}
@@ -35,12 +36,12 @@ module _ (C : Context) where
   least_among taken l = least_from (ranks_before C) None (filter (λ p. not (is_refused C taken p)) l)
 
   -- with entry k, if it is marked
-  unfoldable pub better_of : List ℕ → List ℕ → List ℕ → List ℕ → List Bool → ℕ → Option MouthProposal → Option MouthProposal
+  unfoldable pub better_of : List Candidate → List Bool → ℕ → Option MouthProposal → Option MouthProposal
   unfolding ranks_before
-  better_of mouths ramps outers kinds marked k b =
-      cond (get_or marked k false) (better (ranks_before C) b (entry_at C mouths ramps outers kinds k)) b
+  better_of entries marked k b =
+      cond (get_or marked k false) (better (ranks_before C) b (entry_at C entries k)) b
 
   -- the first least of the first k entries that are marked and whose inner regions are near
-  unfoldable pub near_least : List ℕ → List ℕ → List ℕ → List ℕ → List Bool → ℕ → Option MouthProposal
+  unfoldable pub near_least : List Candidate → List Bool → ℕ → Option MouthProposal
   unfolding least_from filter ranks_before corners_near_lem marked_entries
-  near_least mouths ramps outers kinds marked k = least_from (ranks_before C) None (filter (corners_near_lem C) (marked_entries C mouths ramps outers kinds marked k))
+  near_least entries marked k = least_from (ranks_before C) None (filter (corners_near_lem C) (marked_entries C entries marked k))

@@ -1,4 +1,6 @@
 -- What is known between two proposals that are taken: the bests of the ramps, and which of them are fresh. Definitions only; assumes nothing.
+use Rattle.mouth_proposals.specs.Listed.{blank}
+use Rattle.mouth_proposals.specs.declared.candidates.Candidate.{Candidate}
 use Rattle.std.specs.Prelude.{ℕ, ◌+◌, ◌*◌, ◌≤◌, ◌<◌, ◌≡◌, Bool, true, false, not, ◌&&◌, cond, List, [], length, get_or, set, ltb}
 use Rattle.std.specs.Float.{binary64}
 use Rattle.std.specs.Float.Ieee.{to_bits}
@@ -39,19 +41,19 @@ pub record Lists (boundaries pairs starts : List ℕ) (count : ℕ) (C : Context
 -- ---- the bests of the ramps
 
 -- of each ramp that is known its best is known, from now or from before
-pub record Bests (C : Context) (taken : List MouthProposal) (isKnown : ℕ → Type 0) (mouthof rampof outerof kindof apart : List ℕ) (found : List Bool) : Type 0 where
-  pub named : Named C mouthof rampof outerof C.count
-  pub measured : Measured C mouthof rampof apart found C.count
+pub record Bests (C : Context) (taken : List MouthProposal) (isKnown : ℕ → Type 0) (bestof : List Candidate) (found : List Bool) : Type 0 where
+  pub named : Named C bestof C.count
+  pub measured : Measured C bestof found C.count
   pub under : (a : ℕ) → a < C.count → isKnown a
-      → Under (ranks_before C) (λ p. not (is_refused C taken p)) (marked_at C mouthof rampof outerof kindof found a) (least_among C taken (row_of C a))
+      → Under (ranks_before C) (λ p. not (is_refused C taken p)) (marked_at C bestof found a) (least_among C taken (row_of C a))
 
 -- what is taken, what the marks say of it, and the bests; those that are fresh conflict with none taken
-pub record Progress (C : Context) (isKnown : ℕ → Type 0) (marks : List ℕ) (gone used : List Bool) (mouthof rampof outerof kindof apart : List ℕ) (found fresh : List Bool) : Type 0 where
+pub record Progress (C : Context) (isKnown : ℕ → Type 0) (marks : List ℕ) (gone used : List Bool) (bestof : List Candidate) (found fresh : List Bool) : Type 0 where
   pub chosen : List MouthProposal
   pub state : TakenState C chosen gone used marks
   pub same : select (conflict C) chosen (sort (ranks_before C) (proposals C)) ≡ select (conflict C) [] (sort (ranks_before C) (proposals C))
-  pub bests : Bests C chosen isKnown mouthof rampof outerof kindof apart found
-  pub left : (a : ℕ) → a < C.count → get_or fresh a false ≡ true → get_or found a false ≡ true → is_refused C chosen (entry_at C mouthof rampof outerof kindof a) ≡ false
+  pub bests : Bests C chosen isKnown bestof found
+  pub left : (a : ℕ) → a < C.count → get_or fresh a false ≡ true → get_or found a false ≡ true → is_refused C chosen (entry_at C bestof a) ≡ false
   pub anchored : ShownAnchored C marks
 
 -- boundaries that are not removed, and among equals bests that are not fresh: what falls when a proposal is taken or a best is found
@@ -69,29 +71,25 @@ pub record Room (gone used found fresh : List Bool) : Type 0 where
 -- ---- the best of one ramp
 
 -- the first n entries are the candidates of ramp a, and those are marked that conflict with none taken
-pub record LeftListed (C : Context) (taken : List MouthProposal) (a : ℕ) (mouths ramps outers kinds separations : List ℕ) (marked : List Bool) (n : ℕ) : Type 0 where
-  pub filled : Filled C mouths ramps outers kinds separations n (collect C.count (mouth_candidate C a))
-  pub left : (k : ℕ) → k < n → get_or marked k false ≡ not (is_refused C taken (entry_at C mouths ramps outers kinds k))
+pub record LeftListed (C : Context) (taken : List MouthProposal) (a : ℕ) (entries : List Candidate) (marked : List Bool) (n : ℕ) : Type 0 where
+  pub filled : Filled C entries n (collect C.count (mouth_candidate C a))
+  pub left : (k : ℕ) → k < n → get_or marked k false ≡ not (is_refused C taken (entry_at C entries k))
 
 -- entry k of these is the least of them that is a proposal and left; there is none where k is n
-pub record BestOf (C : Context) (taken : List MouthProposal) (a : ℕ) (mouths ramps outers kinds separations : List ℕ) (n k : ℕ) : Type 0 where
-  pub mouth : k < n → get_or mouths k 0 < C.count
-  pub ramp : k < n → get_or ramps k 0 < C.count
-  pub outer : k < n → get_or outers k 0 ≤ C.regions
-  pub bits : k < n → get_or separations k 0 ≡ to_bits binary64 (separation_of C (get_or mouths k 0) (get_or ramps k 0))
-  pub least : entry_if C mouths ramps outers kinds n k ≡ least_among C taken (row_of C a)
+pub record BestOf (C : Context) (taken : List MouthProposal) (a : ℕ) (entries : List Candidate) (n k : ℕ) : Type 0 where
+  pub mouth : k < n → (get_or entries k blank).mouth < C.count
+  pub ramp : k < n → (get_or entries k blank).ramp < C.count
+  pub outer : k < n → (get_or entries k blank).outer ≤ C.regions
+  pub bits : k < n → (get_or entries k blank).separation ≡ to_bits binary64 (separation_of C ((get_or entries k blank).mouth) ((get_or entries k blank).ramp))
+  pub least : entry_if C entries n k ≡ least_among C taken (row_of C a)
 
 -- k is l with v at a, if there is something to put
-pub record PutIf (b : Bool) (l : List ℕ) (a v : ℕ) (k : List ℕ) : Type 0 where
+pub record PutIf (b : Bool) (l : List Candidate) (a : ℕ) (v : Candidate) (k : List Candidate) : Type 0 where
   pub is : k ≡ cond b (set l a v) l
 
 -- entry k is put as the best of ramp a, nothing where k is n
-pub record BestPut (mouths ramps outers kinds separations : List ℕ) (n k a : ℕ) (mouthof rampof outerof kindof apart mouthof' rampof' outerof' kindof' apart' : List ℕ) : Type 0 where
-  pub mouth : PutIf (ltb k n) mouthof a (get_or mouths k 0) mouthof'
-  pub ramp : PutIf (ltb k n) rampof a (get_or ramps k 0) rampof'
-  pub outer : PutIf (ltb k n) outerof a (get_or outers k 0) outerof'
-  pub kind : PutIf (ltb k n) kindof a (get_or kinds k 0) kindof'
-  pub bits : PutIf (ltb k n) apart a (get_or separations k 0) apart'
+pub record BestPut (entries : List Candidate) (n k a : ℕ) (bestof bestof' : List Candidate) : Type 0 where
+  pub put : PutIf (ltb k n) bestof a (get_or entries k blank) bestof'
 
 -- the bests of ramp ends that are used are forgotten, and none is fresh
 pub record Renewed (used was now fresh : List Bool) (count : ℕ) : Type 0 where

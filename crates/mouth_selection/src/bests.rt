@@ -17,7 +17,7 @@ use crate::held::region_full;
 use crate::selection::{entry_left, least_marked, mark_left, take_entry};
 use context::pairs::row_at;
 use geometry::boundaries::kind_at;
-use mouth_proposals::candidates::push_ramp;
+use mouth_proposals::candidates::{Candidate, push_ramp};
 
 // Lists the candidates of ramp a, and marks those that conflict with none taken. Gives the number of candidates.
 pub fn list_ramp(
@@ -31,24 +31,20 @@ pub fn list_ramp(
     used: &[bool; 256],
     count: usize,
     a: usize,
-    mouths: &mut [u8; 256],
-    ramps: &mut [u8; 256],
-    outers: &mut [u32; 256],
-    kinds: &mut [u8; 256],
-    separations: &mut [u64; 256],
+    entries: &mut [Candidate; 256],
     marked: &mut [bool; 256],
 ) -> usize
     requires shown { Shown boundaries.now tallies.now pairs.now starts.now counts.now marks.now count }
-    requires roomy { Roomy mouths.old ramps.old outers.old kinds.old separations.old × (length marked.old ≡ max_candidates) }
+    requires roomy { Roomy entries.old × (length marked.old ≡ max_candidates) }
     requires place { a < count }
     ensures bound { result ≤ max_candidates }
-    ensures still_roomy { Roomy mouths.new ramps.new outers.new kinds.new separations.new
+    ensures still_roomy { Roomy entries.new
         × (length marked.new ≡ max_candidates) }
     ensures listed { (C : Context) (taken : List MouthProposal) →
         Shows boundaries.now pairs.now starts.now counts.now marks.now count C →
         ShownTallies C tallies.now →
         TakenState C taken removed.now used.now marks.now →
-        LeftListed C taken a mouths.new ramps.new outers.new kinds.new separations.new
+        LeftListed C taken a entries.new
         marked.new result }
 {
     let n = push_ramp(
@@ -59,11 +55,7 @@ pub fn list_ramp(
         counts,
         marks,
         count,
-        &mut *mouths,
-        &mut *ramps,
-        &mut *outers,
-        &mut *kinds,
-        &mut *separations,
+        &mut *entries,
         a,
     );
     mark_left(
@@ -72,10 +64,7 @@ pub fn list_ramp(
         marks,
         removed,
         used,
-        &*mouths,
-        &*ramps,
-        &*outers,
-        &*kinds,
+        &*entries,
         &mut *marked,
         n,
     );
@@ -83,32 +72,14 @@ pub fn list_ramp(
 }
 
 // Makes entry k of the candidates the best of ramp a; nothing where k is n.
-fn put_best(
-    mouths: &[u8; 256],
-    ramps: &[u8; 256],
-    outers: &[u32; 256],
-    kinds: &[u8; 256],
-    separations: &[u64; 256],
-    n: usize,
-    k: usize,
-    a: usize,
-    mouthof: &mut [u8; 256],
-    rampof: &mut [u8; 256],
-    outerof: &mut [u32; 256],
-    kindof: &mut [u8; 256],
-    apart: &mut [u64; 256],
-)
+fn put_best(entries: &[Candidate; 256], n: usize, k: usize, a: usize, bestof: &mut [Candidate; 256])
     requires { (n ≤ max_candidates) × (a < max_candidates) }
-    ensures { BestPut mouths.now ramps.now outers.now kinds.now separations.now n k a
-        mouthof.old rampof.old outerof.old kindof.old apart.old
-        mouthof.new rampof.new outerof.new kindof.new apart.new }
+    ensures { BestPut entries.now n k a
+        bestof.old
+        bestof.new }
 {
     if k < n {
-        mouthof[a] = mouths[k];
-        rampof[a] = ramps[k];
-        outerof[a] = outers[k];
-        kindof[a] = kinds[k];
-        apart[a] = separations[k];
+        bestof[a] = entries[k];
     }
 }
 
@@ -195,17 +166,13 @@ fn advance(
     marks: &mut [u16],
     removed: &mut [bool; 256],
     used: &mut [bool; 256],
-    mouthof: &[u8; 256],
-    rampof: &[u8; 256],
-    outerof: &[u32; 256],
-    kindof: &[u8; 256],
-    apart: &[u64; 256],
+    bestof: &[Candidate; 256],
     found: &mut [bool; 256],
     fresh: &mut [bool; 256],
     count: usize,
 ) -> usize
     requires shown { (C : Context) × (Lists boundaries.now pairs.now starts.now count C
-        × Progress C (λ i. i < count) marks.old removed.old used.old mouthof.now rampof.now outerof.now kindof.now apart.now
+        × Progress C (λ i. i < count) marks.old removed.old used.old bestof.now
         found.old fresh.old) }
     requires room { Room removed.old used.old found.old fresh.old }
     ensures bound { (result ≤ count) × (result < count → get_or fresh.new result false ≡ false) }
@@ -214,20 +181,16 @@ fn advance(
     ensures weight { weight count removed.new fresh.new ≤ weight count removed.old fresh.old }
     ensures progress { (C : Context) →
         Lists boundaries.now pairs.now starts.now count C →
-        Progress C (λ i. i < count) marks.old removed.old used.old mouthof.now rampof.now
-        outerof.now kindof.now apart.now found.old fresh.old →
-        Progress C (λ i. i < count) marks.new removed.new used.new mouthof.now rampof.now
-        outerof.now kindof.now apart.now found.new fresh.new
+        Progress C (λ i. i < count) marks.old removed.old used.old bestof.now found.old fresh.old →
+        Progress C (λ i. i < count) marks.new removed.new used.new bestof.now found.new fresh.new
         × (count ≤ result → Ended C removed.new) }
 {
     while !all_gone(boundaries, pairs, starts, &*marks, &*removed, count) {
-        let a = least_marked(boundaries, mouthof, rampof, apart, &*found, count);
+        let a = least_marked(boundaries, bestof, &*found, count);
         if a == count {
             return count;
         }
-        if !entry_left(
-            pairs, starts, &*marks, &*removed, &*used, mouthof, rampof, outerof, kindof, a,
-        ) {
+        if !entry_left(pairs, starts, &*marks, &*removed, &*used, bestof, a) {
             return a;
         }
         take_entry(
@@ -237,10 +200,7 @@ fn advance(
             &mut *marks,
             &mut *removed,
             &mut *used,
-            mouthof,
-            rampof,
-            outerof,
-            kindof,
+            bestof,
             count,
             a,
         );
@@ -258,61 +218,37 @@ pub fn proceed(
     marks: &mut [u16],
     removed: &mut [bool; 256],
     used: &mut [bool; 256],
-    mouths: &[u8; 256],
-    ramps: &[u8; 256],
-    outers: &[u32; 256],
-    kinds: &[u8; 256],
-    separations: &[u64; 256],
+    entries: &[Candidate; 256],
     n: usize,
     k: usize,
     a: usize,
-    mouthof: &mut [u8; 256],
-    rampof: &mut [u8; 256],
-    outerof: &mut [u32; 256],
-    kindof: &mut [u8; 256],
-    apart: &mut [u64; 256],
+    bestof: &mut [Candidate; 256],
     found: &mut [bool; 256],
     fresh: &mut [bool; 256],
     known: usize,
     count: usize,
 ) -> usize
     requires shown { (C : Context) × (Lists boundaries.now pairs.now starts.now count C × ((P : Progress C (λ i. (i < known) × (i ≡ a → ⊥))
-        marks.old removed.old used.old mouthof.old rampof.old outerof.old kindof.old apart.old found.old fresh.old)
-        × BestOf C P.chosen a mouths.now ramps.now outers.now kinds.now separations.now n k)) }
-    requires room { Roomy mouthof.old rampof.old outerof.old kindof.old apart.old × Room removed.old used.old found.old fresh.old }
+        marks.old removed.old used.old bestof.old found.old fresh.old)
+        × BestOf C P.chosen a entries.now n k)) }
+    requires room { Roomy bestof.old × Room removed.old used.old found.old fresh.old }
     requires places { ((n ≤ max_candidates) × (k ≤ n)) × ((a < known) × (known ≤ count)) }
     requires stale { (get_or fresh.old a false ≡ false) × ((i : ℕ) → known ≤ i → i < count → get_or fresh.old i false ≡ false) }
     ensures bound { (result ≤ count) × (known < count → result ≡ known) }
     ensures stale { (result < count → get_or fresh.new result false ≡ false)
         × ((i : ℕ) → known ≤ i → i < count → get_or fresh.new i false ≡ false) }
     ensures room { (length marks.new ≡ length marks.old)
-        × (Roomy mouthof.new rampof.new outerof.new kindof.new apart.new
+        × (Roomy bestof.new
         × Room removed.new used.new found.new fresh.new) }
     ensures weight { weight count removed.new fresh.new < weight count removed.old fresh.old }
     ensures progress { (C : Context) →
         Lists boundaries.now pairs.now starts.now count C →
-        (P : Progress C (λ i. (i < known) × (i ≡ a → ⊥)) marks.old removed.old used.old mouthof.old
-        rampof.old outerof.old kindof.old apart.old found.old fresh.old) →
-        BestOf C P.chosen a mouths.now ramps.now outers.now kinds.now separations.now n k →
-        Progress C (λ i. i < known) marks.new removed.new used.new mouthof.new rampof.new
-        outerof.new kindof.new apart.new found.new fresh.new
+        (P : Progress C (λ i. (i < known) × (i ≡ a → ⊥)) marks.old removed.old used.old bestof.old found.old fresh.old) →
+        BestOf C P.chosen a entries.now n k →
+        Progress C (λ i. i < known) marks.new removed.new used.new bestof.new found.new fresh.new
         × (count ≤ result → Ended C removed.new) }
 {
-    put_best(
-        mouths,
-        ramps,
-        outers,
-        kinds,
-        separations,
-        n,
-        k,
-        a,
-        &mut *mouthof,
-        &mut *rampof,
-        &mut *outerof,
-        &mut *kindof,
-        &mut *apart,
-    );
+    put_best(entries, n, k, a, &mut *bestof);
     found[a] = k < n;
     fresh[a] = true;
     if known < count {
@@ -325,11 +261,7 @@ pub fn proceed(
         &mut *marks,
         &mut *removed,
         &mut *used,
-        &*mouthof,
-        &*rampof,
-        &*outerof,
-        &*kindof,
-        &*apart,
+        &*bestof,
         &mut *found,
         &mut *fresh,
         count,

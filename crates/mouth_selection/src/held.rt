@@ -8,17 +8,17 @@ ghost use Rattle.definitions.specs.RampMouths.{MouthProposal};
 ghost use Rattle.context.specs.Shown.{pairs_between, ShownPairs};
 ghost use Rattle.context.specs.Rows.{Stretch, NamedRow};
 ghost use Rattle.mouth_proposals.specs.Rows.{rows_of};
-ghost use Rattle.mouth_proposals.specs.Candidates.{triangular, proposal_of};
+ghost use Rattle.mouth_proposals.specs.Candidates.{is_triangular, proposal_of};
 ghost use Rattle.mouth_selection.specs.Held.{hold_at_lem, HeldMarks, is_held, mark_held, mark_inner};
 
 use context::pairs::{Pair, row_at};
-use mouth_proposals::mouths::TRIANGULAR;
+use mouth_proposals::mouths::MouthKind;
 
 // How a proposal of this kind holds the region outside.
-fn outer_hold(kind: u8) -> u16
-    ensures { result ≡ cond (eqb kind triangular) 2 1 }
+fn outer_hold(kind: MouthKind) -> u16
+    ensures { result ≡ cond (is_triangular kind) 2 1 }
 {
-    if kind == TRIANGULAR { 2 } else { 1 }
+    if kind.is_triangular() { 2 } else { 1 }
 }
 
 // Whether region r is held so that it cannot be held in this way too.
@@ -61,7 +61,7 @@ pub fn proposal_held(
     marks: &[u16],
     m: usize,
     outer: u32,
-    kind: u8,
+    kind: MouthKind,
 ) -> bool
     requires stretch { Stretch pairs.now starts.now m }
     requires named_rows { (k : ℕ) → get_or starts.now m 0 ≤ k → k < get_or starts.now (m + 1) 0 → NamedRow pairs.now (length marks.now) k }
@@ -73,10 +73,8 @@ pub fn proposal_held(
         outer ≤ C.regions →
         result ≡ is_held taken (proposal_of C m a outer kind) }
 {
-    if outer != 0 {
-        if is_held(marks, outer, outer_hold(kind)) {
-            return true;
-        }
+    if outer != 0 && is_held(marks, outer, outer_hold(kind)) {
+        return true;
     }
     let first = starts[m];
     let end = starts[m + 1];
@@ -127,13 +125,13 @@ pub fn hold_proposal(
     marks: &mut [u16],
     m: usize,
     outer: u32,
-    kind: u8,
+    kind: MouthKind,
 )
     requires stretch { Stretch pairs.now starts.now m }
     requires named_rows { (k : ℕ) → get_or starts.now m 0 ≤ k → k < get_or starts.now (m + 1) 0 → NamedRow pairs.now (length marks.old) k }
     requires marks_room { outer ≤ length marks.old }
     ensures { marks.new ≡ mark_inner outer
-        (cond (eqb outer 0) marks.old (mark_held (cond (eqb kind triangular) 2 1) marks.old outer))
+        (cond (eqb outer 0) marks.old (mark_held (cond (is_triangular kind) 2 1) marks.old outer))
         (regions_of (rows_of pairs.now starts.now m)) }
 {
     hold_outer(&mut *marks, outer, kind);
@@ -142,9 +140,9 @@ pub fn hold_proposal(
     hold_inner(pairs, &mut *marks, first, end, outer);
 }
 
-fn hold_outer(marks: &mut [u16], outer: u32, kind: u8)
+fn hold_outer(marks: &mut [u16], outer: u32, kind: MouthKind)
     requires { outer ≤ length marks.old }
-    ensures { marks.new ≡ cond (eqb outer 0) marks.old (mark_held (cond (eqb kind triangular) 2 1) marks.old outer) }
+    ensures { marks.new ≡ cond (eqb outer 0) marks.old (mark_held (cond (is_triangular kind) 2 1) marks.old outer) }
 {
     if outer != 0 {
         hold_region(&mut *marks, outer, outer_hold(kind));

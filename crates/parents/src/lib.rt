@@ -3,7 +3,7 @@
 
 #![tactic(auto)]
 
-ghost use Rattle.std.specs.Prelude.{◌≡◌, ℕ, ◌≤◌, ◌<◌, length};
+ghost use Rattle.std.specs.Prelude.{ℕ, ◌≤◌, ◌<◌, length};
 ghost use Rattle.parents.specs.Forest.{Forest, Placed, PlacedTwo, Found, Left, joined_name};
 
 // The name of a number's class. Every second parent on the way becomes its parent's parent, so that the next way is shorter.

@@ -28,6 +28,7 @@ pub fn put_shortest(out: &mut [u8], at: usize, n: u64) -> usize
 {
     let mut left = n;
     let mut place = at;
+    // Kept: how many groups there are shows only as the number is divided, so that a `for` would be left early on every path.
     while 128 <= left {
         out[place] = continued(left);
         left /= 128;

@@ -9,7 +9,6 @@ ghost use Rattle.ranked_list.specs.RankedList.{numbers_per_ranked};
 ghost use Rattle.pass_lists.specs.Finished.{Finishes};
 ghost use Rattle.ranked_finish.specs.Ends.{RankedRefused, RankedFinished};
 
-use areas::clear::clear_numbers;
 use call_partition::scratch::clear_scratch;
 use pass_lists::finish;
 use ranked_rows::NUMBERS_PER_RANKED;
@@ -45,8 +44,7 @@ fn refuse_list(
         result masks.new queue.new lent.new }
 {
     clear_scratch(masks, queue, needed);
-    let size = lent.len();
-    clear_numbers(lent, size);
+    lent.fill(0);
     RankedAnswer {
         number: 21,
         value: 0,

@@ -3,7 +3,7 @@ use Prim.Native.Nat.{ℕ, zero, suc, ◌+◌, ◌*◌, ◌≤◌, ◌<◌, zero-
 use native.Mathlib.Omega.{arith}
 use mathlib.Core.Path.{◌≡◌, refl, sym, ap, ap₂, ◌∙◌}
 use mathlib.Core.Bool.{Bool, true, false, ◌&&◌}
-use Rattle.std.specs.Prelude.{Some}
+use Rattle.std.specs.Prelude.{Option, None, Some}
 use mathlib.Core.List.{List, [], ◌∷◌, ◌++◌}
 use lib.ListN.{length, get_or, drop, length-append, length-drop, get_or-append}
 use lib.Seq.{sets, get_or_at}
@@ -13,7 +13,8 @@ use Rattle.definitions.specs.Scan.{collect}
 use Rattle.definitions.specs.Lists.{overwrite}
 use Rattle.definitions.specs.Junctions.{Proposal}
 use Rattle.laws.specs.ListLaws.Overwritten.{overwrite_more}
-use Rattle.junction_proposals.specs.Bridges.{FirstFrom}
+use Rattle.junction_proposals.specs.declared.proposals.Candidate.{Candidate}
+use Rattle.junction_proposals.specs.Bridges.{FirstIn}
 use Rattle.junction_proposals.specs.Rows.{row_at}
 use Rattle.junction_selection.specs.Ranks.{order_of, conflict_at}
 use Rattle.ranked_list.specs.RankedList.{Listed, blocks, judged, judged_after, flat_ranked}
@@ -40,15 +41,15 @@ module _ {A : Type 0} (f : ℕ → A) where
           let q : n ≡ i = omega (arith, ltb-false i n e) in
           get_or_at (collect n (λ k. Some (f k))) (f n) [] d i (all-length n ∙ q) ∙ ap f q
 
-pub order-length : (rows order : List ℕ) (m : ℕ) → length (order_of rows order m) ≡ m
+pub order-length : (rows : List Candidate) (order : List ℕ) (m : ℕ) → length (order_of rows order m) ≡ m
 unfolding order_of
 order-length rows order m = all-length (λ k. row_at rows (get_or order k 0)) m
 
-order_at : (rows order : List ℕ) (m i : ℕ) (d : Proposal) → i < m → get_or (order_of rows order m) i d ≡ row_at rows (get_or order i 0)
+order_at : (rows : List Candidate) (order : List ℕ) (m i : ℕ) (d : Proposal) → i < m → get_or (order_of rows order m) i d ≡ row_at rows (get_or order i 0)
 unfolding order_of
 order_at rows order m i d h = all_at (λ k. row_at rows (get_or order k 0)) m i d h
 
-pub order_next : (rows order : List ℕ) (k : ℕ) → order_of rows order (k + 1) ≡ order_of rows order k ++ (row_at rows (get_or order k 0) ∷ [])
+pub order_next : (rows : List Candidate) (order : List ℕ) (k : ℕ) → order_of rows order (k + 1) ≡ order_of rows order k ++ (row_at rows (get_or order k 0) ∷ [])
 unfolding order_of collect
 order_next rows order k =
     let one : k + 1 ≡ suc k = omega arith in
@@ -57,16 +58,11 @@ order_next rows order k =
 -- ---- a row more
 
 -- a search of one list is that of another that is alike
-alike : {f g : ℕ → Bool} {n m r : ℕ} → ((i : ℕ) → i < n → f i ≡ g i) → n ≡ m → FirstFrom f 0 n r → FirstFrom g 0 m r
-alike e q s =
-    record {
-      within = omega (arith, s.within, q);
-      behind = λ h. omega arith;
-      None = λ j a h. sym (e j (omega (arith, s.within))) ∙ s.none j a h;
-      found = λ h. sym (e _ (omega (arith, q))) ∙ s.found (omega (arith, q));
-    }
+alike : {f g : ℕ → Bool} {n m : ℕ} → ((i : ℕ) → i < n → f i ≡ g i) → n ≡ m → (found : Option ℕ) → FirstIn f 0 n found → FirstIn g 0 m found
+alike e q None s = λ j a h. sym (e j (omega arith)) ∙ s j a (omega arith)
+alike e q (Some r) s = (s.0, omega (arith, s.1), sym (e r s.1) ∙ s.2, λ j a h. sym (e j (omega (arith, s.1))) ∙ s.3 j a h)
 
-module _ (smaller larger rows order : List ℕ) (count k p : ℕ) where
+module _ (smaller larger : List ℕ) (rows : List Candidate) (order : List ℕ) (count k p : ℕ) where
   abbrev clash : Proposal → Proposal → Bool
   clash = conflict_at smaller larger count
 
@@ -83,10 +79,10 @@ module _ (smaller larger rows order : List ℕ) (count k p : ℕ) where
       sym (order_at rows order k i d.item h)
       ∙ sym (ap (λ r. r.item) (row_at_lem clash [] (order_of rows order k) i d d.item (omega (arith, order-length rows order k))))
 
-  pub row-follows : {was now : List ℕ} {n r : ℕ} → Listing rows order was count n → RankOf order n k p → FirstFrom (blocks_at smaller larger count rows order was p) 0 k r → now ≡ sets was (6 * k) (ranked_row (row_at rows p) k r)
+  pub row-follows : {was now : List ℕ} {n : ℕ} (found : Option ℕ) → Listing rows order was count n → RankOf order n k p → FirstIn (blocks_at smaller larger count rows order was p) 0 k found → now ≡ sets was (6 * k) (ranked_row (row_at rows p) found)
       → Following smaller larger count rows order k p was now
-  row-follows {was} {now} {n} {r} listing rank first stored old e =
-      stored ∙ ap (λ l. sets l (6 * k) (ranked_row (row_at rows p) k r)) e ∙ ap₂ (sets (overwrite (flat_ranked before) old)) place written
+  row-follows {was} {now} {n} found listing rank first stored old e =
+      stored ∙ ap (λ l. sets l (6 * k) (ranked_row (row_at rows p) found)) e ∙ ap₂ (sets (overwrite (flat_ranked before) old)) place written
       ∙ overwrite_more (flat_ranked before) (flat_ranked (judged clash before (row_at rows p) ∷ [])) old room
       ∙ ap (λ l. overwrite l old) (sym (flat_more before (judged clash before (row_at rows p))) ∙ ap flat_ranked (sym grown))
     where
@@ -105,10 +101,8 @@ module _ (smaller larger rows order : List ℕ) (count k p : ℕ) where
           item : row_at rows (get_or order i 0) ≡ (get_or before i nobody).item
           item = before-item i nobody h
 
-      written : ranked_row (row_at rows p) k r ≡ flat_ranked (judged clash before (row_at rows p) ∷ [])
-      written =
-          ap (λ m. ranked_row (row_at rows p) m r) (sym before-length)
-          ∙ sym (row_written clash before (row_at rows p) r nobody (alike held (sym before-length) first))
+      written : ranked_row (row_at rows p) found ≡ flat_ranked (judged clash before (row_at rows p) ∷ [])
+      written = sym (row_written clash before (row_at rows p) found nobody (alike held (sym before-length) found first))
 
       place : 6 * k ≡ length (flat_ranked before)
       place = omega (arith, flat-length before, before-length)
@@ -134,16 +128,16 @@ module _ (smaller larger rows order : List ℕ) (count k p : ℕ) where
 -- ---- rank by rank
 
 -- the rows of the first k ranks are written
-pub record ListedTo (smaller larger rows order : List ℕ) (count m : ℕ) (was listed : List ℕ) (k : ℕ) : Type 0 where
+pub record ListedTo (smaller larger : List ℕ) (rows : List Candidate) (order : List ℕ) (count m : ℕ) (was listed : List ℕ) (k : ℕ) : Type 0 where
   pub upto : k ≤ m
   pub is : listed ≡ overwrite (flat_ranked (listed_from smaller larger count (order_of rows order k))) was
   pub long : length listed ≡ length was
 
-pub listed_none : (smaller larger rows order : List ℕ) (count m : ℕ) (was : List ℕ) → ListedTo smaller larger rows order count m was was 0
+pub listed_none : (smaller larger : List ℕ) (rows : List Candidate) (order : List ℕ) (count m : ℕ) (was : List ℕ) → ListedTo smaller larger rows order count m was was 0
 unfolding listed_from order_of judged_after flat_ranked collect
 listed_none smaller larger rows order count m was = record { upto = zero-le; is = refl; long = refl }
 
-pub listed_more : {smaller larger rows order was listed listed' : List ℕ} {count m k p : ℕ} → ListedTo smaller larger rows order count m was listed k → k < m → p ≡ get_or order k 0
+pub listed_more : {smaller larger : List ℕ} {rows : List Candidate} {order was listed listed' : List ℕ} {count m k p : ℕ} → ListedTo smaller larger rows order count m was listed k → k < m → p ≡ get_or order k 0
     → Following smaller larger count rows order k p listed listed' → length listed' ≡ length listed → ListedTo smaller larger rows order count m was listed' (k + 1)
 listed_more {smaller} {larger} {rows} {order} {was} {listed} {listed'} {count} {m} {k} {p} h l e f s =
     record {
@@ -156,12 +150,12 @@ listed_more {smaller} {larger} {rows} {order} {was} {listed} {listed'} {count} {
     }
 
 -- other lists of the same length
-pub listing_of : {rows order was : List ℕ} {count n : ℕ} (listed : List ℕ) → Listing rows order was count n → length listed ≡ length was → Listing rows order listed count n
+pub listing_of : {rows : List Candidate} {order was : List ℕ} {count n : ℕ} (listed : List ℕ) → Listing rows order was count n → length listed ≡ length was → Listing rows order listed count n
 listing_of listed h e =
     record { few = h.few; whole = h.whole; small = h.small; below = h.below; ordered = h.ordered; room = omega (arith, h.room) }
 
 -- as many rows as the order names
-pub listed-count : (smaller larger : List ℕ) (count : ℕ) (rows order : List ℕ) (m : ℕ) (all : List Proposal) → order_of rows order m ≡ all
+pub listed-count : (smaller larger : List ℕ) (count : ℕ) (rows : List Candidate) (order : List ℕ) (m : ℕ) (all : List Proposal) → order_of rows order m ≡ all
     → m ≡ length (listed_from smaller larger count all)
 unfolding listed_from
 listed-count smaller larger count rows order m all e =

@@ -8,11 +8,13 @@ use lib.ListN.{length, get_or, set}
 use lib.Seq.{sets}
 use lib.Dec.{eqb}
 use borrow.Author.Tests.{eq-eqb, ne_eqb}
+use Rattle.std.specs.Prelude.{Option, None, Some}
+use Rattle.std.specs.Option.{is_some, unwrap_or, option_map}
 use Rattle.definitions.specs.Scan.{any, bit}
 use Rattle.definitions.specs.Junctions.{Proposal}
 use Rattle.laws.specs.ListLaws.Tests.{eqb_same}
 use Rattle.laws.specs.ListLaws.Flags.{bit-is_one}
-use Rattle.junction_proposals.specs.Bridges.{FirstFrom}
+use Rattle.junction_proposals.specs.Bridges.{FirstIn}
 use Rattle.ranked_list.specs.RankedList.{Listed, first_place, blocks, judged, judged_after, flat_ranked}
 use Rattle.ranked_rows.specs.Contract.{ranked_row}
 
@@ -63,57 +65,43 @@ taken-number (q ∷ l) d (suc r) h =
 
 -- ---- the first that passes
 
-next_eqb : (a b : ℕ) → eqb (suc a) (suc b) ≡ eqb a b
-next_eqb a b = eqb_same (suc a) (suc b) a b (λ e. omega (arith, e), λ e. omega (arith, e))
-
 module _ {A : Type 0} (f : Listed A → Bool) (d : Listed A) where
   -- what a search from the front found, as `any` and `first_place` have it
-  pub record FoundAs (l : List (Listed A)) (r : ℕ) : Type 0 where
-    pub some : any f l ≡ not (eqb r (length l))
-    pub place : first_place f l ≡ cond (eqb r (length l)) 0 r
+  pub record FoundAs (l : List (Listed A)) (found : Option ℕ) : Type 0 where
+    pub some : any f l ≡ is_some found
+    pub place : first_place f l ≡ unwrap_or found 0
 
-  further : (x : Listed A) (l : List (Listed A)) (r : ℕ) → f x ≡ false → FirstFrom (λ i. f (get_or (x ∷ l) i d)) 0 (suc (length l)) (suc r) → FirstFrom (λ i. f (get_or l i d)) 0 (length l) r
-  further x l r e s =
-      record { within = omega (arith, s.within); behind = λ h. omega arith; none = λ j a h. s.none (suc j) (omega arith) (omega arith); found = λ h. s.found (omega arith) }
-
-  pub found_as : (l : List (Listed A)) (r : ℕ) → FirstFrom (λ i. f (get_or l i d)) 0 (length l) r → FoundAs l r
+  -- one that passes is in front
+  in_front : (x : Listed A) (l : List (Listed A)) → f x ≡ true → FoundAs (x ∷ l) (Some 0)
   unfolding any first_place
-  found_as [] r s =
-      let e : eqb r 0 ≡ true = eq-eqb r 0 (omega (arith, s.within)) in
-      record { some = sym (ap not e); place = sym (ap (λ b. cond b 0 r) e) }
-  found_as (x ∷ l) r s = go (f x) refl r s (found_as l)
-    where
-      go : (b : Bool) → f x ≡ b → (r : ℕ) → FirstFrom (λ i. f (get_or (x ∷ l) i d)) 0 (suc (length l)) r
-          → ((r : ℕ) → FirstFrom (λ i. f (get_or l i d)) 0 (length l) r → FoundAs l r) → FoundAs (x ∷ l) r
-      go true e zero s ih =
-          let z : eqb 0 (suc (length l)) ≡ false = ne_eqb 0 (suc (length l)) (λ q. omega (arith, q)) in
-          record {
-            some = ap (λ b. b || any f l) e ∙ sym (ap not z);
-            place = ap (λ b. cond b 0 (cond (any f l) (suc (first_place f l)) 0)) e ∙ sym (ap (λ b. cond b 0 0) z);
-          }
-      go true e (suc r) s ih = absurd (false≢true (sym (s.none 0 (omega arith) (omega arith)) ∙ e))
-      go false e zero s ih = absurd (false≢true (sym e ∙ s.found (omega arith)))
-      go false e (suc r) s ih =
-          let t = ih r (further x l r e s) in
-          record {
-            some = ap (λ b. b || any f l) e ∙ t.some ∙ ap not (sym (next_eqb r (length l)));
-            place =
-                ap (λ b. cond b 0 (cond (any f l) (suc (first_place f l)) 0)) e ∙ ap (λ c. cond c (suc (first_place f l)) 0) t.some
-                ∙ ap (λ n. cond (not (eqb r (length l))) (suc n) 0) t.place ∙ last (eqb r (length l)) ∙ ap (λ b. cond b 0 (suc r)) (sym (next_eqb r (length l)));
-          }
-        where
-          last : (b : Bool) → cond (not b) (suc (cond b 0 r)) 0 ≡ cond b 0 (suc r)
-          last true = refl
-          last false = refl
+  in_front x l e = record { some = ap (λ b. b || any f l) e; place = ap (λ b. cond b 0 (cond (any f l) (suc (first_place f l)) 0)) e }
+
+  -- or behind one that does not
+  behind : (x : Listed A) (l : List (Listed A)) (found : Option ℕ) → f x ≡ false → FoundAs l found → FoundAs (x ∷ l) (option_map suc found)
+  unfolding any first_place
+  behind x l None e t =
+      record {
+        some = ap (λ b. b || any f l) e ∙ t.some;
+        place = ap (λ b. cond b 0 (cond (any f l) (suc (first_place f l)) 0)) e ∙ ap (λ c. cond c (suc (first_place f l)) 0) t.some;
+      }
+  behind x l (Some r) e t =
+      record {
+        some = ap (λ b. b || any f l) e ∙ t.some;
+        place = ap (λ b. cond b 0 (cond (any f l) (suc (first_place f l)) 0)) e ∙ ap (λ c. cond c (suc (first_place f l)) 0) t.some ∙ ap suc t.place;
+      }
+
+  pub found_as : (l : List (Listed A)) (found : Option ℕ) → FirstIn (λ i. f (get_or l i d)) 0 (length l) found → FoundAs l found
+  unfolding any first_place
+  found_as [] None s = record { some = refl; place = refl }
+  found_as [] (Some r) s = absurd (omega (arith, s.1))
+  found_as (x ∷ l) None s = behind x l None (s 0 (omega arith) (omega arith)) (found_as l None (λ j a h. s (suc j) (omega arith) (omega arith)))
+  found_as (x ∷ l) (Some zero) s = in_front x l s.2
+  found_as (x ∷ l) (Some (suc r)) s = behind x l (Some r) (s.3 0 (omega arith) (omega arith)) (found_as l (Some r) (omega arith, omega (arith, s.1), s.2, λ j a h. s.3 (suc j) (omega arith) (omega arith)))
 
 -- so the row that is written is that of what was found
-pub row_written : (clash : Proposal → Proposal → Bool) (l : List (Listed Proposal)) (p : Proposal) (r : ℕ) (d : Listed Proposal)
-    → FirstFrom (λ i. blocks clash p (get_or l i d)) 0 (length l) r → flat_ranked (judged clash l p ∷ []) ≡ ranked_row p (length l) r
+pub row_written : (clash : Proposal → Proposal → Bool) (l : List (Listed Proposal)) (p : Proposal) (found : Option ℕ) (d : Listed Proposal)
+    → FirstIn (λ i. blocks clash p (get_or l i d)) 0 (length l) found → flat_ranked (judged clash l p ∷ []) ≡ ranked_row p found
 unfolding flat_ranked judged
-row_written clash l p r d s =
-    let t = found_as (blocks clash p) d l r s in
-    ap₂ (λ b n. p.kind ∷ p.index ∷ p.first ∷ p.second ∷ bit (not b) ∷ n ∷ []) t.some t.place ∙ last (eqb r (length l))
-  where
-    last : (b : Bool) → (p.kind ∷ p.index ∷ p.first ∷ p.second ∷ bit (not (not b)) ∷ cond b 0 r ∷ []) ≡ (p.kind ∷ p.index ∷ p.first ∷ p.second ∷ bit b ∷ cond b 0 r ∷ [])
-    last true = refl
-    last false = refl
+row_written clash l p found d s =
+    let t = found_as (blocks clash p) d l found s in
+    ap₂ (λ b n. p.kind ∷ p.index ∷ p.first ∷ p.second ∷ bit (not b) ∷ n ∷ []) t.some t.place

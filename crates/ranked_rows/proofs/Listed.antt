@@ -9,6 +9,7 @@ use Rattle.definitions.specs.Scan.{any, filter}
 use Rattle.definitions.specs.Context.{Context}
 use Rattle.definitions.specs.Junctions.{conflict, proposals}
 use Rattle.laws.specs.ListLaws.Lists.{All, done, more, all_append}
+use Rattle.junction_proposals.specs.declared.proposals.Candidate.{Candidate}
 use Rattle.junction_proposals.specs.Lent.{Shows}
 use Rattle.junction_proposals.specs.Rows.{row_at, rows_of, is_allowed}
 use Rattle.junction_selection.specs.Ranks.{conflict_at}
@@ -47,7 +48,7 @@ module _ {A : Type 0} (P : A → Type 0) (c d : A → A → Bool) (same : (x y :
 
 -- ---- of a context
 
-pub listed_is : (boundaries smaller larger counts marks rows : List ℕ) (verdicts : List Bool) (count regions n : ℕ) (C : Context) → Shows boundaries smaller larger counts marks count regions C
+pub listed_is : (boundaries smaller larger counts marks : List ℕ) (rows : List Candidate) (verdicts : List Bool) (count regions n : ℕ) (C : Context) → Shows boundaries smaller larger counts marks count regions C
     → filter (is_allowed C) (rows_of rows n) ≡ proposals C → ((k : ℕ) → k < n → get_or verdicts k false ≡ is_allowed C (row_at rows k))
     → allowed_list smaller larger count boundaries rows verdicts n ≡ ranked_rows C
 unfolding allowed_list listed_from ranked_rows

@@ -2,20 +2,19 @@
 
 #![tactic(auto)]
 
-ghost use Rattle.std.specs.Prelude.{◌≡◌, ◌&&◌, cond, [], ◌∷◌, ◌+◌, ◌*◌, ◌≤◌, ◌<◌, length, get_or, eqb};
+ghost use Rattle.std.specs.Prelude.{◌≡◌, ◌&&◌, [], ◌∷◌, ◌+◌, ◌*◌, ◌≤◌, ◌<◌, length, get_or, IfSome};
 ghost use Rattle.std.proofs.lemmas.List.Edits.{sets};
-ghost use Rattle.definitions.specs.Scan.{any_below_lem, bit};
+ghost use Rattle.definitions.specs.Scan.{any_below_lem};
 ghost use Rattle.definitions.specs.Lists.{overwrite};
-ghost use Rattle.junction_proposals.specs.Bridges.{FirstFrom};
-ghost use Rattle.junction_proposals.specs.Rows.{numbers_per_proposal, row_at};
+ghost use Rattle.junction_proposals.specs.Bridges.{FirstIn};
+ghost use Rattle.junction_proposals.specs.Rows.{row_at};
 ghost use Rattle.junction_selection.specs.Ranks.{reserves_at, conflict_at, order_of, Rows};
 ghost use Rattle.ranked_list.specs.RankedList.{numbers_per_ranked, flat_ranked};
 ghost use Rattle.ranked_rows.specs.Contract.{TwoRows, Listing, RankOf, Allowed, blocks_at, ranked_row, Following, listed_from, allowed_list};
 
-use junction_proposals::proposals::{MAX_PROPOSALS, NUMBERS_PER_PROPOSAL};
+use junction_proposals::proposals::{Candidate, MAX_PROPOSALS};
 use junction_selection::ranks::rank_proposals;
 use junction_selection::selection::{region_conflict, reserves};
-use plain_numbers::wide;
 
 // A row of the list: kind, boundary, two regions, whether it was taken, and by what rank it was refused.
 pub const NUMBERS_PER_RANKED: usize = 6;
@@ -24,7 +23,7 @@ pub const NUMBERS_PER_RANKED: usize = 6;
 fn share_port(
     smaller: &[u32; 256],
     larger: &[u32; 256],
-    rows: &[u32],
+    rows: &[Candidate],
     count: usize,
     q: usize,
     p: usize,
@@ -33,19 +32,14 @@ fn share_port(
     ensures { result ≡ any_below_lem count (λ j. reserves_at smaller.now larger.now (row_at rows.now p) j
         && reserves_at smaller.now larger.now (row_at rows.now q) j) }
 {
-    for j in 0..count {
-        if reserves(smaller, larger, rows, p, j) & reserves(smaller, larger, rows, q, j) {
-            return true;
-        }
-    }
-    false
+    (0..count).any(|j| reserves(smaller, larger, rows, p, j) & reserves(smaller, larger, rows, q, j))
 }
 
 // Whether row q, taken, keeps row p from being taken.
 fn conflicts(
     smaller: &[u32; 256],
     larger: &[u32; 256],
-    rows: &[u32],
+    rows: &[Candidate],
     count: usize,
     q: usize,
     p: usize,
@@ -53,8 +47,8 @@ fn conflicts(
     requires { TwoRows rows.now count q p }
     ensures { result ≡ conflict_at smaller.now larger.now count (row_at rows.now q) (row_at rows.now p) }
 {
-    let i = wide(rows[NUMBERS_PER_PROPOSAL * q]);
-    let j = wide(rows[NUMBERS_PER_PROPOSAL * p]);
+    let i = rows[q].index;
+    let j = rows[p].index;
     let boundary = reserves(smaller, larger, rows, p, i) | reserves(smaller, larger, rows, q, j);
     let port = share_port(smaller, larger, rows, count, q, p);
     boundary | port | region_conflict(rows, q, p)
@@ -64,7 +58,7 @@ fn conflicts(
 fn blocks(
     smaller: &[u32; 256],
     larger: &[u32; 256],
-    rows: &[u32],
+    rows: &[Candidate],
     order: &[u32],
     listed: &[u32],
     count: usize,
@@ -78,53 +72,28 @@ fn blocks(
     if listed[NUMBERS_PER_RANKED * r + 4] != 1 {
         return false;
     }
-    conflicts(smaller, larger, rows, count, wide(order[r]), p)
+    conflicts(smaller, larger, rows, count, order[r] as usize, p)
 }
 
-// The first rank below k that was taken and conflicts with row p; k where there is none.
+// The first rank below k that was taken and conflicts with row p.
 fn refused_by(
     smaller: &[u32; 256],
     larger: &[u32; 256],
-    rows: &[u32],
+    rows: &[Candidate],
     order: &[u32],
     listed: &[u32],
     count: usize,
     n: usize,
     k: usize,
     p: usize,
-) -> usize
+) -> Option<usize>
     requires listing { Listing rows.now order.now listed.now count n }
     requires rank { RankOf order.now n k p }
-    ensures { FirstFrom (blocks_at smaller.now larger.now count rows.now order.now listed.now p)
+    ensures first { FirstIn (blocks_at smaller.now larger.now count rows.now order.now listed.now p)
         0 k result }
+    ensures bound { IfSome result (λ r. r < k) }
 {
-    for r in 0..k {
-        if blocks(smaller, larger, rows, order, listed, count, r, p) {
-            return r;
-        }
-    }
-    k
-}
-
-// 1 for a row of rank k that is refused by none before it.
-fn taken_number(k: usize, by: usize) -> u32
-    ensures { result ≡ bit (eqb by k) }
-{
-    if by == k {
-        return 1;
-    }
-    0
-}
-
-// The rank that a row of rank k names.
-fn named_rank(k: usize, by: usize) -> u32
-    requires { by < 65536 }
-    ensures { result ≡ cond (eqb by k) 0 by }
-{
-    if by == k {
-        return 0;
-    }
-    by as u32
+    (0..k).find(|&r| blocks(smaller, larger, rows, order, listed, count, r, p))
 }
 
 // Six numbers, from a place on.
@@ -149,22 +118,23 @@ fn put_row(
     listed[at + 5] = by;
 }
 
-// Writes row p as that of rank k, refused by rank `by`; taken, where that is k itself.
-fn put_ranked(rows: &[u32], listed: &mut [u32], k: usize, p: usize, by: usize)
-    requires room { (numbers_per_proposal * p + 3 < length rows.now) × (numbers_per_ranked * k + 5 < length listed.old) }
-    requires by_within { by < 65536 }
-    ensures { listed.new ≡ sets listed.old (numbers_per_ranked * k) (ranked_row (row_at rows.now p) k by) }
+// Writes row p as that of rank k; it was refused by the rank that there may be, and else was taken.
+fn put_ranked(rows: &[Candidate], listed: &mut [u32], k: usize, p: usize, by: Option<usize>)
+    requires room { (p < length rows.now) × (numbers_per_ranked * k + 5 < length listed.old) }
+    requires index_within { (row_at rows.now p).index < 256 }
+    requires by_within { IfSome by (λ r. r < 65536) }
+    ensures { listed.new ≡ sets listed.old (numbers_per_ranked * k) (ranked_row (row_at rows.now p) by) }
 {
-    let from = NUMBERS_PER_PROPOSAL * p;
-    let taken = taken_number(k, by);
-    let rank = named_rank(k, by);
+    let row = rows[p];
+    let taken = u32::from(by.is_none());
+    let rank = by.unwrap_or(0) as u32;
     put_row(
         listed,
         NUMBERS_PER_RANKED * k,
-        rows[from + 1],
-        rows[from],
-        rows[from + 2],
-        rows[from + 3],
+        row.kind.number(),
+        row.index as u32,
+        row.first,
+        row.second,
         taken,
         rank,
     );
@@ -174,7 +144,7 @@ fn put_ranked(rows: &[u32], listed: &mut [u32], k: usize, p: usize, by: usize)
 fn list_row(
     smaller: &[u32; 256],
     larger: &[u32; 256],
-    rows: &[u32],
+    rows: &[Candidate],
     order: &[u32],
     listed: &mut [u32],
     count: usize,
@@ -195,7 +165,7 @@ fn list_row(
 fn list_in_order(
     smaller: &[u32; 256],
     larger: &[u32; 256],
-    rows: &[u32],
+    rows: &[Candidate],
     order: &[u32],
     listed: &mut [u32],
     count: usize,
@@ -218,7 +188,7 @@ fn list_in_order(
             count,
             n,
             k,
-            wide(order[k]),
+            order[k] as usize,
         );
     }
 }
@@ -228,7 +198,7 @@ pub fn list_ranked(
     boundaries: &[u64],
     smaller: &[u32; 256],
     larger: &[u32; 256],
-    rows: &[u32],
+    rows: &[Candidate],
     verdicts: &[bool],
     listed: &mut [u32],
     count: usize,

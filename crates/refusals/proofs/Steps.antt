@@ -2,10 +2,11 @@
 use Prim.Native.Nat.{ℕ, ◌≤◌}
 use Rattle.refusals.specs.declared.Cause.{Cause}
 use Rattle.refusals.specs.Refusals.{number_of}
-use mathlib.Core.Path.{◌≡◌, sym, ap, ◌∙◌}
+use mathlib.Core.Path.{◌≡◌, refl, sym, ap, ◌∙◌}
 use mathlib.Core.Bool.{Bool, true, false}
 use borrow.Author.Rules.{rules}
-use Rattle.std.specs.Prelude.{Option, None, Some}
+use Rattle.std.specs.Prelude.{Option, None, Some, Result, Ok, Err, IsOk}
+use Rattle.refusals.specs.declared.Refusal as code
 use Rattle.definitions.specs.Refusals.{Refusal, or_else, unless}
 use Rattle.definitions.specs.Verdict.{refusal}
 
@@ -33,3 +34,8 @@ holds number false p = cc
 -- a refusal's number is not 0, which is that of success
 pub positive : (c : Cause) → 1 ≤ number_of c
 positive c = search rules
+
+-- what is never a refusal
+pub is-ok : {A : Type 0} (r : Result A code.Refusal) → ((x : code.Refusal) → r ≡ Err x → ⊥) → IsOk r
+is-ok (Ok a) h = refl
+is-ok (Err x) h = absurd (h x refl)

@@ -16,8 +16,7 @@ use Rattle.refusals.specs.Refusals.{number_of}
 use Rattle.sheet.specs.Contract.{answer_of, reading_within, Answered}
 use Rattle.sheet.specs.declared.Header.{Header}
 use Rattle.report.specs.Runs.{refused_run}
-use Rattle.report.specs.Report as def
-use Rattle.report.specs.Report.{max_runs, sum64, added_by, add_run}
+use Rattle.report.specs.Report.{max_runs, sum64, added_by}
 use Rattle.report.proofs.ReportLaws.Order as order
 use Rattle.report_figures.specs.declared.Report.{Report}
 use Rattle.report_figures.specs.Forms.{report_form}

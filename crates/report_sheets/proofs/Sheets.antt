@@ -18,7 +18,7 @@ use Rattle.topology.specs.Contract.{answer_of as call-says}
 use Rattle.topology.specs.declared.Answer as call
 use Rattle.std.specs.Prelude.{Result, Ok, Err}
 use Rattle.refusals.specs.declared.Refusal.{Refusal}
-use Rattle.refusals.specs.Refusals.{number_of}
+use Rattle.refusals.specs.Refusals.{number_of, refusal_of}
 use Rattle.sheet.specs.Contract.{Answered, by_number, reading_within, answer_of as sheet-says}
 use Rattle.sheet.specs.declared.Header.{Header}
 use Rattle.sheet_answer.specs.Contract.{ListsLong, keptlist_reading, sheet_from, sheet_in, SheetHeld}
@@ -99,7 +99,8 @@ module _ (bytes cells spans boundaries anchors : List ℕ) (L : ListsLong (lengt
       go : (x : Reading) → by_number (Err refusal) ≡ sheet-says x → AddedReading Q x r
       go (well_formed s) f = absurd (let z : ◌≡◌ {A = ℕ} 0 1 = cc f in omega arith)
       go (refused n p) f =
-          let same : refused (number_of refusal.cause) refusal.place ≡ refused n p = cc f in
+          let s : refusal_of refusal ≡ record { number = n; place = p } = cc f in
+          let same : refused (number_of refusal.cause) refusal.place ≡ refused n p = ap (λ x. refused x.number x.place) s in
           subst (λ x. AddedReading Q x r) same B
 
 -- ---- the report

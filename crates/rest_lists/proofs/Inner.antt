@@ -25,7 +25,7 @@ use Rattle.refusals.proofs.Steps.{next}
 use Rattle.std.specs.Prelude.{Result, Err, Ok, IsOk}
 use Rattle.refusals.specs.declared.Refusal as code
 use Rattle.refusals.specs.Refusals.{number_of}
-use Rattle.refusals.proofs.Steps.{positive}
+use Rattle.refusals.proofs.Steps.{positive, is-ok}
 use Rattle.call_partition.specs.declared.Ready.{Ready}
 use Rattle.call_partition.specs.Early.{sizes_refusal, entries_refusal, early_refusal}
 use Rattle.call_partition.specs.Prepared.{PreparedAs, DividedAs}
@@ -64,11 +64,6 @@ pub zeroed-length : (n : ℕ) (l : List ℕ) → n ≤ length l → length (zero
 zeroed-length n l h =
     let zeros : length (replicate {A = ℕ} n 0) ≡ n = length-replicate {A = ℕ} n 0 in
     length-append (replicate n 0) (drop n l) ∙ omega (arith, zeros, length-drop n l)
-
--- what is never a refusal
-is-ok : (r : Result Ready code.Refusal) → ((x : code.Refusal) → r ≡ Err x → ⊥) → IsOk r
-is-ok (Ok ready) h = refl
-is-ok (Err x) h = absurd (h x refl)
 
 -- ---- a partition of the run, with lists as long as its own
 

@@ -9,7 +9,7 @@ use Rattle.definitions.specs.Sheet.{Reading, well_formed, refused, keptlist_cell
 use Rattle.definitions.specs.Printed.{max_sheet_bytes, refused_line}
 use Rattle.std.specs.Prelude.{Result, Ok, Err}
 use Rattle.refusals.specs.declared.Refusal.{Refusal}
-use Rattle.refusals.specs.Refusals.{number_of}
+use Rattle.refusals.specs.Refusals.{number_of, refusal_of}
 use Rattle.sheet.specs.Contract.{Answered, by_number, reading_within}
 use Rattle.sheet.specs.declared.Header.{Header}
 use Rattle.printed.specs.Contract.{Printed}
@@ -35,7 +35,8 @@ module _ {cells spans boundaries anchors out : List ℕ} where
     not-read-begun (well_formed s) refusal A e P = absurd (let q = ap by_number (sym e) ∙ A.said in let z : ◌≡◌ {A = ℕ} 0 1 = cc q in omega arith)
     not-read-begun (refused m p) refusal {n} {out'} A e P =
         let q = ap by_number (sym e) ∙ A.said in
-        let same : refused_line (number_of refusal.cause) refusal.place ≡ refused_line m p = cc q in
+        let r : refusal_of refusal ≡ record { number = m; place = p } = cc q in
+        let same : refused_line (number_of refusal.cause) refusal.place ≡ refused_line m p = ap (λ x. refused_line x.number x.place) r in
         let Q : Printed (refused_line m p) out out' n = subst (λ l. Printed l out out' n) same P in
         record {
           said = ap Err Q.length_is;

@@ -37,11 +37,7 @@ fn read(
         out.new }
 {
     if SHEET_BYTES_MOST < bytes.len() {
-        return Err(print_refused(
-            &mut *out,
-            Cause::Sheet.number(),
-            SHEET_BYTES_MOST as u64,
-        ));
+        return Err(print_refused(&mut *out, Cause::Sheet.number(), SHEET_BYTES_MOST as u64));
     }
     match read_within(
         bytes,
@@ -52,11 +48,7 @@ fn read(
         &mut *anchors,
     ) {
         Ok(header) => Ok(header),
-        Err(refusal) => Err(print_refused(
-            &mut *out,
-            refusal.cause.number(),
-            refusal.place as u64,
-        )),
+        Err(refusal) => Err(print_refused(&mut *out, refusal.cause.number(), refusal.place as u64)),
     }
 }
 
@@ -184,14 +176,7 @@ pub fn keptlist(bytes: &[u8], out: &mut [u8; OUTPUT_ROOM]) -> usize
         &mut *out,
     ) {
         Err(count) => count,
-        Ok(header) => answer_held(
-            header,
-            &cells,
-            &spans,
-            &boundaries,
-            &anchors,
-            &mut *out,
-        ),
+        Ok(header) => answer_held(header, &cells, &spans, &boundaries, &anchors, &mut *out),
     }
 }
 

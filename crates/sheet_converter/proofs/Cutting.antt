@@ -15,7 +15,9 @@ use Rattle.definitions.specs.Sheet.{give, kind, has_spans, plain_cell_limit}
 use Rattle.laws.specs.ListLaws.Lists.{done, more, all_split}
 use Rattle.results.specs.Shortest.{shortest_within, shortest, list_bytes}
 use Rattle.sheet.specs.declared.Plan.{Plan}
-use Rattle.sheet.specs.Parts.{Opening, opening, Extent, sides, part_of, cells_in, sheet_of, SheetHeld}
+use Rattle.sheet.specs.declared.Heading.{Heading}
+use Rattle.sheet.specs.declared.Extent.{Extent}
+use Rattle.sheet.specs.Parts.{opening, sides, part_of, cells_in, sheet_of, SheetHeld}
 use Rattle.map_sheets.specs.SheetBytes.{spans_bytes, sheet_bytes}
 use Rattle.sheets_equal.specs.NumberBytes.{Bytes}
 use Rattle.sheets_equal.proofs.ReaderBytes.{Reads, reads-number, reads-give, reads_then, reads-check-then, reads_times}
@@ -33,9 +35,9 @@ bytes-known (x ∷ l) h = more (h 0) (bytes-known l (λ i. h (suc i)))
 reads-opening : Reads [] opening (λ o. shortest o.kind ++ shortest o.pass)
 unfolding opening
 reads-opening =
-    reads_then [] kind _ shortest (λ (o : Opening). shortest o.kind ++ shortest o.pass) reads-kind
-    (λ written. reads_then _ number _ shortest (λ (o : Opening). shortest o.kind ++ shortest o.pass) reads-number
-    (λ pass. reads-give _ (λ (o : Opening). shortest o.kind ++ shortest o.pass) (record { kind = written; pass = pass }) refl))
+    reads_then [] kind _ shortest (λ (o : Heading). shortest o.kind ++ shortest o.pass) reads-kind
+    (λ written. reads_then _ number _ shortest (λ (o : Heading). shortest o.kind ++ shortest o.pass) reads-number
+    (λ pass. reads-give _ (λ (o : Heading). shortest o.kind ++ shortest o.pass) (record { kind = written; pass = pass }) refl))
 
 reads-sides : (limit : ℕ) → Reads [] (sides limit) (λ e. shortest e.width ++ shortest e.height)
 unfolding sides
@@ -87,7 +89,7 @@ module _ {bytes : List ℕ} {plan : Plan} (B : Bytes bytes) (S : SheetHeld plain
       let o₂ = T.cells_first in
       let e₁ : bytes ≡ shortest plan.kind ++ shortest plan.pass ++ drop o₁ bytes = reads-opening.whole 0 bytes B T.opened in
       let B₁ = (all_split (shortest plan.kind ++ shortest plan.pass) (subst Bytes e₁ B)).1 in
-      let e₂ : drop o₁ bytes ≡ shortest plan.width ++ shortest plan.height ++ drop o₂ bytes = (reads-sides plain_cell_limit).whole o₁ (drop o₁ bytes) B₁ T.sided.same in
+      let e₂ : drop o₁ bytes ≡ shortest plan.width ++ shortest plan.height ++ drop o₂ bytes = (reads-sides plain_cell_limit).whole o₁ (drop o₁ bytes) B₁ T.sided in
       let B₂ = (all_split (shortest plan.width ++ shortest plan.height) (subst Bytes e₂ B₁)).1 in
       let cells = cells_in bytes plan.parts in
       let e₃ : drop o₂ bytes ≡ concat_map shortest cells ++ drop front bytes =

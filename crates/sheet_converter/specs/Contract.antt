@@ -8,6 +8,9 @@ use Rattle.definitions.specs.SheetNumber.{Read, found, failed}
 use Rattle.definitions.specs.Sheet.{endpoints_of, Sheet, well_formed}
 use Rattle.sheet.specs.declared.Plan.{Plan}
 use Rattle.sheet.specs.Parts.{sheet_of}
+use Rattle.refusals.specs.declared.Refusal as code
+use Rattle.refusals.specs.Refusals.{number_of}
+use Rattle.result_writer.specs.declared.Answer as writer
 use Rattle.results.specs.Shortest.{shortest}
 use Rattle.map_sheets.specs.SheetBytes.{sheet_bytes}
 use Rattle.map_sheets.specs.Writing.{written_at_exit}
@@ -50,3 +53,7 @@ cut_out front back bytes = shortest 3 ++ take (front - 1) (drop 1 bytes) ++ drop
 pub record ConvertsPlan (bytes : List ℕ) (plan : Plan) (lent : List ℕ) (answer : Answer) (lent' : List ℕ) : Type 0 where
   pub said : answer ≡ convert_answer (well_formed (sheet_of bytes plan)) (length lent)
   pub left : lent' ≡ written_at_exit answer.number (sheet_bytes 3 (sheet_of bytes plan)) lent
+
+-- a refusal by its number, with its place
+abbrev pub refused_at : code.Refusal → writer.Answer
+refused_at refusal = record { number = number_of refusal.cause; value = refusal.place }

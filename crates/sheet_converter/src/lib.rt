@@ -8,28 +8,25 @@ ghost use Rattle.definitions.specs.Limits.{max_side};
 ghost use Rattle.definitions.specs.SheetNumber as grammar;
 ghost use Rattle.definitions.specs.Refusals.{elevations_fault};
 ghost use Rattle.definitions.specs.Sheet.{cell, endpoints_of, plain_cell_limit};
-ghost use Rattle.checks.specs.Contract.{place_of};
-ghost use Rattle.areas.specs.Answers.{refusal_of};
+ghost use Rattle.refusals.specs.Refusals.{refusal_in};
 ghost use Rattle.sheet.specs.Numbers.{Held, values_at};
 ghost use Rattle.sheet.specs.Parts.{cells_in, sheet_of, SheetHeld};
 ghost use Rattle.put_shortest.specs.Contract.{Put};
 ghost use Rattle.result_writer.specs.Contract.{answer_in};
 ghost use Rattle.map_sheets.specs.Converting.{same_numbers, Converts};
-ghost use Rattle.sheet_converter.specs.Contract.{is_other, lists_refusal, map_refusal, refusal_for, Cut, cut_out, ConvertsPlan};
+ghost use Rattle.sheet_converter.specs.Contract.{is_other, lists_refusal, map_refusal, refusal_for, Cut, cut_out, ConvertsPlan, refused_at};
 
-use areas::checked::Check;
-use checks::Fault;
 use checks::anchors::anchors_fault;
 use checks::boundaries::boundaries_fault;
 use checks::cells::elevation_fits;
 use checks::limits::{NUMBERS_PER_BOUNDARY, NUMBERS_PER_SPAN};
 use checks::sizes::pass_fits;
-use checks::spans::{SpanFault, spans_fault};
+use checks::spans::spans_fault;
 use put_shortest::put_shortest;
-use result_writer::Answer;
+use refusals::{Cause, Refusal, ensure, no_fault};
+use result_writer::{Answer, refused};
 use sheet::{
-    CELL_MOST, ItemRead, NumberRead, PLAIN_CELL_LIMIT, Plan, SheetRead, fill_endpoints,
-    fill_numbers, item, judge_sheet, number_at,
+    CELL_MOST, PLAIN_CELL_LIMIT, Plan, fill_endpoints, fill_numbers, item, judge_sheet, number_at,
 };
 
 // ---- the kind
@@ -39,53 +36,45 @@ fn is_other_kind(bytes: &[u8]) -> bool
     ensures { result ≡ is_other (grammar.number 0 bytes.now) }
 {
     match number_at(bytes, 0) {
-        NumberRead::Value(kind, _) => kind != 1,
-        NumberRead::Bad => false,
-        NumberRead::Short => false,
+        Ok(kind) => kind.value != 1,
+        Err(_) => false,
     }
 }
 
 // ---- the checks
 
 // Checks 5 to 8.
-fn lists_check(width: u64, height: u64, spans: &[u64], boundaries: &[u64], anchors: &[u64]) -> Check
+fn lists_check(
+    width: u64,
+    height: u64,
+    spans: &[u64],
+    boundaries: &[u64],
+    anchors: &[u64],
+) -> Result<(), Refusal>
     requires { (width ≤ max_side) × (height ≤ max_side) }
-    ensures { refusal_of result ≡ lists_refusal width height spans.now boundaries.now anchors.now }
+    ensures { refusal_in result ≡ lists_refusal width height spans.now boundaries.now anchors.now }
 {
-    match spans_fault(width, height, spans) {
-        SpanFault::Outside(span) => {
-            return Check::Refused(5, span);
-        }
-        SpanFault::Equal(span) => {
-            return Check::Refused(6, span);
-        }
-        SpanFault::Nowhere => {}
-    }
-    if let Fault::At(boundary) = boundaries_fault(width, height, boundaries) {
-        return Check::Refused(7, boundary);
-    }
-    if let Fault::At(anchor) = anchors_fault(width, height, anchors) {
-        return Check::Refused(8, anchor);
-    }
-    Check::Fit
+    spans_fault(width, height, spans)?;
+    no_fault(boundaries_fault(width, height, boundaries), Cause::Boundary)?;
+    no_fault(anchors_fault(width, height, anchors), Cause::AnchorOutside)
 }
 
 // Check 9, of cells that were judged before, where they stand.
-fn cells_fault(bytes: &[u8], at: usize, count: usize) -> Fault
+fn cells_fault(bytes: &[u8], at: usize, count: usize) -> Option<usize>
     requires { Held cell bytes.now at count }
-    ensures { place_of result ≡ elevations_fault (values_at cell bytes.now at count) }
+    ensures { result ≡ elevations_fault (values_at cell bytes.now at count) }
 {
     let mut next = at;
     for i in 0..count {
-        let ItemRead::Item(value, behind) = item(bytes, next, CELL_MOST) else {
-            return Fault::Nowhere;
+        let Ok(read) = item(bytes, next, CELL_MOST) else {
+            return None;
         };
-        if !elevation_fits(value as u8) {
-            return Fault::At(i);
+        if !elevation_fits(read.value as u8) {
+            return Some(i);
         }
-        next = behind;
+        next = read.next;
     }
-    Fault::Nowhere
+    None
 }
 
 // Equally many numbers, and the same.
@@ -116,42 +105,38 @@ fn is_one_list(spans: &[u64], boundaries: &[u64]) -> bool
 }
 
 // Checks 4 to 9, and then 22, of a sheet whose cells stand in the bytes.
-fn map_check(bytes: &[u8], plan: Plan, spans: &[u64], boundaries: &[u64], anchors: &[u64]) -> Check
+fn map_check(
+    bytes: &[u8],
+    plan: Plan,
+    spans: &[u64],
+    boundaries: &[u64],
+    anchors: &[u64],
+) -> Result<(), Refusal>
     requires sides { (plan.width ≤ max_side) × (plan.height ≤ max_side) }
     requires cells { Held cell bytes.now plan.parts.cells.first plan.parts.cells.length }
     requires few { length boundaries.now ≤ 2304 }
-    ensures { refusal_of result
+    ensures { refusal_in result
         ≡ map_refusal plan.pass plan.width plan.height (cells_in bytes.now plan.parts)
         spans.now boundaries.now anchors.now }
 {
-    if !pass_fits(plan.pass) {
-        return Check::Refused(4, 0);
-    }
-    if let Check::Refused(number, place) = lists_check(
-        plan.width as u64,
-        plan.height as u64,
-        spans,
-        boundaries,
-        anchors,
-    ) {
-        return Check::Refused(number, place);
-    }
+    ensure(pass_fits(plan.pass), Cause::Pass)?;
+    let width = plan.width as u64;
+    let height = plan.height as u64;
+    lists_check(width, height, spans, boundaries, anchors)?;
     let parts = plan.parts;
-    let a = parts.cells;
-    if let Fault::At(cell) = cells_fault(bytes, a.first, a.length) {
-        return Check::Refused(9, cell);
-    }
-    if !is_one_list(spans, boundaries) {
-        return Check::Refused(22, 0);
-    }
-    Check::Fit
+    let cells = parts.cells;
+    no_fault(
+        cells_fault(bytes, cells.first, cells.length),
+        Cause::Elevation,
+    )?;
+    ensure(is_one_list(spans, boundaries), Cause::TwoLists)
 }
 
 // The same, with the lists stored in arrays of their own.
-fn plan_check(bytes: &[u8], plan: Plan) -> Check
+fn plan_check(bytes: &[u8], plan: Plan) -> Result<(), Refusal>
     requires held { SheetHeld plain_cell_limit bytes.now plan }
     requires old { plan.kind ≡ 1 }
-    ensures { refusal_of result ≡ refusal_for (sheet_of bytes.now plan) }
+    ensures { refusal_in result ≡ refusal_for (sheet_of bytes.now plan) }
 {
     let mut spans = [0u64; 1024];
     let mut boundaries = [0u64; 2304];
@@ -202,26 +187,29 @@ fn put_converted(bytes: &[u8], front: usize, back: usize, out: &mut [u8]) -> usi
     put_bytes(&mut *out, b, &bytes[back..])
 }
 
+fn refused_at(refusal: Refusal) -> Answer
+    ensures { result ≡ refused_at refusal }
+{
+    Answer {
+        number: refusal.cause.number(),
+        value: refusal.place as u64,
+    }
+}
+
 // Converts a sheet that was judged before.
 fn convert_plan(bytes: &[u8], plan: Plan, out: &mut [u8]) -> Answer
     requires held { SheetHeld plain_cell_limit bytes.now plan }
     requires old { plan.kind ≡ 1 }
     ensures { ConvertsPlan bytes.now plan out.old (answer_in result) out.new }
 {
-    if let Check::Refused(number, place) = plan_check(bytes, plan) {
-        return Answer {
-            number,
-            value: place as u64,
-        };
+    if let Err(refusal) = plan_check(bytes, plan) {
+        return refused_at(refusal);
     }
     let parts = plan.parts;
     let front = parts.front;
     let back = parts.back;
     if out.len() < front + (bytes.len() - back) {
-        return Answer {
-            number: 10,
-            value: 0,
-        };
+        return refused(Cause::Room);
     }
     let size = put_converted(bytes, front, back, out);
     Answer {
@@ -235,16 +223,10 @@ pub fn sheet_converter_convert_sheet(bytes: &[u8], out: &mut [u8]) -> Answer
     ensures { Converts bytes.now out.old (answer_in result) out.new }
 {
     if is_other_kind(bytes) {
-        return Answer {
-            number: 14,
-            value: 0,
-        };
+        return refused(Cause::Sheet);
     }
     match judge_sheet(bytes, PLAIN_CELL_LIMIT) {
-        SheetRead::Sound(plan) => convert_plan(bytes, plan, out),
-        SheetRead::Refused(refusal, place) => Answer {
-            number: refusal as u64,
-            value: place as u64,
-        },
+        Ok(plan) => convert_plan(bytes, plan, out),
+        Err(refusal) => refused_at(refusal),
     }
 }

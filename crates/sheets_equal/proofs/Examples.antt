@@ -1,5 +1,5 @@
 -- Computed examples: a sheet and its conversion are no equal bytes though they state the same; and why bytes must be below 256. Assumes nothing.
-use Rattle.std.specs.Prelude.{ℕ, ◌≡◌, refl, List, [], ◌∷◌, map}
+use Rattle.std.specs.Prelude.{◌≡◌, refl, [], ◌∷◌, map}
 use Rattle.definitions.specs.SheetNumber.{found, number}
 use Rattle.definitions.specs.Sheet.{well_formed, read_sheet, keptlist_cell_limit}
 use Rattle.definitions.specs.SheetExamples.{sheet_j, bytes_j}

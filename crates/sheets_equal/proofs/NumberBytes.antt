@@ -4,7 +4,7 @@ use Rattle.std.proofs.Common.{arith, mul_assoc, mul_comm, add-mul, add_assoc, sy
 use Rattle.std.proofs.lemmas.Bool.{false≢true, eqb-false}
 use Rattle.definitions.specs.SheetNumber.{found, with_group, too_long_lem, padded, ill_formed, groups, number}
 use Rattle.laws.specs.ListLaws.Tests.{neither}
-use Rattle.laws.specs.ListLaws.Lists.{All, done, more}
+use Rattle.laws.specs.ListLaws.Lists.{more}
 use Rattle.laws.specs.SheetReading.SheetLaws.{groups-bad, groups_more, groups_last, not-tenth, not_found}
 use Rattle.results.specs.Shortest.{shortest_within, shortest}
 use Rattle.results.specs.ShortestSteps.{one_group, more_groups}

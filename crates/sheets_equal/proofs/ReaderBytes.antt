@@ -4,7 +4,7 @@ use Rattle.std.specs.Prelude.{ℕ, zero, suc, ◌≡◌, refl, Bool, true, false
 use Rattle.std.proofs.Common.{sym, ap, subst, ◌∙◌, append_assoc, eqb-true}
 use Rattle.definitions.specs.Scan.{concat_map}
 use Rattle.definitions.specs.SheetNumber.{Read, found, failed, number}
-use Rattle.definitions.specs.Sheet.{Reader, give, check, and_then, ◌>>=◌, times, judged, end}
+use Rattle.definitions.specs.Sheet.{Reader, give, check, and_then, times, judged, end}
 use Rattle.laws.specs.ListLaws.Lists.{all_split}
 use Rattle.laws.specs.SheetReading.SheetLaws.{not_found}
 use Rattle.results.specs.Shortest.{shortest}

@@ -1,6 +1,6 @@
 -- Requests 1 and 3 over calls of the reader of result sheets. What is assumed, whole: two calls met its contract (`Reads`) and answered 0, and their bytes are
 -- below 256. Then their bytes are equal exactly when they left the same result.
-use Rattle.std.specs.Prelude.{ℕ, ◌≡◌, refl, ◌↔◌, List, length}
+use Rattle.std.specs.Prelude.{ℕ, ◌≡◌, refl, ◌↔◌, List}
 use Rattle.std.proofs.Common.{sym, ap, ◌∙◌}
 use Rattle.results.specs.Result.{Result}
 use Rattle.results.specs.ResultAnswers.{ResultReading, well_formed, refused, read_result, at_exit}

@@ -4,16 +4,15 @@ use Rattle.std.specs.Prelude.{ℕ, ◌*◌, ◌/◌, ◌<◌, ◌↔◌, Bool, t
 use Rattle.std.proofs.Common.{arith, sym, ◌∙◌}
 use Rattle.std.proofs.Math.Path.{◌≡◌, refl, ap, subst}
 use Rattle.definitions.specs.Limits.{tallies_per_span, numbers_per_pair, numbers_per_row}
-use Rattle.definitions.specs.Lists.{overwrite}
 use Rattle.definitions.specs.SheetNumber.{Read, found, failed}
-use Rattle.definitions.specs.Sheet.{Reader, give, and_then, ◌>>=◌, end}
+use Rattle.definitions.specs.Sheet.{end}
 use Rattle.laws.specs.SheetReading.SheetSizes.{Gives, gives_any, gives_value, gives_then}
-use Rattle.results.specs.Result.{Result, Entry, Placed, result_of, kind, entry, entries, result, rules_fault}
+use Rattle.results.specs.Result.{Result, Placed, result_of, kind, entry, entries, result, rules_fault}
 use Rattle.results.specs.ResultAnswers.{ResultReading, well_formed, refused, judged_by, reading, read_result, room_for, read_verdict, at_exit}
 use Rattle.sheets_equal.specs.NumberBytes.{Bytes}
 use Rattle.sheets_equal.specs.Refusing.{refuses-result}
 use Rattle.sheets_equal.proofs.SheetCalls.{filled}
-use Rattle.sheets_equal.proofs.ResultsEqual.{numbers_of, gives_list, results_equal}
+use Rattle.sheets_equal.proofs.ResultsEqual.{gives_list, results_equal}
 
 -- document 01: "Success returns 0"
 abbrev pub result_number : ResultReading → ℕ

@@ -5,7 +5,7 @@ use Rattle.std.proofs.Common.{arith, sym, ap, ◌∙◌, append_assoc, append-ni
 use Rattle.definitions.specs.Limits.{tallies_per_span, numbers_per_pair, numbers_per_row}
 use Rattle.definitions.specs.Scan.{concat_map}
 use Rattle.definitions.specs.SheetNumber.{Read, found, failed, number}
-use Rattle.definitions.specs.Sheet.{Reader, give, and_then, ◌>>=◌, times, judged, end}
+use Rattle.definitions.specs.Sheet.{give, and_then, times, judged}
 use Rattle.laws.specs.SheetReading.SheetSizes.{Gives, gives_any, gives_value, gives_then, gives_times}
 use Rattle.results.specs.Shortest.{shortest, list_bytes}
 use Rattle.results.specs.Result.{Result, Entry, Placed, result_of, kind, entry, times_entry, entries, result, rules_fault}

@@ -1,7 +1,7 @@
 -- Request 3 over calls. What is assumed, whole: two calls of `sheet::read_sheet` met its contract (`Called`) and answered 0, and their bytes are below 256. Then
 -- their bytes are equal exactly when they left the same pass, sides and map lists. That every call meets `Called`, whatever it is lent, is the contract of
 -- `read_sheet` (crates/sheet).
-use Rattle.std.specs.Prelude.{ℕ, ◌*◌, ◌/◌, ◌≡◌, refl, ◌↔◌, Bool, true, false, ◌&&◌, cond, List, [], ◌++◌, leb, length, take, drop}
+use Rattle.std.specs.Prelude.{ℕ, ◌*◌, ◌/◌, ◌≡◌, refl, ◌↔◌, Bool, true, false, ◌&&◌, cond, List, [], leb, length, take, drop}
 use Rattle.std.proofs.Common.{arith, sym, ap, ◌∙◌}
 use Rattle.std.proofs.Math.Seq.{take-append_seam}
 use Rattle.definitions.specs.Limits.{numbers_per_span, numbers_per_boundary, numbers_per_anchor}

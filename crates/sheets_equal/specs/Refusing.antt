@@ -3,7 +3,7 @@ use Rattle.std.specs.Prelude.{ℕ, zero, suc, ◌+◌, ◌*◌, ◌<◌, ◌≡�
 use Rattle.std.proofs.Common.{arith, sym, ◌∙◌, leb-true, leb-false}
 use Rattle.definitions.specs.Limits.{is_side, max_entries, numbers_per_span, numbers_per_boundary, numbers_per_anchor, tallies_per_span, numbers_per_pair, numbers_per_row}
 use Rattle.definitions.specs.SheetNumber.{Read, found, failed, with_group, ill_formed, groups, number}
-use Rattle.definitions.specs.Sheet.{Reader, give, check, and_then, ◌>>=◌, times, judged, is_map_kind, kind, cell, area, entries, has_spans, spans_held, end, sheet}
+use Rattle.definitions.specs.Sheet.{Reader, give, check, and_then, times, judged, is_map_kind, kind, cell, area, entries, has_spans, spans_held, end, sheet}
 use Rattle.laws.specs.SheetReading.SheetLaws.{groups-bad, groups_more, groups_last}
 use Rattle.results.specs.Result as results
 

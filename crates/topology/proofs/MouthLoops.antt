@@ -1,9 +1,14 @@
 -- The loops of `corners_near` and `best_near`: what is known when so many places or candidates are passed, one more, and the end. And what the parts of pass 1
 -- ask of one another. Assumes nothing.
+use Rattle.mouth_proposals.specs.Listed.{blank}
+use Rattle.mouth_proposals.specs.Candidates.{is_broad}
+use Rattle.mouth_proposals.specs.declared.candidates.Candidate.{Candidate}
+use Rattle.mouth_proposals.specs.declared.mouths.MouthKind.{MouthKind}
 use Prim.Native.Nat.{ℕ, ◌+◌, ◌-◌, ◌*◌, ◌/◌, ◌%◌, ◌≤◌, ◌<◌}
 use native.Mathlib.Omega.{arith}
 use mathlib.Core.Path.{◌≡◌, refl, sym, ap, subst, ◌∙◌}
 use mathlib.Core.Bool.{Bool, true, false, not, ◌||◌, cond, not-not, true≢false}
+use Rattle.std.specs.Prelude.{None, Some}
 use mathlib.Core.List.{List, []}
 use lib.ListN.{length, get_or}
 use lib.Dec.{eqb}
@@ -19,7 +24,7 @@ use Rattle.context.specs.Shown.{ShownBoundaries, ShownAnchored}
 use Rattle.context.specs.Rows.{NamedRow}
 use Rattle.context.proofs.ShownLaws.{shown-rows}
 use Rattle.mouth_proposals.specs.Candidates.{broad, proposal_of}
-use Rattle.mouth_regions.specs.Inner.{places_of, region_at, inner_at}
+use Rattle.mouth_regions.specs.Inner.{places_of, region_at, inner_at, passes}
 use Rattle.mouth_regions.specs.Near.{region_near}
 use Rattle.mouth_proposals.specs.Lent.{Shows}
 use Rattle.mouth_proposals.specs.Listed.{Listed}
@@ -35,10 +40,10 @@ negated {x} {t} e = sym (not-not x) ∙ ap not e
 
 -- ---- the places of a mouth
 
-module _ (C : Context) (pairs starts : List ℕ) (m a outer kind : ℕ) where
+module _ (C : Context) (pairs starts : List ℕ) (m a outer : ℕ) (kind : MouthKind) where
   -- the region at place k, if it is not the one outside, is near
   abbrev near_at : ℕ → Bool
-  near_at k = eqb (inner_at pairs starts m outer k) 0 || region_near C m a (eqb kind broad) (C.region (inner_at pairs starts m outer k))
+  near_at k = passes (λ r. region_near C m a (is_broad kind) (C.region r)) (inner_at pairs starts m outer k)
 
   -- those of the places before k are
   pub record NearBefore (k : ℕ) : Type 0 where
@@ -48,39 +53,43 @@ module _ (C : Context) (pairs starts : List ℕ) (m a outer kind : ℕ) where
   unfolding all_below
   near-start = record { all = refl }
 
-module _ {C : Context} {records : List Region} {boundaries pairs starts : List ℕ} {m a : ℕ} (outer kind : ℕ) (L : Locates C records boundaries pairs starts m a) where
-  place-few : (k : ℕ) → k < places_of starts m → inner_at pairs starts m outer k ≤ C.regions
-  place-few k l = outside (eqb (region_at pairs (get_or starts m 0) k) outer)
+module _ {C : Context} {records : List Region} {boundaries pairs starts : List ℕ} {m a : ℕ} (outer : ℕ) (kind : MouthKind) (L : Locates C records boundaries pairs starts m a) where
+  place-named : (k : ℕ) → k < places_of starts m → {r : ℕ} → Some r ≡ inner_at pairs starts m outer k → (1 ≤ r) × (r ≤ C.regions)
+  place-named k l {r} e = inside (eqb (region_at pairs (get_or starts m 0) k) outer) e
     where
       named : NamedRow pairs C.regions (get_or starts m 0 + k / 2)
       named = (shown-rows L.rows).named m L.mouth (get_or starts m 0 + k / 2) (omega arith) (omega (arith, l, L.rows.rising m L.mouth))
 
-      side : (b : Bool) → cond b (get_or pairs (3 * (get_or starts m 0 + k / 2) + 1) 0) (get_or pairs (3 * (get_or starts m 0 + k / 2) + 2) 0) ≤ C.regions
-      side true = named.lo-le
-      side false = named.hi-le
+      side : (b : Bool) → (1 ≤ cond b (get_or pairs (3 * (get_or starts m 0 + k / 2) + 1) 0) (get_or pairs (3 * (get_or starts m 0 + k / 2) + 2) 0))
+          × (cond b (get_or pairs (3 * (get_or starts m 0 + k / 2) + 1) 0) (get_or pairs (3 * (get_or starts m 0 + k / 2) + 2) 0) ≤ C.regions)
+      side true = (named.lo-pos, named.lo-le)
+      side false = (named.hi-pos, named.hi-le)
 
-      outside : (b : Bool) → cond b 0 (region_at pairs (get_or starts m 0) k) ≤ C.regions
-      outside true = omega arith
-      outside false = side (eqb (k % 2) 0)
+      inside : (b : Bool) → Some r ≡ cond b None (Some (region_at pairs (get_or starts m 0) k)) → (1 ≤ r) × (r ≤ C.regions)
+      inside true e = absurd (let z : ◌≡◌ {A = ℕ} 0 1 = cc in omega arith)
+      inside false e =
+          let same : r ≡ region_at pairs (get_or starts m 0) k = cc in
+          subst (λ x. (1 ≤ x) × (x ≤ C.regions)) (sym same) (side (eqb (k % 2) 0))
 
-  module _ {k count r : ℕ} (l : k < count) (n : count ≡ places_of starts m) (e : r ≡ inner_at pairs starts m outer k) where
-    pub near-outside : r ≡ 0 → NearBefore C pairs starts m a outer kind k → NearBefore C pairs starts m a outer kind (k + 1)
-    near-outside z h =
-        record { all = all_more (near_at C pairs starts m a outer kind) k h.all (ap (λ t. eqb t 0 || region_near C m a (eqb kind broad) (C.region (inner_at pairs starts m outer k))) (sym e ∙ z)) }
+  module _ {k count : ℕ} (l : k < count) (n : count ≡ places_of starts m) where
+    pub near-outside : None ≡ inner_at pairs starts m outer k → NearBefore C pairs starts m a outer kind k → NearBefore C pairs starts m a outer kind (k + 1)
+    near-outside e h = record { all = all_more (near_at C pairs starts m a outer kind) k h.all (ap (passes (λ r. region_near C m a (is_broad kind) (C.region r))) (sym e)) }
 
-    module _ (pos : r ≡ 0 → ⊥) where
+    module _ {r : ℕ} (e : Some r ≡ inner_at pairs starts m outer k) where
+      pub region_named : (1 ≤ r) × (r ≤ C.regions)
+      region_named = place-named k (omega (arith, l, n)) e
+
       pub near-place : r - 1 < length records
-      near-place = place_in L.held refl (omega (arith, pos)) (omega (arith, e, place-few k (omega (arith, l, n))))
+      near-place = place_in L.held refl region_named.0 region_named.1
 
-      module _ {s : Region} (read : (d : Region) → s ≡ get_or records (r - 1) d) {x : Bool}
-          (answer : (C : Context) → ShownBoundaries C boundaries → m < C.count → a < C.count → PixelRegion (record_of s) → x ≡ region_near C m a (eqb kind broad) (record_of s)) where
+      module _ {s : Region} (read : (d : Region) → s ≡ get_or records (r - 1) d) {b : Bool} (kind_is : b ≡ is_broad kind) {x : Bool}
+          (answer : (C : Context) → ShownBoundaries C boundaries → m < C.count → a < C.count → PixelRegion (record_of s) → x ≡ region_near C m a b (record_of s)) where
         is : record_of s ≡ C.region r
-        is = record_is L.held refl (omega (arith, pos)) (omega (arith, e, place-few k (omega (arith, l, n)))) read
+        is = record_is L.held refl region_named.0 region_named.1 read
 
         judged : near_at C pairs starts m a outer kind k ≡ x
         judged =
-            ap (λ b. b || region_near C m a (eqb kind broad) (C.region (inner_at pairs starts m outer k))) (ne_eqb (inner_at pairs starts m outer k) 0 (λ z. pos (e ∙ z)))
-            ∙ ap (λ t. region_near C m a (eqb kind broad) (C.region t)) (sym e) ∙ ap (region_near C m a (eqb kind broad)) (sym is)
+            ap (passes (λ r. region_near C m a (is_broad kind) (C.region r))) (sym e) ∙ (λ i. region_near C m a (sym kind_is i) (sym is i))
             ∙ sym (answer C L.bounds L.mouth L.ramp (subst PixelRegion (sym is) (L.pixels.edges r)))
 
         pub near_more : not x ≡ false → NearBefore C pairs starts m a outer kind k → NearBefore C pairs starts m a outer kind (k + 1)
@@ -95,14 +104,14 @@ module _ {C : Context} {records : List Region} {boundaries pairs starts : List �
 -- ---- the candidates
 
 -- mouth and ramp of candidate k were read
-pub located : {C : Context} {records : List Region} {boundaries pairs starts mouths ramps : List ℕ} {n k m a : ℕ} → NearAsked C records boundaries pairs starts mouths ramps n → k < n
-    → m ≡ get_or mouths k 0 → a ≡ get_or ramps k 0 → Locates C records boundaries pairs starts m a
+pub located : {C : Context} {records : List Region} {boundaries pairs starts : List ℕ} {entries : List Candidate} {n k m a : ℕ} → NearAsked C records boundaries pairs starts entries n → k < n
+    → m ≡ (get_or entries k blank).mouth → a ≡ (get_or entries k blank).ramp → Locates C records boundaries pairs starts m a
 located A l e d = rw (e, d) (A.entry _ l)
 
 -- ---- the least of the candidates that are near
 
 -- the boundaries of every candidate stand in the list
-pub near-keys : {C : Context} {records : List Region} {boundaries pairs starts mouths ramps : List ℕ} {n : ℕ} → NearAsked C records boundaries pairs starts mouths ramps n → SafeKeys boundaries mouths ramps n
+pub near-keys : {C : Context} {records : List Region} {boundaries pairs starts : List ℕ} {entries : List Candidate} {n : ℕ} → NearAsked C records boundaries pairs starts entries n → SafeKeys boundaries entries n
 near-keys A = record { few = A.few; mouth = λ k l. (A.entry k l).mouth-placed.whole; ramp = λ k l. (A.entry k l).ramp-placed.whole }
 
 -- ---- the parts of the pass
@@ -116,8 +125,8 @@ module _ {C : Context} {records : List Region} {boundaries tallies pairs starts 
   pass-lists = record { counted = R.shows.counted; bounds = R.shows.bounds; rows = R.shows.rows }
 
   -- nothing is taken, and no best is known
-  pub pass-starts : {gone used : List Bool} {mouthof rampof outerof kindof apart : List ℕ} {found fresh : List Bool} → NoMarks gone → ((i : ℕ) → get_or used i false ≡ false) → ((i : ℕ) → get_or found i false ≡ false)
-      → ((i : ℕ) → get_or mouthof i 0 ≡ 0) → ((i : ℕ) → get_or rampof i 0 ≡ 0) → ((i : ℕ) → get_or outerof i 0 ≡ 0) → Progress C (λ i. i < 0) marks₀ gone used mouthof rampof outerof kindof apart found fresh
+  pub pass-starts : {gone used : List Bool} {bestof : List Candidate} {found fresh : List Bool} → NoMarks gone → ((i : ℕ) → get_or used i false ≡ false) → ((i : ℕ) → get_or found i false ≡ false)
+      → ((i : ℕ) → (get_or bestof i blank).mouth ≡ 0) → ((i : ℕ) → (get_or bestof i blank).ramp ≡ 0) → ((i : ℕ) → (get_or bestof i blank).outer ≡ 0) → Progress C (λ i. i < 0) marks₀ gone used bestof found fresh
   pass-starts N used found mouth ramp outer =
       record {
         chosen = [];
@@ -135,8 +144,8 @@ module _ {C : Context} {records : List Region} {boundaries tallies pairs starts 
       few : (k : ℕ) → k < C.count → {x : ℕ} → x ≡ 0 → x < C.count
       few k l e = omega (arith, l, e)
 
-  module _ {mouths ramps outers separations : List ℕ} {n : ℕ} (F : Listed C mouths ramps outers separations n) where
-    pub pass-near : NearAsked C records boundaries pairs starts mouths ramps n
+  module _ {entries : List Candidate} {n : ℕ} (F : Listed C entries n) where
+    pub pass-near : NearAsked C records boundaries pairs starts entries n
     pass-near =
         record {
           few = F.few;
@@ -153,5 +162,5 @@ module _ {C : Context} {records : List Region} {boundaries tallies pairs starts 
               };
         }
 
-    pub pass-measured : {marked : List Bool} → Measured C mouths ramps separations marked n
+    pub pass-measured : {marked : List Bool} → Measured C entries marked n
     pass-measured = record { mouth = F.mouth; ramp = F.ramp; bits = λ k l f. F.bits k l }

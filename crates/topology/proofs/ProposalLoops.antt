@@ -10,7 +10,8 @@ use lib.Seq.{get_or-set_same, get_or-set_other}
 use Rattle.definitions.specs.Context.{Context}
 use Rattle.laws.specs.NumberLaws.Comparisons.{last_or}
 use Rattle.context.specs.declared.Region.{Region}
-use Rattle.junction_proposals.specs.Rows.{max_proposals, numbers_per_proposal, row_at, RowFits, is_allowed}
+use Rattle.junction_proposals.specs.declared.proposals.Candidate.{Candidate}
+use Rattle.junction_proposals.specs.Rows.{max_proposals, row_at, RowFits, is_allowed}
 use Rattle.junction_selection.specs.Taken.{Judged, removed_at}
 use Rattle.junction_selection.proofs.Passing.{pass-removed}
 use Rattle.junction_regions.specs.Asked.{Asked}
@@ -18,7 +19,7 @@ use Rattle.topology.specs.Held.{record_is}
 use Rattle.topology.specs.Proposals.{Allows, Allowed, Passes, Proposed, Unmarked, Removes}
 
 -- the records of row k's regions were read at i and j
-pub asked : {C : Context} {records : List Region} {boundaries marks rows : List ℕ} {n k i j : ℕ} {first second : Region} → Allows C records boundaries marks rows n → k < n
+pub asked : {C : Context} {records : List Region} {boundaries marks : List ℕ} {rows : List Candidate} {n k i j : ℕ} {first second : Region} → Allows C records boundaries marks rows n → k < n
     → i ≡ (row_at rows k).first - 1 → ((d : Region) → first ≡ get_or records i d) → j ≡ (row_at rows k).second - 1 → ((d : Region) → second ≡ get_or records j d)
     → Asked C boundaries marks rows k first second
 asked {k = k} h l p a q b =
@@ -30,7 +31,7 @@ asked {k = k} h l p a q b =
       second_is = record_is h.held q (h.fits k l).second_from (h.fits k l).second_to b;
     }
 
-pub allowed_more : {C : Context} {rows : List ℕ} {k : ℕ} {allowed : List Bool} (r : Bool) → k < length allowed → Allowed C rows k allowed → r ≡ is_allowed C (row_at rows k)
+pub allowed_more : {C : Context} {rows : List Candidate} {k : ℕ} {allowed : List Bool} (r : Bool) → k < length allowed → Allowed C rows k allowed → r ≡ is_allowed C (row_at rows k)
     → Allowed C rows (k + 1) (set allowed k r)
 allowed_more {C} {rows} {k} {allowed} r l h e = record { long = length-set allowed k r ∙ h.long; at = λ j m. ⊎_elim (here j) (there j) (last_or j k (omega arith)) }
   where
@@ -40,8 +41,8 @@ allowed_more {C} {rows} {k} {allowed} r l h e = record { long = length-set allow
     there : (j : ℕ) → j < k → get_or (set allowed k r) j false ≡ is_allowed C (row_at rows j)
     there j b = get_or-set_other allowed k j r false (λ s. omega (arith, s)) ∙ h.at j b
 
-module _ {C : Context} {records : List Region} {boundaries smaller larger counts marks rows : List ℕ} {count regions n : ℕ} (h : Passes C records boundaries smaller larger counts marks count regions)
-    (few : n ≤ max_proposals) (room : numbers_per_proposal * max_proposals ≤ length rows) (fits : (k : ℕ) → k < n → RowFits count regions (row_at rows k)) where
+module _ {C : Context} {records : List Region} {boundaries smaller larger counts marks : List ℕ} {rows : List Candidate} {count regions n : ℕ} (h : Passes C records boundaries smaller larger counts marks count regions)
+    (few : n ≤ max_proposals) (room : max_proposals ≤ length rows) (fits : (k : ℕ) → k < n → RowFits count regions (row_at rows k)) where
   pub pass_allows : Allows C records boundaries marks rows n
   pass_allows =
       record {
@@ -53,9 +54,9 @@ module _ {C : Context} {records : List Region} {boundaries smaller larger counts
       }
 
 -- the rows are what pass 3 proposes
-module _ {C : Context} {records : List Region} {boundaries smaller larger counts marks rows : List ℕ} {allowed : List Bool} {count regions n : ℕ}
+module _ {C : Context} {records : List Region} {boundaries smaller larger counts marks : List ℕ} {rows : List Candidate} {allowed : List Bool} {count regions n : ℕ}
     (h : Passes C records boundaries smaller larger counts marks count regions) (p : Proposed C count regions rows allowed n) where
-  pub pass-judged : {marked : List Bool} → numbers_per_proposal * max_proposals ≤ length rows → Unmarked marked count → Judged boundaries rows allowed marked count n
+  pub pass-judged : {marked : List Bool} → max_proposals ≤ length rows → Unmarked marked count → Judged boundaries rows allowed marked count n
   pass-judged room u =
       record {
         few = p.few;

@@ -8,7 +8,8 @@ use lib.ListN.{length}
 use Rattle.definitions.specs.Lists.{overwrite}
 use Rattle.definitions.specs.Context.{Context}
 use Rattle.context.specs.declared.Region.{Region}
-use Rattle.junction_proposals.specs.Rows.{max_proposals, numbers_per_proposal}
+use Rattle.junction_proposals.specs.declared.proposals.Candidate.{Candidate}
+use Rattle.junction_proposals.specs.Rows.{max_proposals}
 use Rattle.ranked_list.specs.RankedList.{numbers_per_ranked, ranked_rows, flat_ranked}
 use Rattle.ranked_rows.specs.Contract as rows
 use Rattle.ranked_rows.specs.Contract.{allowed_list}
@@ -16,9 +17,9 @@ use Rattle.ranked_rows.proofs.Listed.{listed_is}
 use Rattle.topology.specs.Proposals.{Passes, Proposed, Removes}
 use Rattle.topology.specs.Ranked.{Ranked}
 
-module _ {C : Context} {records : List Region} {boundaries smaller larger counts marks proposed : List ℕ} {allowed : List Bool} {count regions n : ℕ}
+module _ {C : Context} {records : List Region} {boundaries smaller larger counts marks : List ℕ} {proposed : List Candidate} {allowed : List Bool} {count regions n : ℕ}
     (h : Passes C records boundaries smaller larger counts marks count regions) (p : Proposed C count regions proposed allowed n) where
-  pub pass-allowed : {listed : List ℕ} → numbers_per_proposal * max_proposals ≤ length proposed → numbers_per_ranked * max_proposals ≤ length listed
+  pub pass-allowed : {listed : List ℕ} → max_proposals ≤ length proposed → numbers_per_ranked * max_proposals ≤ length listed
       → rows.Allowed boundaries proposed allowed listed count n
   pass-allowed whole room =
       record {

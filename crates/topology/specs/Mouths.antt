@@ -1,4 +1,6 @@
 -- The words of the contracts of `corners_near`, `best_near`, `next_ramp` and `replace_ramp_mouths`. Definitions only; assumes nothing.
+use Rattle.mouth_proposals.specs.Listed.{blank}
+use Rattle.mouth_proposals.specs.declared.candidates.Candidate.{Candidate}
 use Rattle.std.specs.Prelude.{ℕ, ◌-◌, ◌≤◌, ◌<◌, ◌≡◌, Bool, false, List, length, get_or}
 use Rattle.definitions.specs.Limits.{max_entries}
 use Rattle.definitions.specs.Scan.{member}
@@ -24,9 +26,9 @@ pub record Locates (C : Context) (records : List Region) (boundaries pairs start
   pub ramp-placed : Placed boundaries a
 
 -- n candidates name boundaries of C
-pub record NearAsked (C : Context) (records : List Region) (boundaries pairs starts mouths ramps : List ℕ) (n : ℕ) : Type 0 where
+pub record NearAsked (C : Context) (records : List Region) (boundaries pairs starts : List ℕ) (entries : List Candidate) (n : ℕ) : Type 0 where
   pub few : n ≤ max_candidates
-  pub entry : (k : ℕ) → k < n → Locates C records boundaries pairs starts (get_or mouths k 0) (get_or ramps k 0)
+  pub entry : (k : ℕ) → k < n → Locates C records boundaries pairs starts ((get_or entries k blank).mouth) ((get_or entries k blank).ramp)
 
 -- The lists and the records show C, a context of a map. Marks say no more than that a region is anchored.
 pub record Replaces (C : Context) (records : List Region) (boundaries tallies pairs starts : List ℕ) (count : ℕ) (marks counts : List ℕ) : Type 0 where
@@ -48,8 +50,8 @@ pub record Replaced (C : Context) (count : ℕ) (marked : List Bool) : Type 0 wh
 -- ---- between two bests that are found
 
 -- there is room, the best of ramp a is the next to be found, and no best from `known` on is fresh
-pub record Ready (mouthof rampof outerof kindof apart : List ℕ) (gone used found fresh : List Bool) (known a count : ℕ) : Type 0 where
-  pub roomy : Roomy mouthof rampof outerof kindof apart
+pub record Ready (bestof : List Candidate) (gone used found fresh : List Bool) (known a count : ℕ) : Type 0 where
+  pub roomy : Roomy bestof
   pub room : Room gone used found fresh
   pub before : a < known
   pub few : known ≤ count
@@ -57,12 +59,12 @@ pub record Ready (mouthof rampof outerof kindof apart : List ℕ) (gone used fou
   pub later : (i : ℕ) → known ≤ i → i < count → get_or fresh i false ≡ false
 
 -- r is the next ramp, and the weight is less than it was
-pub record Stepped (marks : List ℕ) (gone fresh : List Bool) (marks' mouthof' rampof' outerof' kindof' apart' : List ℕ) (gone' used' found' fresh' : List Bool) (known count r : ℕ) : Type 0 where
+pub record Stepped (marks : List ℕ) (gone fresh : List Bool) (marks' : List ℕ) (bestof' : List Candidate) (gone' used' found' fresh' : List Bool) (known count r : ℕ) : Type 0 where
   pub few : r ≤ count
   pub next : known < count → r ≡ known
   pub stale : r < count → get_or fresh' r false ≡ false
   pub later : (i : ℕ) → known ≤ i → i < count → get_or fresh' i false ≡ false
   pub long : length marks' ≡ length marks
-  pub roomy : Roomy mouthof' rampof' outerof' kindof' apart'
+  pub roomy : Roomy bestof'
   pub room : Room gone' used' found' fresh'
   pub less : weight count gone' fresh' < weight count gone fresh

@@ -5,21 +5,22 @@ use Rattle.definitions.specs.Context.{Context}
 use Rattle.definitions.specs.Junctions.{proposals, removed}
 use Rattle.context.specs.declared.Region.{Region}
 use Rattle.context.specs.Records.{Counted}
+use Rattle.junction_proposals.specs.declared.proposals.Candidate.{Candidate}
 use Rattle.junction_proposals.specs.Lent.{Shows}
-use Rattle.junction_proposals.specs.Rows.{max_proposals, numbers_per_proposal, row_at, rows_of, RowFits, is_allowed}
+use Rattle.junction_proposals.specs.Rows.{max_proposals, row_at, rows_of, RowFits, is_allowed}
 use Rattle.junction_regions.specs.Asked.{Told}
 use Rattle.topology.specs.Held.{HoldsRecords}
 
 -- n rows name boundaries and regions of C, which the lists and the records show
-pub record Allows (C : Context) (records : List Region) (boundaries marks rows : List ℕ) (n : ℕ) : Type 0 where
+pub record Allows (C : Context) (records : List Region) (boundaries marks : List ℕ) (rows : List Candidate) (n : ℕ) : Type 0 where
   pub held : HoldsRecords C records
   pub told : Told C boundaries marks
   pub few : n ≤ max_proposals
-  pub whole : numbers_per_proposal * n ≤ length rows
+  pub whole : n ≤ length rows
   pub fits : (k : ℕ) → k < n → RowFits C.count C.regions (row_at rows k)
 
 -- a mark for each of n rows says whether the records allow it
-pub record Allowed (C : Context) (rows : List ℕ) (n : ℕ) (allowed : List Bool) : Type 0 where
+pub record Allowed (C : Context) (rows : List Candidate) (n : ℕ) (allowed : List Bool) : Type 0 where
   pub long : length allowed ≡ max_proposals
   pub at : (k : ℕ) → k < n → get_or allowed k false ≡ is_allowed C (row_at rows k)
 
@@ -30,7 +31,7 @@ pub record Passes (C : Context) (records : List Region) (boundaries smaller larg
   pub counted : (r : ℕ) → Counted (C.region r)
 
 -- n rows are what pass 3 proposes of C before records are asked, and the marks say which of them the records allow
-pub record Proposed (C : Context) (count regions : ℕ) (rows : List ℕ) (allowed : List Bool) (n : ℕ) : Type 0 where
+pub record Proposed (C : Context) (count regions : ℕ) (rows : List Candidate) (allowed : List Bool) (n : ℕ) : Type 0 where
   pub few : n ≤ max_proposals
   pub fits : (k : ℕ) → k < n → RowFits count regions (row_at rows k)
   pub are : filter (is_allowed C) (rows_of rows n) ≡ proposals C

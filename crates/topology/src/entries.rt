@@ -1,27 +1,12 @@
 // Single entries of the local lists of a pass. Functions over the slice of records read and store them by these alone.
 ghost use Rattle.std.specs.Prelude.{◌≡◌, ◌<◌, get_or, set};
+ghost use Rattle.mouth_proposals.specs.Listed.{blank};
 
-use plain_numbers::wide_byte;
+use mouth_proposals::candidates::Candidate;
 
-// An index of a boundary.
-pub fn index_at(list: &[u8; 256], k: usize) -> usize
+pub fn candidate_at(list: &[Candidate; 256], k: usize) -> Candidate
     requires { k < 256 }
-    ensures { result ≡ get_or list.now k 0 }
-{
-    wide_byte(list[k])
-}
-
-pub fn kind_at(list: &[u8; 256], k: usize) -> u8
-    requires { k < 256 }
-    ensures { result ≡ get_or list.now k 0 }
-{
-    list[k]
-}
-
-// A region.
-pub fn region_at(list: &[u32; 256], k: usize) -> u32
-    requires { k < 256 }
-    ensures { result ≡ get_or list.now k 0 }
+    ensures { result ≡ get_or list.now k blank }
 {
     list[k]
 }

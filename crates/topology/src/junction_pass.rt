@@ -1,13 +1,13 @@
 // Pass 3 over the lent slice of region records.
-ghost use Rattle.std.specs.Prelude.{◌≡◌, ◌*◌, ◌≤◌, length};
+ghost use Rattle.std.specs.Prelude.{◌≡◌, ◌≤◌, length};
 ghost use Rattle.definitions.specs.Context.{Context};
-ghost use Rattle.junction_proposals.specs.Rows.{max_proposals, numbers_per_proposal};
+ghost use Rattle.junction_proposals.specs.Rows.{max_proposals};
 ghost use Rattle.topology.specs.Proposals.{Allows, Allowed, Passes, Proposed, Unmarked, Removes};
 
 use crate::entries::put_allowed;
 use crate::slice::record_at;
 use context::Region;
-use junction_proposals::proposals::{MAX_PROPOSALS, NUMBERS_PER_PROPOSAL, find_proposals};
+use junction_proposals::proposals::{Candidate, Kind, MAX_PROPOSALS, find_proposals};
 use junction_regions::{first_place, is_allowed, second_place};
 use junction_selection::selection::select_proposals;
 
@@ -16,7 +16,7 @@ pub fn allow_proposals(
     records: &[Region],
     boundaries: &[u64],
     marks: &[u16],
-    rows: &[u32],
+    rows: &[Candidate],
     n: usize,
     allowed: &mut [bool; MAX_PROPOSALS],
 )
@@ -44,11 +44,11 @@ pub fn allowed_proposals(
     larger: &[u32; 256],
     counts: &[u32],
     marks: &[u16],
-    rows: &mut [u32],
+    rows: &mut [Candidate],
     allowed: &mut [bool; MAX_PROPOSALS],
 ) -> usize
     requires lists_show { (C : Context) × Passes C records.now boundaries.now smaller.now larger.now counts.now marks.now count regions }
-    requires room { (numbers_per_proposal * max_proposals ≤ length rows.old) × (length allowed.old ≡ max_proposals) }
+    requires room { (max_proposals ≤ length rows.old) × (length allowed.old ≡ max_proposals) }
     ensures { (C : Context)
         → Passes C records.now boundaries.now smaller.now larger.now counts.now marks.now
         count regions
@@ -80,7 +80,7 @@ pub fn remove_junction_boundaries(
         marks.now count regions →
         Removes C count removed.new }
 {
-    let mut rows = [0u32; NUMBERS_PER_PROPOSAL * MAX_PROPOSALS];
+    let mut rows = [Candidate { index: 0, kind: Kind::Union, first: 0, second: 0 }; MAX_PROPOSALS];
     let mut allowed = [false; MAX_PROPOSALS];
     let n = allowed_proposals(
         records,

@@ -8,15 +8,15 @@ ghost use Rattle.mouth_selection.specs.Rounds.{near_least};
 ghost use Rattle.mouth_selection.specs.Selecting.{Progress, Ended};
 ghost use Rattle.topology.specs.Mouths.{Locates, NearAsked, Ready, Stepped, Replaces, NoMarks, Replaced};
 
-use crate::entries::{index_at, kind_at, region_at};
+use crate::entries::candidate_at;
 use crate::slice::record_at;
 use context::Region;
-use mouth_proposals::mouths::BROAD;
+use mouth_proposals::candidates::Candidate;
+use mouth_proposals::mouths::MouthKind;
 use mouth_regions::inner::{inner_region, places};
 use mouth_regions::near::region_near;
 use mouth_selection::bests::{list_ramp, proceed};
 use mouth_selection::selection::better_marked;
-use plain_numbers::{most, wide};
 
 // Whether each corner of each inner region of a proposal of pass 1 is near.
 pub fn corners_near(
@@ -27,7 +27,7 @@ pub fn corners_near(
     m: usize,
     a: usize,
     outer: u32,
-    kind: u8,
+    kind: MouthKind,
 ) -> bool
     requires { (C : Context) × Locates C records.now boundaries.now pairs.now starts.now m a }
     ensures { (C : Context) →
@@ -36,10 +36,9 @@ pub fn corners_near(
 {
     let count = places(pairs, starts, m);
     for k in 0..count {
-        let r = wide(inner_region(pairs, starts, m, outer, k));
-        if r != 0 {
-            let region = record_at(records, r - 1);
-            if !region_near(region, boundaries, m, a, kind == BROAD) {
+        if let Some(r) = inner_region(pairs, starts, m, outer, k) {
+            let region = record_at(records, r as usize - 1);
+            if !region_near(region, boundaries, m, a, kind.is_broad()) {
                 return false;
             }
         }
@@ -54,34 +53,31 @@ pub fn best_near(
     boundaries: &[u64],
     pairs: &[u32],
     starts: &[usize; 257],
-    mouths: &[u8; 256],
-    ramps: &[u8; 256],
-    outers: &[u32; 256],
-    kinds: &[u8; 256],
-    separations: &[u64; 256],
+    entries: &[Candidate; 256],
     marked: &[bool; 256],
     n: usize,
 ) -> usize
-    requires { (C : Context) × NearAsked C records.now boundaries.now pairs.now starts.now mouths.now ramps.now n }
+    requires { (C : Context) × NearAsked C records.now boundaries.now pairs.now starts.now entries.now n }
     ensures bound { result ≤ n }
     ensures least { (C : Context) →
-        NearAsked C records.now boundaries.now pairs.now starts.now mouths.now ramps.now n →
-        Measured C mouths.now ramps.now separations.now marked.now n →
-        entry_if C mouths.now ramps.now outers.now kinds.now n result
-        ≡ near_least C mouths.now ramps.now outers.now kinds.now marked.now n }
+        NearAsked C records.now boundaries.now pairs.now starts.now entries.now n →
+        Measured C entries.now marked.now n →
+        entry_if C entries.now n result
+        ≡ near_least C entries.now marked.now n }
 {
     let mut best = n;
     for k in 0..n {
-        if better_marked(boundaries, mouths, ramps, separations, marked, n, best, k) == k {
+        if better_marked(boundaries, entries, marked, n, best, k) == k {
+            let entry = candidate_at(entries, k);
             if corners_near(
                 records,
                 boundaries,
                 pairs,
                 starts,
-                index_at(mouths, k),
-                index_at(ramps, k),
-                region_at(outers, k),
-                kind_at(kinds, k),
+                entry.mouth as usize,
+                entry.ramp as usize,
+                entry.outer,
+                entry.kind,
             ) {
                 best = k;
             }
@@ -103,38 +99,26 @@ pub fn next_ramp(
     counts: &[u32],
     removed: &mut [bool; 256],
     used: &mut [bool; 256],
-    mouthof: &mut [u8; 256],
-    rampof: &mut [u8; 256],
-    outerof: &mut [u32; 256],
-    kindof: &mut [u8; 256],
-    apart: &mut [u64; 256],
+    bestof: &mut [Candidate; 256],
     found: &mut [bool; 256],
     fresh: &mut [bool; 256],
     known: usize,
     a: usize,
 ) -> usize
     requires shown { (C : Context) × ((marks₀ : List ℕ) × (Replaces C records.now boundaries.now tallies.now pairs.now starts.now count marks₀
-        counts.now × Progress C (λ i. (i < known) × (i ≡ a → ⊥)) marks.old removed.old used.old mouthof.old rampof.old outerof.old
-        kindof.old apart.old found.old fresh.old)) }
-    requires ready { Ready mouthof.old rampof.old outerof.old kindof.old apart.old removed.old used.old found.old fresh.old known a
+        counts.now × Progress C (λ i. (i < known) × (i ≡ a → ⊥)) marks.old removed.old used.old bestof.old found.old fresh.old)) }
+    requires ready { Ready bestof.old removed.old used.old found.old fresh.old known a
         count }
-    ensures stepped { Stepped marks.old removed.old fresh.old marks.new mouthof.new
-        rampof.new outerof.new kindof.new apart.new removed.new used.new found.new
+    ensures stepped { Stepped marks.old removed.old fresh.old marks.new bestof.new removed.new used.new found.new
         fresh.new known count result }
     ensures progress { (C : Context) (marks₀ : List ℕ) →
         Replaces C records.now boundaries.now tallies.now pairs.now starts.now count marks₀
         counts.now →
-        Progress C (λ i. (i < known) × (i ≡ a → ⊥)) marks.old removed.old used.old mouthof.old
-        rampof.old outerof.old kindof.old apart.old found.old fresh.old →
-        Progress C (λ i. i < known) marks.new removed.new used.new mouthof.new rampof.new
-        outerof.new kindof.new apart.new found.new fresh.new
+        Progress C (λ i. (i < known) × (i ≡ a → ⊥)) marks.old removed.old used.old bestof.old found.old fresh.old →
+        Progress C (λ i. i < known) marks.new removed.new used.new bestof.new found.new fresh.new
         × (count ≤ result → Ended C removed.new) }
 {
-    let mut mouths = [0u8; 256];
-    let mut ramps = [0u8; 256];
-    let mut outers = [0u32; 256];
-    let mut kinds = [0u8; 256];
-    let mut separations = [0u64; 256];
+    let mut entries = [Candidate::blank(); 256];
     let mut marked = [false; 256];
     let n = list_ramp(
         boundaries,
@@ -147,50 +131,13 @@ pub fn next_ramp(
         &*used,
         count,
         a,
-        &mut mouths,
-        &mut ramps,
-        &mut outers,
-        &mut kinds,
-        &mut separations,
+        &mut entries,
         &mut marked,
     );
-    let k = best_near(
-        records,
-        boundaries,
-        pairs,
-        starts,
-        &mouths,
-        &ramps,
-        &outers,
-        &kinds,
-        &separations,
-        &marked,
-        n,
-    );
+    let k = best_near(records, boundaries, pairs, starts, &entries, &marked, n);
     proceed(
-        boundaries,
-        pairs,
-        starts,
-        marks,
-        removed,
-        used,
-        &mouths,
-        &ramps,
-        &outers,
-        &kinds,
-        &separations,
-        n,
-        k,
-        a,
-        mouthof,
-        rampof,
-        outerof,
-        kindof,
-        apart,
-        found,
-        fresh,
-        known,
-        count,
+        boundaries, pairs, starts, marks, removed, used, &entries, n, k, a, bestof, found, fresh,
+        known, count,
     )
 }
 
@@ -216,17 +163,13 @@ pub fn replace_ramp_mouths(
         Replaced C count removed.new }
 {
     let mut used = [false; 256];
-    let mut mouthof = [0u8; 256];
-    let mut rampof = [0u8; 256];
-    let mut outerof = [0u32; 256];
-    let mut kindof = [0u8; 256];
-    let mut apart = [0u64; 256];
+    let mut bestof = [Candidate::blank(); 256];
     let mut found = [false; 256];
     let mut fresh = [false; 256];
-    let mut known = 0;
+    let mut known = 0usize;
     let mut a = 0;
     while a < count {
-        known = most(known, a + 1);
+        known = known.max(a + 1);
         a = next_ramp(
             records,
             count,
@@ -238,11 +181,7 @@ pub fn replace_ramp_mouths(
             counts,
             &mut *removed,
             &mut used,
-            &mut mouthof,
-            &mut rampof,
-            &mut outerof,
-            &mut kindof,
-            &mut apart,
+            &mut bestof,
             &mut found,
             &mut fresh,
             known,

@@ -15,7 +15,7 @@ use crate::records::fill;
 use call_partition::{Prepared, prepare};
 use checks::limits::{NUMBERS_PER_BOUNDARY, NUMBERS_PER_SPAN};
 use context::Region;
-use junction_proposals::proposals::{MAX_PROPOSALS, NUMBERS_PER_PROPOSAL};
+use junction_proposals::proposals::{Candidate, Kind, MAX_PROPOSALS};
 use junction_selection::selection::select_proposals;
 use pass_lists::view;
 use ranked_finish::{RankedAnswer, finish_ranked};
@@ -41,7 +41,7 @@ pub fn rank_junctions(
         count regions
         → Ranked C count removed.new listed.old listed.new result }
 {
-    let mut rows = [0u32; NUMBERS_PER_PROPOSAL * MAX_PROPOSALS];
+    let mut rows = [Candidate { index: 0, kind: Kind::Union, first: 0, second: 0 }; MAX_PROPOSALS];
     let mut allowed = [false; MAX_PROPOSALS];
     let n = allowed_proposals(
         records,

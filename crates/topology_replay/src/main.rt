@@ -130,8 +130,8 @@ fn replay<W: Write>(out: &mut W, opening: &[u8; 30], bytes: &[u8]) -> io::Result
     let mut anchors = [0u64; 514];
     let answer = sheet::read_sheet(bytes, &mut cells, &mut spans, &mut boundaries, &mut anchors);
     match answer {
-        sheet::Answer::Read(_) => pass_on(out, opening, &cells, &spans, &boundaries, &anchors),
-        sheet::Answer::Refused(_, _) => write_bytes(out, b"no sheet\n"),
+        Ok(_) => pass_on(out, opening, &cells, &spans, &boundaries, &anchors),
+        Err(_) => write_bytes(out, b"no sheet\n"),
     }
 }
 

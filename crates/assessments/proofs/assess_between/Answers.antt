@@ -1,26 +1,16 @@
 -- `assessments::assess_between` meets its contract. The loop's invariant: the cut steps of the columns, or rows, from the first to the one before k are assessed (`Passing`),
 -- and `before` and `here` are the first places past the line in the one before k and in k. Assumes nothing.
-use Prim.Native.Nat.{ℕ, ◌≤◌}
+use Prim.Native.Nat.{◌≤◌}
 use native.Mathlib.Nat.{le_refl}
-use mathlib.Core.Path.{◌≡◌, subst⁻¹}
-use Rattle.span_geometry.specs.declared.SpanGeometry.{SpanGeometry}
-use Rattle.span_geometry.specs.declared.strips.Strip.{Strip}
-use Rattle.span_geometry.specs.Shapes.{Sound, segment_of}
-use Rattle.span_geometry.specs.Strips.{Usable, strip_of}
-use Rattle.line_crossings.specs.Crossings.{Gentle, tie_of}
+use Rattle.span_geometry.specs.Shapes.{segment_of}
 use Rattle.grid_steps.specs.Walk.{grid_of}
 use Rattle.cut_steps.specs.Columns.{cut_column, column_in}
-use Rattle.cut_steps.proofs.Across.{tie-few}
 use Rattle.cut_steps.proofs.Shown.{shown_at}
-use Rattle.cut_steps.proofs.SpanParts.{column-asked, from_some, between-before, between_first, between_at, between-after, one_before, gentle_of, next_from, now-before, follows-in}
+use Rattle.cut_steps.proofs.SpanParts.{column-asked, from_some, between-before, between_first, between_at, between-after, one_before, line_asked, next_from, now-before, follows-in}
 use Rattle.assessments.specs.Assess.{max_line_edges}
 use Rattle.assessments.proofs.Turns.{counting_most}
 use Rattle.assessments.proofs.Passing.{passing-start, passing-more, passing-done, columns-few, more_room}
 use Rattle.assessments.proofs.assess_between.Goals as goal
-
--- what is asked of the line
-line : {t : Strip} {g : SpanGeometry} {tie : ℕ} → Usable t → t ≡ strip_of (segment_of g) → Sound g → tie ≡ tie_of (segment_of g) → Usable t × Gentle t × (tie ≤ 1)
-line {g = g} usable strip sound tie = (usable, gentle_of (segment_of g) strip sound.ordered, subst⁻¹ (λ n. n ≤ 1) tie (tie-few (segment_of g)))
 
 pub returns-then-to-from : goal.returns-then-to-from
 returns-then-to-from c =
@@ -38,7 +28,7 @@ overflow_sub-from c =
 
 pub first_place-before-requires : goal.first_place-before-requires
 first_place-before-requires c =
-    let asked = line c.requires.lent.2.usable c.requires.between.strip c.requires.lent.1 c.tie_of-tie.ensures in
+    let asked = line_asked c.requires.lent.2.usable c.requires.between.strip c.requires.lent.1 c.tie_of-tie.ensures in
     let f = c.args.from in
     let column = column_in c.requires.lent.0.narrow c.requires.lent.0.short (column-asked c.requires.lent.2 (le_refl f) c.if-to-from.false) in
     (asked.0, between-before c.args.strip f c.args.to c.requires.between.inside c.if-to-from.false, asked.2, one_before column)
@@ -49,7 +39,7 @@ overflow_sub-from-2 c =
 
 pub next_place-here-requires : goal.next_place-here-requires
 next_place-here-requires c =
-    let asked = line c.requires.lent.2.usable c.requires.between.strip c.requires.lent.1 c.tie_of-tie.ensures in
+    let asked = line_asked c.requires.lent.2.usable c.requires.between.strip c.requires.lent.1 c.tie_of-tie.ensures in
     let a = c.args in
     let i = c.requires.between in
     record { line = asked; between = (between-before a.strip a.from a.to i.inside c.if-to-from.false, between_first a.strip a.from a.to i.inside c.if-to-from.false, c.first_place-before.ensures) }
@@ -61,7 +51,7 @@ loop-k-init c =
 
 pub next_place-after-requires : goal.next_place-after-requires
 next_place-after-requires c =
-    let asked = line c.requires.lent.2.usable c.requires.between.strip c.requires.lent.1 c.tie_of-tie.ensures in
+    let asked = line_asked c.requires.lent.2.usable c.requires.between.strip c.requires.lent.1 c.tie_of-tie.ensures in
     let i = c.loop-k.invariant in
     let a = c.args in
     let p = c.requires.between in

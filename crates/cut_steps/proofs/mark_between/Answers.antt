@@ -1,24 +1,14 @@
 -- `mark_between` meets its contract. The loop's invariant: the cut steps of the columns, or rows, from the first to the one before k are marked, and `before` and `here` are the
 -- first places past the line in the one before k and in k. Assumes nothing.
-use Prim.Native.Nat.{ℕ, ◌≤◌}
+use Prim.Native.Nat.{◌≤◌}
 use native.Mathlib.Omega.{arith}
 use native.Mathlib.Nat.{le_refl, le_of_lt}
-use mathlib.Core.Path.{◌≡◌, subst⁻¹}
-use Rattle.span_geometry.specs.declared.SpanGeometry.{SpanGeometry}
-use Rattle.span_geometry.specs.declared.strips.Strip.{Strip}
-use Rattle.span_geometry.specs.Shapes.{Sound, segment_of}
+use Rattle.span_geometry.specs.Shapes.{segment_of}
 use Rattle.grid_steps.specs.Walk.{grid_of}
-use Rattle.span_geometry.specs.Strips.{Usable, strip_of}
-use Rattle.line_crossings.specs.Crossings.{Gentle, tie_of}
 use Rattle.cut_steps.specs.Columns.{column_in}
 use Rattle.cut_steps.proofs.Walking.{asked-again, columns-start, columns_none, columns_more, columns-done}
-use Rattle.cut_steps.proofs.Across.{tie-few}
-use Rattle.cut_steps.proofs.SpanParts.{column-asked, from_some, between-before, between_first, between_at, between-after, one_more, one_behind, one_before, gentle_of, next_from, now-before, follows-in}
+use Rattle.cut_steps.proofs.SpanParts.{column-asked, from_some, between-before, between_first, between_at, between-after, one_more, one_behind, one_before, line_asked, next_from, now-before, follows-in}
 use Rattle.cut_steps.proofs.mark_between.Goals as goal
-
--- what is asked of the line
-line : {t : Strip} {g : SpanGeometry} {tie : ℕ} → Usable t → t ≡ strip_of (segment_of g) → Sound g → tie ≡ tie_of (segment_of g) → Usable t × Gentle t × (tie ≤ 1)
-line {g = g} usable strip sound tie = (usable, gentle_of (segment_of g) strip sound.ordered, subst⁻¹ (λ n. n ≤ 1) tie (tie-few (segment_of g)))
 
 pub returns-then-to-from : goal.returns-then-to-from
 returns-then-to-from c = let a = c.args in columns_none (grid_of a.width a.height a.cells.now) (segment_of a.g) a.strip a.from c.if-to-from.true
@@ -32,7 +22,7 @@ overflow_sub-from c =
 
 pub first_place-before-requires : goal.first_place-before-requires
 first_place-before-requires c =
-    let asked = line c.requires.lent.1.usable c.requires.between.strip c.requires.lent.0.sound c.tie_of-tie.ensures in
+    let asked = line_asked c.requires.lent.1.usable c.requires.between.strip c.requires.lent.0.sound c.tie_of-tie.ensures in
     let f = c.args.from in
     let column = column_in c.requires.lent.0.narrow c.requires.lent.0.short (column-asked c.requires.lent.1 (le_refl f) c.if-to-from.false) in
     (asked.0, between-before c.args.strip f c.args.to c.requires.between.inside c.if-to-from.false, asked.2, one_before column)
@@ -43,7 +33,7 @@ overflow_sub-from-2 c =
 
 pub next_place-here-requires : goal.next_place-here-requires
 next_place-here-requires c =
-    let asked = line c.requires.lent.1.usable c.requires.between.strip c.requires.lent.0.sound c.tie_of-tie.ensures in
+    let asked = line_asked c.requires.lent.1.usable c.requires.between.strip c.requires.lent.0.sound c.tie_of-tie.ensures in
     let a = c.args in
     let i = c.requires.between in
     record { line = asked; between = (between-before a.strip a.from a.to i.inside c.if-to-from.false, between_first a.strip a.from a.to i.inside c.if-to-from.false, c.first_place-before.ensures) }
@@ -56,7 +46,7 @@ loop-k-init c =
 
 pub next_place-after-requires : goal.next_place-after-requires
 next_place-after-requires c =
-    let asked = line c.requires.lent.1.usable c.requires.between.strip c.requires.lent.0.sound c.tie_of-tie.ensures in
+    let asked = line_asked c.requires.lent.1.usable c.requires.between.strip c.requires.lent.0.sound c.tie_of-tie.ensures in
     let i = c.loop-k.invariant in
     let a = c.args in
     let p = c.requires.between in

@@ -21,7 +21,7 @@ nonzero_rem-c c = omega (arith, c.requires.sized.inside)
 pub verdict_at-v-requires : goal.verdict_at-v-requires
 verdict_at-v-requires c =
     let parts = place-parts _ _ c.loop-c-test.true in
-    record { few = c.requires.sized.few; runner = parts.0; guard = parts.1; turns = omega arith }
+    record { few = c.requires.sized.few; runner = parts.0; guard = parts.1 }
 
 pub overflow_mul-c : goal.overflow_mul-c
 overflow_mul-c c =
@@ -31,10 +31,6 @@ pub put_verdict-requires : goal.put_verdict-requires
 put_verdict-requires c =
     let fits = c.requires in
     omega (arith, c.loop-c-test.true, places-few _ fits.sized.few, fits.room, c.loop-c.invariant.long)
-
-pub overflow_add-c : goal.overflow_add-c
-overflow_add-c c =
-    record { fits = omega (arith, c.loop-c-test.true, places-few _ c.requires.sized.few) }
 
 pub loop-c-preserved : goal.loop-c-preserved
 loop-c-preserved c =

@@ -1,5 +1,4 @@
 -- `put_verdicts` meets its contract. The loop's invariant (`Putting`): the verdicts of the first c places are stored. Assumes nothing.
-use Prim.Native.Nat.{◌-◌}
 use Rattle.game_verdicts.proofs.Reading.{Putting}
 use Rattle.game_verdicts.proofs.put_verdicts.Given as goal
 

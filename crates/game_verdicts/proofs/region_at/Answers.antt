@@ -1,7 +1,7 @@
 -- `region_at` meets its contract: play is over, the winner is not to move, or a region is named. Assumes nothing.
 use native.Mathlib.Omega.{arith}
 use mathlib.Core.Path.{◌∙◌}
-use Rattle.game_verdicts.proofs.Reading.{over-unnamed, runner-idle, guard-idle, region-told}
+use Rattle.game_verdicts.proofs.Reading.{over-unnamed, idle-told, region-told}
 use Rattle.game_verdicts.proofs.region_at.Goals as goal
 
 pub returns-then-r-g : goal.returns-then-r-g
@@ -12,19 +12,11 @@ returns-then-r-g c =
       bound = omega arith;
     }
 
-pub returns-then-turn-rank : goal.returns-then-turn-rank
-returns-then-turn-rank c =
+pub returns-then-runners_turn-rank : goal.returns-then-runners_turn-rank
+returns-then-runners_turn-rank c =
     let a = c.args in
     record {
-      answer = λ G P e. runner-idle a.near.now a.regions a.goal G P a.ranks.now a.r a.g a.turn a.rank e c.if-turn-rank.true;
-      bound = omega arith;
-    }
-
-pub returns-then-turn-rank-2 : goal.returns-then-turn-rank-2
-returns-then-turn-rank-2 c =
-    let a = c.args in
-    record {
-      answer = λ G P e. guard-idle a.near.now a.regions a.goal G P a.ranks.now a.r a.g a.turn a.rank e c.if-turn-rank-2.true;
+      answer = λ G P e. idle-told a.near.now a.regions a.goal G P a.ranks.now a.r a.g a.rank a.runners_turn e c.if-runners_turn-rank.true;
       bound = omega arith;
     }
 
@@ -35,8 +27,6 @@ pub returns : goal.returns
 returns c =
     let a = c.args in
     record {
-      answer = λ G P e.
-          c.region_for.ensures.answer G a.goal P
-          ∙ region-told a.near.now a.regions a.goal G P a.ranks.now a.r a.g a.turn a.rank e c.requires.turns c.if-r-g.false c.if-turn-rank.false c.if-turn-rank-2.false;
+      answer = λ G P e. c.region_for.ensures.answer G a.goal P ∙ region-told a.near.now a.regions a.goal G P a.ranks.now a.r a.g a.rank a.runners_turn e c.if-r-g.false c.if-runners_turn-rank.false;
       bound = c.region_for.ensures.bound;
     }

@@ -1,33 +1,19 @@
--- `region_for` meets its contract. The loop's invariant (`NoneBefore`): no region before d serves. Assumes nothing.
-use native.Mathlib.Omega.{arith}
-use Rattle.game_verdicts.proofs.Reading.{none_starts, none_more, none_found, none_ends}
+-- `region_for` meets its contract: `find` gives the first region that serves. Assumes nothing.
+use Rattle.std.proofs.Common.{rules, arith, tests, ℕ, true, false, ◌-◌, ◌≤◌, ◌<◌}
+use Rattle.std.specs.Prelude.{MatchOption}
+use Rattle.std.proofs.lemmas.Iterator.{first_from_Range}
+use Rattle.game_verdicts.specs.Words.{Served}
+use Rattle.game_verdicts.proofs.Reading.{least_found, found-few}
 use Rattle.game_verdicts.proofs.region_for.Goals as goal
-
-pub loop-d-init : goal.loop-d-init
-loop-d-init c = none_starts _ _ _ _ _ _ (omega (arith, c.requires.runner))
-
-pub overflow_sub-d : goal.overflow_sub-d
-overflow_sub-d c = c.loop-d.invariant.some
-
-pub serves-requires : goal.serves-requires
-serves-requires c =
-    let given = c.requires in
-    (omega (arith, given.few, given.runner), omega (arith, given.few, given.guard), given.turns, omega (arith, given.few, c.loop-d-test.true))
-
-pub returns-then-serves : goal.returns-then-serves
-returns-then-serves c =
-    record {
-      answer = none_found _ _ _ _ _ _ _ _ c.loop-d.invariant c.loop-d-test.true c.serves.ensures c.if-serves.true;
-      bound = omega (arith, c.requires.few, c.loop-d-test.true);
-    }
-
-pub loop-d-preserved : goal.loop-d-preserved
-loop-d-preserved c =
-    none_more _ _ _ _ _ _ _ _ c.loop-d.invariant c.loop-d-test.true c.serves.ensures c.if-serves.false
 
 pub returns : goal.returns
 returns c =
+    let a = c.args in
+    let No : ℕ → Type 0 = λ d. Served a.near.now a.ranks.now a.r a.g a.runners_turn (d - 1) false in
+    let Yes : ℕ → Type 0 = λ d. Served a.near.now a.ranks.now a.r a.g a.runners_turn (d - 1) true in
+    let found : MatchOption c.find.result ((k : ℕ) → 1 ≤ k → k < a.regions → No k) (λ i. (1 ≤ i) × (i < a.regions) × Yes i × ((k : ℕ) → 1 ≤ k → k < i → No k)) =
+    first_from_Range _ _ _ c.find.result Yes No c.find.ensures.ran (λ x q k. search (rules, tests)) (λ x q k. (search (rules, tests), search (rules, tests))) in
     record {
-      answer = none_ends _ _ _ _ _ _ _ c.loop-d.invariant c.loop-d-test.false;
-      bound = omega (arith, c.loop-d.invariant.upto, c.requires.few);
+      answer = λ G goal P. rw c.unwrap_or.ensures (least_found a.near.now a.ranks.now a.regions a.r a.g a.runners_turn (omega (arith, c.requires.runner)) G goal P c.find.result found);
+      bound = rw c.unwrap_or.ensures (found-few a.near.now a.ranks.now a.regions a.r a.g a.runners_turn c.find.result c.requires.few found);
     }

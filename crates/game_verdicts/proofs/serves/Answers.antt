@@ -1,18 +1,17 @@
 -- `serves` meets its contract, by who is to move and whether a step leads there. Assumes nothing.
 use Prim.Native.Nat.{suc}
-use native.Mathlib.Omega.{arith}
 use mathlib.Core.Path.{sym, ap, ◌∙◌}
 use mathlib.Core.Bool.{true, false, ◌&&◌}
 use lib.Dec.{eqb, ltb}
 use lib.ListN.{get_or}
-use borrow.Author.Tests.{eq-eqb, ne_eqb, not-true, not-false}
+use borrow.Author.Tests.{not-true, not-false}
 use Rattle.game.specs.Ranks.{serves_by}
 use Rattle.game_search.specs.Words.{rank_place, rank_at, at}
 use Rattle.game_verdicts.proofs.Reading.{runner-served, guard-served}
 use Rattle.game_verdicts.proofs.serves.Goals as goal
 
 pub has-requires : goal.has-requires
-has-requires c = c.requires.3
+has-requires c = c.requires.2
 
 pub returns-then-not-has : goal.returns-then-not-has
 returns-then-not-has c =
@@ -20,52 +19,58 @@ returns-then-not-has c =
     let ranks = a.ranks.now in
     let there = get_or ranks (rank_place a.d a.g false) 0 in
     let here = get_or ranks (rank_place a.r a.g true) 0 in
-    λ G regions goal P.
-    sym (ap (λ b. (b && ltb 0 there) && ltb there here) (sym c.has.ensures ∙ not-true _ c.if-not-has.true-raw))
-    ∙ runner-served a.near.now regions goal G P ranks a.r a.g a.d c.requires.0 c.requires.3
-    ∙ ap (λ t. serves_by G (rank_at ranks) (at a.r a.g t) (suc a.d)) (sym (eq-eqb a.turn 0 c.if-turn-eq0.true))
+    record {
+      is = λ G regions goal P.
+          sym (ap (λ b. (b && ltb 0 there) && ltb there here) (sym c.has.ensures ∙ not-true _ c.if-not-has.true-raw))
+          ∙ runner-served a.near.now regions goal G P ranks a.r a.g a.d c.requires.0 c.requires.2
+          ∙ ap (λ t. serves_by G (rank_at ranks) (at a.r a.g t) (suc a.d)) (sym c.if-runners_turn.true);
+    }
 
 pub rank_place-requires : goal.rank_place-requires
 rank_place-requires c =
-    (c.requires.3, c.requires.1, omega arith)
+    (c.requires.2, c.requires.1)
 
 pub bounds-ranks-rank_place : goal.bounds-ranks-rank_place
 bounds-ranks-rank_place c = c.rank_place.ensures.1
 
-pub rank_place-requires-then-turn-eq0 : goal.rank_place-requires-then-turn-eq0
-rank_place-requires-then-turn-eq0 c =
-    (c.requires.0, c.requires.1, omega arith)
+pub rank_place-requires-then-runners_turn : goal.rank_place-requires-then-runners_turn
+rank_place-requires-then-runners_turn c =
+    (c.requires.0, c.requires.1)
 
-pub bounds-ranks-rank_place-then-turn-eq0 : goal.bounds-ranks-rank_place-then-turn-eq0
-bounds-ranks-rank_place-then-turn-eq0 c = c.rank_place-then-turn-eq0.ensures.1
+pub bounds-ranks-rank_place-then-runners_turn : goal.bounds-ranks-rank_place-then-runners_turn
+bounds-ranks-rank_place-then-runners_turn c = c.rank_place-then-runners_turn.ensures.1
 
-pub returns-then-turn-eq0 : goal.returns-then-turn-eq0
-returns-then-turn-eq0 c =
+pub returns-then-runners_turn : goal.returns-then-runners_turn
+returns-then-runners_turn c =
     let a = c.args in
     let ranks = a.ranks.now in
     let there = get_or ranks (rank_place a.d a.g false) 0 in
     let here = get_or ranks (rank_place a.r a.g true) 0 in
-    λ G regions goal P.
-    (λ i. ltb 0 (get_or ranks (c.rank_place.ensures.0 i) 0) && ltb (get_or ranks (c.rank_place.ensures.0 i) 0) (get_or ranks (c.rank_place-then-turn-eq0.ensures.0 i) 0))
-    ∙ sym (ap (λ b. (b && ltb 0 there) && ltb there here) (sym c.has.ensures ∙ not-false _ c.if-not-has.false-raw))
-    ∙ runner-served a.near.now regions goal G P ranks a.r a.g a.d c.requires.0 c.requires.3
-    ∙ ap (λ t. serves_by G (rank_at ranks) (at a.r a.g t) (suc a.d)) (sym (eq-eqb a.turn 0 c.if-turn-eq0.true))
+    record {
+      is = λ G regions goal P.
+          (λ i. ltb 0 (get_or ranks (c.rank_place.ensures.0 i) 0) && ltb (get_or ranks (c.rank_place.ensures.0 i) 0) (get_or ranks (c.rank_place-then-runners_turn.ensures.0 i) 0))
+          ∙ sym (ap (λ b. (b && ltb 0 there) && ltb there here) (sym c.has.ensures ∙ not-false _ c.if-not-has.false-raw))
+          ∙ runner-served a.near.now regions goal G P ranks a.r a.g a.d c.requires.0 c.requires.2
+          ∙ ap (λ t. serves_by G (rank_at ranks) (at a.r a.g t) (suc a.d)) (sym c.if-runners_turn.true);
+    }
 
 pub has-requires-2 : goal.has-requires-2
-has-requires-2 c = c.requires.3
+has-requires-2 c = c.requires.2
 
 pub returns-then-not-has-2 : goal.returns-then-not-has-2
 returns-then-not-has-2 c =
     let a = c.args in
     let ranks = a.ranks.now in
-    λ G regions goal P.
-    sym (ap (λ b. b && eqb (get_or ranks (rank_place a.r a.d true) 0) 0) (sym c.has-2.ensures ∙ not-true _ c.if-not-has-2.true-raw))
-    ∙ guard-served a.near.now regions goal G P ranks a.r a.g a.d c.requires.1 c.requires.3
-    ∙ ap (λ t. serves_by G (rank_at ranks) (at a.r a.g t) (suc a.d)) (sym (ne_eqb a.turn 0 c.if-turn-eq0.false))
+    record {
+      is = λ G regions goal P.
+          sym (ap (λ b. b && eqb (get_or ranks (rank_place a.r a.d true) 0) 0) (sym c.has-2.ensures ∙ not-true _ c.if-not-has-2.true-raw))
+          ∙ guard-served a.near.now regions goal G P ranks a.r a.g a.d c.requires.1 c.requires.2
+          ∙ ap (λ t. serves_by G (rank_at ranks) (at a.r a.g t) (suc a.d)) (sym c.if-runners_turn.false);
+    }
 
 pub rank_place-requires-2 : goal.rank_place-requires-2
 rank_place-requires-2 c =
-    (c.requires.0, c.requires.3, omega arith)
+    (c.requires.0, c.requires.2)
 
 pub bounds-ranks-rank_place-2 : goal.bounds-ranks-rank_place-2
 bounds-ranks-rank_place-2 c = c.rank_place-2.ensures.1
@@ -74,8 +79,10 @@ pub returns : goal.returns
 returns c =
     let a = c.args in
     let ranks = a.ranks.now in
-    λ G regions goal P.
-    ap (λ n. eqb (get_or ranks n 0) 0) c.rank_place-2.ensures.0
-    ∙ sym (ap (λ b. b && eqb (get_or ranks (rank_place a.r a.d true) 0) 0) (sym c.has-2.ensures ∙ not-false _ c.if-not-has-2.false-raw))
-    ∙ guard-served a.near.now regions goal G P ranks a.r a.g a.d c.requires.1 c.requires.3
-    ∙ ap (λ t. serves_by G (rank_at ranks) (at a.r a.g t) (suc a.d)) (sym (ne_eqb a.turn 0 c.if-turn-eq0.false))
+    record {
+      is = λ G regions goal P.
+          ap (λ n. eqb (get_or ranks n 0) 0) c.rank_place-2.ensures.0
+          ∙ sym (ap (λ b. b && eqb (get_or ranks (rank_place a.r a.d true) 0) 0) (sym c.has-2.ensures ∙ not-false _ c.if-not-has-2.false-raw))
+          ∙ guard-served a.near.now regions goal G P ranks a.r a.g a.d c.requires.1 c.requires.2
+          ∙ ap (λ t. serves_by G (rank_at ranks) (at a.r a.g t) (suc a.d)) (sym c.if-runners_turn.false);
+    }

@@ -2,14 +2,13 @@
 use native.Mathlib.Omega.{arith}
 use mathlib.Core.Path.{sym, ap, ◌∙◌}
 use lib.ListN.{get_or}
-use lib.Dec.{eqb}
 use Rattle.game_verdicts.proofs.Reading.{back, verdict-told}
 use Rattle.game_verdicts.proofs.verdict_at.Goals as goal
 
 pub rank_place-requires : goal.rank_place-requires
 rank_place-requires c =
     let given = c.requires in
-    (omega (arith, given.few, given.runner), omega (arith, given.few, given.guard), given.turns)
+    (omega (arith, given.few, given.runner), omega (arith, given.few, given.guard))
 
 pub bounds-ranks-rank_place : goal.bounds-ranks-rank_place
 bounds-ranks-rank_place c = c.rank_place.ensures.1
@@ -24,6 +23,6 @@ pub returns : goal.returns
 returns c =
     let a = c.args in
     λ G P.
-    let rank = ap (λ p. get_or a.ranks.now p 0) c.rank_place.ensures.0 ∙ sym (back a.ranks.now a.r a.g (eqb a.turn 0)) in
+    let rank = ap (λ p. get_or a.ranks.now p 0) c.rank_place.ensures.0 ∙ sym (back a.ranks.now a.r a.g a.runners_turn) in
     c.verdict_of.ensures
-    ∙ verdict-told a.near.now a.regions a.goal G P a.ranks.now a.r a.g (eqb a.turn 0) _ _ rank (c.region_at-region.ensures.answer G P rank)
+    ∙ verdict-told a.near.now a.regions a.goal G P a.ranks.now a.r a.g a.runners_turn _ _ rank (c.region_at-region.ensures.answer G P rank)

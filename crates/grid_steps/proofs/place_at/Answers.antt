@@ -1,6 +1,6 @@
--- `grid_steps::place_at` meets its contract: a shift by 8 * d is a division by 2 ^ (8 * d), so that what is read is byte d of the word. Assumes nothing.
-use Rattle.grid_steps.proofs.Ways.{word_at, word_below}
+-- `grid_steps::place_at` meets its contract. Assumes nothing.
+use Rattle.grid_steps.proofs.Ways.{place_of, place_below}
 use Rattle.grid_steps.proofs.place_at.Goals as goal
 
 pub returns : goal.returns
-returns c = record { direction = word_at c.args.d c.requires; bound = word_below c.args.d c.requires }
+returns c = record { direction = place_of c.args.d c.requires; bound = place_below c.args.d c.requires }

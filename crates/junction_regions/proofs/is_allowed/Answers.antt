@@ -1,7 +1,7 @@
 -- `is_allowed` meets its contract: what it reads of the row and of the lists is what the context says. Assumes nothing.
 use Prim.Native.Nat.{◌+◌}
 use native.Mathlib.Omega.{arith}
-use mathlib.Core.Path.{ap₂}
+use mathlib.Core.Path.{sym, ap₂, ◌∙◌}
 use Rattle.laws.specs.ListLaws.Flags.{bit_le}
 use Rattle.geometry.proofs.Ends.{limits}
 use Rattle.junction_proposals.specs.Unions.{mark_at}
@@ -12,12 +12,12 @@ use Rattle.junction_regions.proofs.is_allowed.Goals as goal
 pub bridge_region-requires : goal.bridge_region-requires
 bridge_region-requires c =
     let (C, h) = c.requires in
-    let ends = row-pixels h (ends-are h c.wide.ensures c.segment_of-ends.ensures) in
+    let ends = row-pixels h (ends-are h c.segment_of-ends.ensures) in
     ((first_on h).edges, (limits ends.first, limits ends.second))
 
-pub returns-then-rows-row-ne0 : goal.returns-then-rows-row-ne0
-returns-then-rows-row-ne0 c =
-    λ C h. allowed-bridge h (ends-are h c.wide.ensures c.segment_of-ends.ensures) c.if-rows-row-ne0.true c.bridge_region.ensures
+pub returns-then-not-is_union : goal.returns-then-not-is_union
+returns-then-not-is_union c =
+    λ C h. allowed-bridge h (ends-are h c.segment_of-ends.ensures) (sym c.is_union.ensures ∙ c.if-not-is_union.true) c.bridge_region.ensures
 
 pub overflow_add-anchored : goal.overflow_add-anchored
 overflow_add-anchored c =
@@ -27,9 +27,9 @@ overflow_add-anchored c =
 pub union_regions-requires : goal.union_regions-requires
 union_regions-requires c =
     let (C, h) = c.requires in
-    let ends = row-pixels h (ends-are h c.wide.ensures c.segment_of-ends.ensures) in
+    let ends = row-pixels h (ends-are h c.segment_of-ends.ensures) in
     (first_on h, (second_on h, (limits ends.first, limits ends.second)))
 
 pub returns : goal.returns
 returns c =
-    λ C h. allowed-union h (ends-are h c.wide.ensures c.segment_of-ends.ensures) c.if-rows-row-ne0.false (ap₂ ◌+◌ c.anchored_bit.ensures c.anchored_bit-2.ensures) c.union_regions.ensures
+    λ C h. allowed-union h (ends-are h c.segment_of-ends.ensures) (sym c.is_union.ensures ∙ c.if-not-is_union.false) (ap₂ ◌+◌ c.anchored_bit.ensures c.anchored_bit-2.ensures) c.union_regions.ensures

@@ -18,12 +18,11 @@ returns-then-listed-r-ne1 c =
     sym (ap (λ b. b && conflictsHere) (ne_eqb number 1 c.if-listed-r-ne1.true))
 
 pub conflicts-requires : goal.conflicts-requires
-conflicts-requires c =
-    subst (λ q. TwoRows c.args.rows.now c.args.count q c.args.p) (sym c.wide.ensures) c.requires.two_rows
+conflicts-requires c = c.requires.two_rows
 
 pub returns : goal.returns
 returns c =
     let against : ℕ → Bool = λ q. conflict_at c.args.smaller.now c.args.larger.now c.args.count (row_at c.args.rows.now q) (row_at c.args.rows.now c.args.p) in
     let conflictsHere : Bool = against (get_or c.args.order.now c.args.r 0) in
     let number : ℕ = get_or c.args.listed.now (numbers_per_ranked * c.args.r + 4) 0 in
-    c.conflicts.ensures ∙ ap against c.wide.ensures ∙ sym (ap (λ b. b && conflictsHere) (eq-eqb number 1 c.if-listed-r-ne1.false))
+    c.conflicts.ensures ∙ sym (ap (λ b. b && conflictsHere) (eq-eqb number 1 c.if-listed-r-ne1.false))

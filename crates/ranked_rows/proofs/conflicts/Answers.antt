@@ -9,7 +9,4 @@ use Rattle.ranked_rows.proofs.conflicts.Goals as goal
 pub returns : goal.returns
 unfolding conflict_at
 returns c =
-    let port : ℕ → ℕ → Bool = λ row. reserves_at c.args.smaller.now c.args.larger.now (row_at c.args.rows.now row) in
-    let left = c.reserves.ensures ∙ ap (port c.args.p) c.wide-i.ensures in
-    let right = c.reserves-2.ensures ∙ ap (port c.args.q) c.wide-j.ensures in
-    λ i. left i || right i || c.share_port-port.ensures i || c.region_conflict.ensures i
+    λ i. c.reserves.ensures i || c.reserves-2.ensures i || c.share_port-port.ensures i || c.region_conflict.ensures i

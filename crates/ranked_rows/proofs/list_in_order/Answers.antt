@@ -1,7 +1,7 @@
 -- `ranked_rows::list_in_order` meets its contract. The loop's invariant: the rows of the first k ranks are written (`ListedTo`). The measure is how many ranks are left. Assumes nothing.
 use native.Mathlib.Nat.{le_antisymm}
 use native.Mathlib.Omega.{arith}
-use mathlib.Core.Path.{ap, ◌∙◌}
+use mathlib.Core.Path.{refl, ap, ◌∙◌}
 use Rattle.definitions.specs.Lists.{overwrite}
 use Rattle.junction_selection.specs.Ranks.{order_of}
 use Rattle.ranked_list.specs.RankedList.{flat_ranked}
@@ -26,14 +26,14 @@ list_row-requires c =
       listing = asked;
       rank = record {
         rank_in_lem = omega (arith, c.loop-k-test.true, c.requires.places.0);
-        row_in = omega (arith, c.wide.ensures, rows_in k c.loop-k-test.true);
+        row_in = rows_in k c.loop-k-test.true;
         rows_in = λ j h. rows_in j (omega (arith, c.loop-k-test.true));
       };
     }
 
 pub loop-k-preserved : goal.loop-k-preserved
 loop-k-preserved c =
-    listed_more c.loop-k.invariant c.loop-k-test.true c.wide.ensures c.list_row.ensures c.list_row.auto.listed
+    listed_more c.loop-k.invariant c.loop-k-test.true refl c.list_row.ensures c.list_row.auto.listed
 
 pub shape_of-listed : goal.shape_of-listed
 shape_of-listed c = c.loop-k.invariant.long

@@ -1,16 +1,24 @@
 -- `ranked_rows::put_ranked` meets its contract: the row's numbers as they are read, behind one another. Assumes nothing.
-use Prim.Native.Nat.{ℕ, ◌*◌}
-use mathlib.Core.Path.{◌∙◌}
-use mathlib.Core.List.{List, [], ◌∷◌}
+use Rattle.std.proofs.Common.{◌≡◌, ◌∙◌, refl, sym, ap, not, Bool, true, false, ℕ, ◌*◌, List, [], ◌∷◌}
+use Rattle.std.specs.Option.{is_some}
 use lib.Seq.{sets}
+use mir.Val.{bool_byte}
+use Rattle.definitions.specs.Scan.{bit}
 use Rattle.junction_proposals.specs.Rows.{row_at}
 use Rattle.ranked_rows.proofs.put_ranked.Goals as goal
 
--- a row of these numbers
-abbrev row : List ℕ → ℕ → ℕ → ℕ → List ℕ
-row rows p taken by = (row_at rows p).kind ∷ (row_at rows p).index ∷ (row_at rows p).first ∷ (row_at rows p).second ∷ taken ∷ by ∷ []
+-- a flag as a number
+as_bit : (b : Bool) → bool_byte b ≡ bit b
+as_bit true = refl
+as_bit false = refl
+
+twice : (b : Bool) → b ≡ not (not b)
+twice true = refl
+twice false = refl
 
 pub returns : goal.returns
 returns c =
+    let row = row_at c.args.rows.now c.args.p in
+    let taken : c.from-taken.result ≡ bit (not (is_some c.args.by)) = c.from-taken.ensures ∙ as_bit c.is_none.result ∙ ap bit (twice c.is_none.result ∙ ap not (sym c.is_none.ensures)) in
     c.put_row.ensures
-    ∙ (λ i. sets c.args.listed.now (6 * c.args.k) (row c.args.rows.now c.args.p (c.taken_number-taken.ensures i) (c.named_rank-rank.ensures i)))
+    ∙ (λ i. sets c.args.listed.now (6 * c.args.k) (c.number.ensures i ∷ row.index ∷ row.first ∷ row.second ∷ taken i ∷ c.unwrap_or-rank.ensures i ∷ []))

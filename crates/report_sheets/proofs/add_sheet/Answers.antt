@@ -13,4 +13,4 @@ returns-in-Ok c =
 
 pub returns-in-Err : goal.returns-in-Err
 returns-in-Err c =
-    refusal-added _ _ _ _ _ (search rules) c.read_limited.ensures _ c.in-Err.is c.refuse.ensures
+    refusal-added _ _ _ _ _ (search rules) c.read_limited.ensures _ c.in-Err.is (rw c.number.ensures at c.refuse.ensures)

@@ -5,7 +5,7 @@ use Rattle.sheet_answer.proofs.read.Goals as goal
 
 pub returns-then-bytes-gt-SHEET_BYTES_MOST : goal.returns-then-bytes-gt-SHEET_BYTES_MOST
 returns-then-bytes-gt-SHEET_BYTES_MOST c =
-    begun-long _ _ _ _ _ c.if-bytes-gt-SHEET_BYTES_MOST.true c.print_refused.ensures.printed
+    begun-long _ _ _ _ _ c.if-bytes-gt-SHEET_BYTES_MOST.true (rw c.number.ensures at c.print_refused.ensures.printed)
 
 pub returns-in-Ok : goal.returns-in-Ok
 returns-in-Ok c =
@@ -13,4 +13,4 @@ returns-in-Ok c =
 
 pub returns-in-Err : goal.returns-in-Err
 returns-in-Err c =
-    begun-refused _ _ _ _ _ c.if-bytes-gt-SHEET_BYTES_MOST.false c.requires.lists_long c.read_within.ensures _ c.in-Err.is c.print_refused-in-Err.ensures.printed
+    begun-refused _ _ _ _ _ c.if-bytes-gt-SHEET_BYTES_MOST.false c.requires.lists_long c.read_within.ensures _ c.in-Err.is (rw c.number-in-Err.ensures at c.print_refused-in-Err.ensures.printed)

@@ -1,5 +1,5 @@
 -- `sheet_converter::cells_fault` meets its contract. The loop's invariant: the cells from i on stand from here on (`Walking`), and none before them is faulty. What was
--- judged is not refused, so that the loop is not left early. The measure is how many are left. Assumes nothing.
+-- judged is not refused, so that the loop is not left early. Assumes nothing.
 use native.Mathlib.Omega.{arith}
 use mathlib.Core.Path.{sym, ap, ◌∙◌}
 use lib.ListN.{length}
@@ -25,9 +25,9 @@ pub returns-in_default : goal.returns-in_default
 returns-in_default c =
     absurd (walking_never-stops c.loop-i.invariant.0 c.loop-i-test.true (as_cell _ _ c.in_default.ensures))
 
-pub overflow_cast-value : goal.overflow_cast-value
-overflow_cast-value c =
-    omega (arith, up_to_most 255 _ _ c.in-Item.ensures)
+pub overflow_cast-read : goal.overflow_cast-read
+overflow_cast-read c =
+    omega (arith, up_to_most 255 _ _ c.in-Ok.ensures)
 
 pub returns-then-not-elevation_fits : goal.returns-then-not-elevation_fits
 unfolding elevations_fault
@@ -35,13 +35,13 @@ returns-then-not-elevation_fits c =
     let cells = (values_at cell c.args.bytes.now c.args.at c.args.count) in
     let long = held-length c.requires in
     sym (first_faulty_lem (fits cells) (length cells) c.loop-i.i (omega (arith, long, c.loop-i-test.true)) c.loop-i.invariant.1
-    (c.elevation_fits.ensures ∙ ap fitting (sym (walking_cell c.loop-i.invariant.0 c.loop-i-test.true (as_cell _ _ c.in-Item.ensures)))) c.if-not-elevation_fits.true-raw)
+    (c.elevation_fits.ensures ∙ ap fitting (sym (walking_cell c.loop-i.invariant.0 c.loop-i-test.true (as_cell _ _ c.in-Ok.ensures)))) c.if-not-elevation_fits.true-raw)
 
 pub loop-i-preserved : goal.loop-i-preserved
 loop-i-preserved c = (
-  walking_goes_on c.loop-i.invariant.0 c.loop-i-test.true (as_cell _ _ c.in-Item.ensures),
+  walking_goes_on c.loop-i.invariant.0 c.loop-i-test.true (as_cell _ _ c.in-Ok.ensures),
   none_faulty_more (fits (values_at cell c.args.bytes.now c.args.at c.args.count)) c.loop-i.i c.loop-i.invariant.1
-      (c.elevation_fits.ensures ∙ ap fitting (sym (walking_cell c.loop-i.invariant.0 c.loop-i-test.true (as_cell _ _ c.in-Item.ensures)))) c.if-not-elevation_fits.false-raw,
+      (c.elevation_fits.ensures ∙ ap fitting (sym (walking_cell c.loop-i.invariant.0 c.loop-i-test.true (as_cell _ _ c.in-Ok.ensures)))) c.if-not-elevation_fits.false-raw,
 )
 
 pub returns : goal.returns

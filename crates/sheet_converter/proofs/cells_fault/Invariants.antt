@@ -1,6 +1,6 @@
 -- `sheet_converter::cells_fault` meets its contract. The loop's invariant: the cells from i on stand from here on (`Walking`), and none before them is faulty. What was
--- judged is not refused, so that the loop is not left early. The measure is how many are left. Assumes nothing.
-use Prim.Native.Nat.{ℕ, ◌-◌}
+-- judged is not refused, so that the loop is not left early. Assumes nothing.
+use Prim.Native.Nat.{ℕ}
 use mathlib.Core.Path.{◌≡◌}
 use mathlib.Core.Bool.{Bool, not, ◌&&◌}
 use Rattle.std.specs.Prelude.{None}
@@ -23,6 +23,3 @@ fits cells i = fitting (get_or cells i 0)
 abbrev pub invariant-loop-i : goal.invariant-loop-i
 invariant-loop-i l =
     Walking l.bytes l.at l.count l.next l.i × (first_faulty l.i (fits (values_at cell l.bytes l.at l.count)) ≡ None)
-
-abbrev pub decreases-loop-i : goal.decreases-loop-i
-decreases-loop-i l = l.count - l.i

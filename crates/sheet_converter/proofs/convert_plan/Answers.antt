@@ -1,7 +1,5 @@
 -- `sheet_converter::convert_plan` meets its contract: nothing is put before all checks and the room are known. Assumes nothing.
 use native.Mathlib.Omega.{arith}
-use mathlib.Core.Path.{sym, ap, ◌∙◌}
-use Rattle.areas.specs.Answers.{refusal_of}
 use Rattle.sheet_converter.proofs.Cutting.{bytes-known, cut_is, cut-long, cut-ordered, cut-known}
 use Rattle.sheet_converter.proofs.Answering.{plan-refused, plan-short, plan-put}
 use Rattle.sheet_converter.proofs.convert_plan.Goals as goal
@@ -10,9 +8,9 @@ pub plan_check-requires : goal.plan_check-requires
 plan_check-requires c =
     c.requires
 
-pub returns-in-Refused : goal.returns-in-Refused
-returns-in-Refused c =
-    plan-refused c.args.bytes.now c.args.plan c.args.out.now (sym (ap refusal_of c.in-Refused.is) ∙ c.plan_check.ensures)
+pub returns-in-Err : goal.returns-in-Err
+returns-in-Err c =
+    rw c.refused_at.ensures (plan-refused c.args.bytes.now c.args.plan c.args.out.now c.in-Err.ensures)
 
 pub overflow_sub-bytes : goal.overflow_sub-bytes
 overflow_sub-bytes c =
@@ -24,7 +22,7 @@ overflow_add-front c =
 
 pub returns-then-out-front : goal.returns-then-out-front
 returns-then-out-front c =
-    plan-short c.args.bytes.now c.args.plan c.args.out.now (sym (ap refusal_of c.in_default.is) ∙ c.plan_check.ensures) (omega (arith, c.if-out-front.true, cut-long (bytes-known c.args.bytes.now (λ i. omega (arith, c.shared_slice_known-1.given i))) c.requires.held c.requires.old))
+    rw c.refused.ensures (plan-short c.args.bytes.now c.args.plan c.args.out.now c.in_default.ensures (omega (arith, c.if-out-front.true, cut-long (bytes-known c.args.bytes.now (λ i. omega (arith, c.shared_slice_known-1.given i))) c.requires.held c.requires.old)))
 
 pub put_converted-size-requires : goal.put_converted-size-requires
 put_converted-size-requires c =
@@ -32,5 +30,5 @@ put_converted-size-requires c =
 
 pub returns : goal.returns
 returns c =
-    plan-put c.args.bytes.now c.args.plan c.args.out.now (sym (ap refusal_of c.in_default.is) ∙ c.plan_check.ensures)
+    plan-put c.args.bytes.now c.args.plan c.args.out.now c.in_default.ensures
     (omega (arith, c.if-out-front.false, cut-long (bytes-known c.args.bytes.now (λ i. omega (arith, c.shared_slice_known-1.given i))) c.requires.held c.requires.old)) (cut_is (bytes-known c.args.bytes.now (λ i. omega (arith, c.shared_slice_known-1.given i))) c.requires.held c.requires.old) c.put_converted-size.ensures

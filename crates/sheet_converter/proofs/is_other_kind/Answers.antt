@@ -2,14 +2,8 @@
 use Rattle.sheet_converter.proofs.FirstNumber.{kind-told, no_kind}
 use Rattle.sheet_converter.proofs.is_other_kind.Goals as goal
 
-pub returns-in-Value : goal.returns-in-Value
-returns-in-Value c =
-    kind-told c.in-Value.ensures
+pub returns-in-Ok : goal.returns-in-Ok
+returns-in-Ok c = kind-told c.in-Ok.ensures
 
-pub returns-in-Bad : goal.returns-in-Bad
-returns-in-Bad c =
-    no_kind c.in-Bad.ensures
-
-pub returns-in-Short : goal.returns-in-Short
-returns-in-Short c =
-    no_kind c.in-Short.ensures
+pub returns-in-Err : goal.returns-in-Err
+returns-in-Err c = no_kind c.in-Err.ensures

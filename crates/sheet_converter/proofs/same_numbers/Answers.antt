@@ -1,4 +1,4 @@
--- `sheet_converter::same_numbers` meets its contract. The loop's invariant: the lists are equally long and the same below i. The measure is how many numbers are left.
+-- `sheet_converter::same_numbers` meets its contract. The loop's invariant: the lists are equally long and the same below i.
 -- Assumes nothing.
 use native.Mathlib.Omega.{arith}
 use borrow.Author.Count.{below_more}

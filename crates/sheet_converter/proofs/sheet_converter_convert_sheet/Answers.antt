@@ -6,21 +6,21 @@ use Rattle.sheet_converter.proofs.sheet_converter_convert_sheet.Goals as goal
 
 pub returns-then-is_other_kind : goal.returns-then-is_other_kind
 returns-then-is_other_kind c =
-    converts_other c.args.bytes.now c.args.out.now (sym c.is_other_kind.ensures ∙ c.if-is_other_kind.true)
+    rw c.refused.ensures (converts_other c.args.bytes.now c.args.out.now (sym c.is_other_kind.ensures ∙ c.if-is_other_kind.true))
 
 pub convert_plan-requires : goal.convert_plan-requires
 convert_plan-requires c =
-    let held = c.in-Sound.ensures in
+    let held = c.in-Ok.ensures in
     record {
       held = held;
       old = opened_1 c.args.bytes.now held.stands.opened (sym c.is_other_kind.ensures ∙ c.if-is_other_kind.false);
     }
 
-pub returns-in-Sound : goal.returns-in-Sound
-returns-in-Sound c =
-    let held = c.in-Sound.ensures in
+pub returns-in-Ok : goal.returns-in-Ok
+returns-in-Ok c =
+    let held = c.in-Ok.ensures in
     converts_plan c.args.bytes.now c.args.out.now (sym c.is_other_kind.ensures ∙ c.if-is_other_kind.false) _ held.same c.convert_plan.ensures
 
-pub returns-in-Refused : goal.returns-in-Refused
-returns-in-Refused c =
-    converts_refused c.args.bytes.now c.args.out.now (sym c.is_other_kind.ensures ∙ c.if-is_other_kind.false) c.in-Refused.ensures
+pub returns-in-Err : goal.returns-in-Err
+returns-in-Err c =
+    rw c.refused_at.ensures (converts_refused c.args.bytes.now c.args.out.now (sym c.is_other_kind.ensures ∙ c.if-is_other_kind.false) c.in-Err.ensures)

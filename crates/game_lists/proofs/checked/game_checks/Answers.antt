@@ -1,57 +1,32 @@
 -- `game_lists::checked::game_checks` meets its contract: the refusals of its parts, one after the other. Assumes nothing.
-use mathlib.Core.Path.{sym, ap}
-use borrow.Author.Tests.{le-leb, lt-leb}
-use Rattle.definitions.specs.Refusals.{unless}
-use Rattle.definitions.specs.Verdict.{refusal}
-use Rattle.areas.proofs.Chain.{here, next, said, place-said}
+use Rattle.std.proofs.Common.{rules, sym, ◌≡◌, ◌∙◌}
+use Rattle.std.specs.Prelude.{Some}
+use Rattle.refusals.specs.Refusals.{refusal_in, refusal_of}
+use Rattle.refusals.proofs.Steps.{here, next, searched}
 use Rattle.game_lists.specs.Early.{game_early}
 use Rattle.game_lists.proofs.checked.game_checks.Goals as goal
 
-pub returns-in-Refused : goal.returns-in-Refused
+pub returns-in_err-check_sizes : goal.returns-in_err-check_sizes
 unfolding game_early
-returns-in-Refused c =
-    let check-sizes = c.check_sizes in
-    here _ (said check-sizes.ensures c.in-Refused.is)
+returns-in_err-check_sizes c =
+    let r : refusal_in c.from_residual.result ≡ Some (refusal_of c.in_err-check_sizes.field-0.0) = search rules in
+    r ∙ here _ (sym c.in_err-check_sizes.ensures)
 
-pub returns-in-At : goal.returns-in-At
+pub returns-in_err-no_fault : goal.returns-in_err-no_fault
 unfolding game_early
-returns-in-At c =
-    let lists-fault = c.lists_fault in
-    let enum_told = c.in_default in
-    let check-sizes = c.check_sizes in
-    next (said check-sizes.ensures enum_told.is) (here _ (place-said 16 lists-fault.ensures c.in-At.is))
+returns-in_err-no_fault c =
+    let r : refusal_in c.from_residual-in_err-no_fault.result ≡ Some (refusal_of c.in_err-no_fault.field-0.0) = search rules in
+    r ∙ next (sym c.in_ok-check_sizes.ensures) (here _ (searched 16 c.lists_fault.ensures c.in_err-no_fault.ensures))
 
-pub returns-in-Refused-checks_before : goal.returns-in-Refused-checks_before
+pub returns-in_err-checks_before : goal.returns-in_err-checks_before
 unfolding game_early
-returns-in-Refused-checks_before c =
-    let checks-before = c.checks_before in
-    let enum-told2 = c.in_default-lists_fault in
-    let lists-fault = c.lists_fault in
-    let enum_told = c.in_default in
-    let check-sizes = c.check_sizes in
-    next (said check-sizes.ensures enum_told.is)
-    (next (place-said 16 lists-fault.ensures enum-told2.is) (here _ (said checks-before.ensures c.in-Refused-checks_before.is)))
-
-pub returns-then-verdicts-lt-VERDICTS_ROOM : goal.returns-then-verdicts-lt-VERDICTS_ROOM
-unfolding game_early
-returns-then-verdicts-lt-VERDICTS_ROOM c =
-    let checks-before = c.checks_before in
-    let enum-told2 = c.in_default-lists_fault in
-    let lists-fault = c.lists_fault in
-    let enum_told = c.in_default in
-    let check-sizes = c.check_sizes in
-    next (said check-sizes.ensures enum_told.is)
-    (next (place-said 16 lists-fault.ensures enum-told2.is)
-    (next (said checks-before.ensures c.in_default-checks_before.is) (sym (ap (λ b. refusal 10 (unless b)) (lt-leb _ _ c.if-verdicts-lt-VERDICTS_ROOM.true)))))
+returns-in_err-checks_before c =
+    let r : refusal_in c.from_residual-in_err-checks_before.result ≡ Some (refusal_of c.in_err-checks_before.field-0.0) = search rules in
+    r ∙ next (sym c.in_ok-check_sizes.ensures) (next (searched 16 c.lists_fault.ensures c.in_ok-no_fault.ensures) (here _ (sym c.in_err-checks_before.ensures)))
 
 pub returns : goal.returns
 unfolding game_early
 returns c =
-    let checks-before = c.checks_before in
-    let enum-told2 = c.in_default-lists_fault in
-    let lists-fault = c.lists_fault in
-    let enum_told = c.in_default in
-    let check-sizes = c.check_sizes in
-    next (said check-sizes.ensures enum_told.is)
-    (next (place-said 16 lists-fault.ensures enum-told2.is)
-    (next (said checks-before.ensures c.in_default-checks_before.is) (sym (ap (λ b. refusal 10 (unless b)) (le-leb _ _ c.if-verdicts-lt-VERDICTS_ROOM.false)))))
+    next (sym c.in_ok-check_sizes.ensures)
+    (next (searched 16 c.lists_fault.ensures c.in_ok-no_fault.ensures)
+    (next (sym c.in_ok-checks_before.ensures) c.ensure.ensures))

@@ -16,10 +16,10 @@ pub set_parent-requires : goal.set_parent-requires
 set_parent-requires c =
     let pre = c.requires in
     let A = c.root_of-a.ensures pre.0 pre.1.0 pre.1.1.low_upto in
-    greatest-placed pre.1.1 A (c.root_of-b.ensures pre.0 A.parented pre.1.1.high_upto) c.greater.ensures
+    greatest-placed pre.1.1 A (c.root_of-b.ensures pre.0 A.parented pre.1.1.high_upto) c.max.ensures
 
 pub returns : goal.returns
 returns c =
     λ cs P w.
     let A = c.root_of-a.ensures cs P w.low_upto in
-    joined w A (c.root_of-b.ensures cs A.parented w.high_upto) c.greater.ensures c.lesser.ensures c.set_parent.ensures
+    joined w A (c.root_of-b.ensures cs A.parented w.high_upto) c.max.ensures c.min.ensures c.set_parent.ensures

@@ -1,14 +1,14 @@
 -- `junction_selection::selection::is_refused` meets its contract, from what its callees ensure. Assumes nothing.
 use native.Mathlib.Omega.{arith}
-use mathlib.Core.Path.{ap}
 use mathlib.Core.Bool.{false}
 use lib.ListN.{get_or}
+use Rattle.junction_proposals.specs.Rows.{row_at}
 use Rattle.junction_selection.proofs.Standings.{refused}
 use Rattle.junction_selection.proofs.selection.is_refused.Goals as goal
 
-pub bounds-reserved-index : goal.bounds-reserved-index
-bounds-reserved-index c =
-    omega (arith, c.wide-index.ensures, c.requires.selecting.below c.args.p c.requires.places.1, c.requires.selecting.reserved_long)
+pub bounds-reserved-rows : goal.bounds-reserved-rows
+bounds-reserved-rows c =
+    omega (arith, c.requires.selecting.below c.args.p c.requires.places.1, c.requires.selecting.reserved_long)
 
 pub port_taken-ports-requires : goal.port_taken-ports-requires
 port_taken-ports-requires c =
@@ -25,4 +25,4 @@ region_taken-requires c =
 pub returns : goal.returns
 returns c chosen st =
     refused c.args.smaller.now c.args.larger.now c.args.rows.now c.args.taken.now c.args.removed.now c.args.reserved.now c.args.count c.args.n c.args.t chosen st c.args.p c.requires.selecting.below c.requires.places.1
-    c.port_taken-ports.ensures (ap (λ i. get_or c.args.reserved.now i false) c.wide-index.ensures) c.region_taken.ensures
+    c.port_taken-ports.ensures (λ i. get_or c.args.reserved.now (row_at c.args.rows.now c.args.p).index false) c.region_taken.ensures

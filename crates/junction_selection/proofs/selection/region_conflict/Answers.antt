@@ -1,16 +1,14 @@
 -- `junction_selection::selection::region_conflict` meets its contract, by the kinds of the two proposals. Assumes nothing.
+use mathlib.Core.Path.{sym, ◌∙◌, ap₂}
+use mathlib.Core.Bool.{◌||◌}
 use Rattle.junction_proposals.specs.Rows.{row_at}
-use Rattle.junction_selection.proofs.Conflicts.{with_union-taken, with_union, two_bridges}
+use Rattle.junction_selection.proofs.Conflicts.{with_union, two_bridges}
 use Rattle.junction_selection.proofs.selection.region_conflict.Goals as goal
 
-pub returns-then-rows-k-eq0 : goal.returns-then-rows-k-eq0
-returns-then-rows-k-eq0 c =
-    with_union-taken (row_at c.args.rows.now c.args.q) (row_at c.args.rows.now c.args.p) (row_at c.args.rows.now c.args.q).kind (row_at c.args.rows.now c.args.p).kind c.if-rows-k-eq0.true
-
-pub returns-then-rows-l-eq0 : goal.returns-then-rows-l-eq0
-returns-then-rows-l-eq0 c =
-    with_union (row_at c.args.rows.now c.args.q) (row_at c.args.rows.now c.args.p) (row_at c.args.rows.now c.args.q).kind (row_at c.args.rows.now c.args.p).kind c.if-rows-l-eq0.true
+pub returns-then-is_union : goal.returns-then-is_union
+returns-then-is_union c =
+    with_union (row_at c.args.rows.now c.args.q) (row_at c.args.rows.now c.args.p) (row_at c.args.rows.now c.args.q).kind (row_at c.args.rows.now c.args.p).kind (sym (ap₂ ◌||◌ c.is_union.ensures c.is_union-2.ensures) ∙ c.if-is_union.true)
 
 pub returns : goal.returns
 returns c =
-    two_bridges (row_at c.args.rows.now c.args.q) (row_at c.args.rows.now c.args.p) (row_at c.args.rows.now c.args.q).kind (row_at c.args.rows.now c.args.p).kind c.if-rows-k-eq0.false c.if-rows-l-eq0.false
+    two_bridges (row_at c.args.rows.now c.args.q) (row_at c.args.rows.now c.args.p) (row_at c.args.rows.now c.args.q).kind (row_at c.args.rows.now c.args.p).kind (sym (ap₂ ◌||◌ c.is_union.ensures c.is_union-2.ensures) ∙ c.if-is_union.false)

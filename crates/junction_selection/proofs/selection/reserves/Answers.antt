@@ -9,5 +9,5 @@ use Rattle.junction_selection.proofs.selection.reserves.Goals as goal
 pub returns : goal.returns
 unfolding reserves_at names
 returns c =
-    λ t. (c.names_region-first.ensures t || eqb (row_at c.args.rows.now c.args.p).kind 0 && c.names_region-second.ensures t)
-    && not (eqb (row_at c.args.rows.now c.args.p).kind 0 && eqb c.args.j (c.wide-index.ensures t))
+    λ t. (c.names_region-first.ensures t || c.is_union-union.ensures t && c.names_region-second.ensures t)
+    && not (c.is_union-union.ensures t && eqb c.args.j (row_at c.args.rows.now c.args.p).index)

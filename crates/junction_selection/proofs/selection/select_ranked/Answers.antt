@@ -5,10 +5,9 @@ use native.Mathlib.Omega.{arith}
 use mathlib.Core.Path.{refl, sym, ap, ◌∙◌}
 use lib.Dec.{eqb}
 use Rattle.definitions.specs.Scan.{any}
-use Rattle.junction_proposals.specs.Rows.{row_at}
-use Rattle.junction_selection.specs.Ranks.{conflict_at, selected_of}
+use Rattle.junction_selection.specs.Ranks.{selected_of}
 use Rattle.junction_selection.proofs.Lists.{selecting_of}
-use Rattle.junction_selection.proofs.Standings.{grown, selected_next, standing-start, standing_as}
+use Rattle.junction_selection.proofs.Standings.{selected_next, standing-start, standing_as}
 use Rattle.junction_selection.proofs.selection.select_ranked.Goals as goal
 
 pub loop-k-init : goal.loop-k-init
@@ -23,7 +22,7 @@ pub take_if_free-t-requires : goal.take_if_free-t-requires
 take_if_free-t-requires c =
     let i = c.loop-k.invariant in record {
       selecting = selecting_of _ _ _ c.requires.selecting i.1.1.0 i.1.1.1.0 i.1.1.1.1.0;
-      places = (omega (arith, i.1.0, c.loop-k-test.true, c.requires.sizes), omega (arith, c.wide-p.ensures, c.requires.listed c.loop-k.k c.loop-k-test.true));
+      places = (omega (arith, i.1.0, c.loop-k-test.true, c.requires.sizes), omega (arith, c.requires.listed c.loop-k.k c.loop-k-test.true));
       listed = i.1.1.1.1.1.rows_in;
     }
 
@@ -41,8 +40,7 @@ loop-k-preserved c =
             (
               a.auto.taken ∙ i.1.1.1.1.0,
               standing_as (a.ensures.standing _ i.1.1.1.1.1)
-                  (ap (λ p. grown (conflict_at c.args.smaller.now c.args.larger.now c.args.count) (selected_of c.args.smaller.now c.args.larger.now c.args.rows.now c.args.order.now c.args.count c.loop-k.k) (row_at c.args.rows.now p)) c.wide-p.ensures
-                  ∙ sym (selected_next c.args.smaller.now c.args.larger.now c.args.rows.now c.args.order.now c.args.count c.loop-k.k)),
+                  (sym (selected_next c.args.smaller.now c.args.larger.now c.args.rows.now c.args.order.now c.args.count c.loop-k.k)),
             ),
           ),
         ),

@@ -1,5 +1,6 @@
 -- `junction_selection::selection::take_if_free` meets its contract, from what its callees ensure. Assumes nothing.
 use native.Mathlib.Omega.{arith}
+use mathlib.Core.Path.{refl}
 use Rattle.junction_selection.proofs.Standings.{standing-kept, standing-taken}
 use Rattle.junction_selection.proofs.selection.take_if_free.Goals as goal
 
@@ -18,9 +19,9 @@ returns-then-is_refused c =
       bound = omega arith;
     }
 
-pub bounds-removed-index : goal.bounds-removed-index
-bounds-removed-index c =
-    omega (arith, c.wide-index.ensures, c.requires.selecting.below c.args.p c.requires.places.1, c.requires.selecting.removed-long)
+pub bounds-removed-rows : goal.bounds-removed-rows
+bounds-removed-rows c =
+    omega (arith, c.requires.selecting.below c.args.p c.requires.places.1, c.requires.selecting.removed-long)
 
 pub reserve_ports-requires : goal.reserve_ports-requires
 reserve_ports-requires c =
@@ -38,7 +39,7 @@ pub returns : goal.returns
 returns c =
     record {
       standing = λ chosen st.
-          standing-taken c.args.smaller.now c.args.larger.now c.args.rows.now c.args.taken.now c.args.removed.now c.args.reserved.now c.args.count c.args.n c.args.t chosen st c.args.p c.wide-index.result _ (c.is_refused.ensures chosen st) c.if-is_refused.false (omega (arith, c.requires.selecting.few, c.requires.selecting.room, c.requires.places)) c.requires.places.1 c.wide-index.ensures
-          (omega (arith, c.wide-index.ensures, c.requires.selecting.below c.args.p c.requires.places.1, c.requires.selecting.removed-long)) c.reserve_ports.ensures;
+          standing-taken c.args.smaller.now c.args.larger.now c.args.rows.now c.args.taken.now c.args.removed.now c.args.reserved.now c.args.count c.args.n c.args.t chosen st c.args.p _ _ (c.is_refused.ensures chosen st) c.if-is_refused.false (omega (arith, c.requires.selecting.few, c.requires.selecting.room, c.requires.places)) c.requires.places.1 refl
+          (omega (arith, c.requires.selecting.below c.args.p c.requires.places.1, c.requires.selecting.removed-long)) c.reserve_ports.ensures;
       bound = omega arith;
     }

@@ -5,6 +5,7 @@ use mathlib.Core.Bool.{not}
 use lib.Ieee.{binary64, lt, to_bits}
 use Rattle.definitions.specs.RampMouths.{max_mouth_distance}
 use Rattle.mouth_proposals.specs.Candidates.{candidate_form}
+use Rattle.mouth_proposals.specs.Listed.{candidate}
 use Rattle.mouth_proposals.proofs.SafeLists.{below, placed_at}
 use Rattle.mouth_proposals.proofs.OuterWithin.{outer-inside}
 use Rattle.mouth_proposals.proofs.CandidateLaws.{separation-number, roomy-put, none_found, far-found, near-found, filled_none, filled_more}
@@ -20,10 +21,10 @@ bits_of-requires c =
     separation-number L.context c.args.m c.args.a
     (c.separation_of-separation.ensures L.context L.shows.bounds (below L.shows.counted c.requires.places.1.0) (below L.shows.counted c.requires.places.1.1))
 
-pub put_candidate-requires : goal.put_candidate-requires
-put_candidate-requires c =
+pub of-requires : goal.of-requires
+of-requires c =
     let L = c.requires.shown in
-    (c.requires.places.0, (omega (arith, c.requires.places.1.0, L.shows.counted, L.shows.bounds.few), omega (arith, c.requires.places.1.1, L.shows.counted, L.shows.bounds.few)))
+    (omega (arith, c.requires.places.1.0, L.shows.counted, L.shows.bounds.few), omega (arith, c.requires.places.1.1, L.shows.counted, L.shows.bounds.few))
 
 pub overflow_add-result : goal.overflow_add-result
 overflow_add-result c =
@@ -42,14 +43,14 @@ pub returns-then-is_close : goal.returns-then-is_close
 returns-then-is_close c =
     let L = c.requires.shown in record {
       bound = (omega arith, omega arith);
-      still_roomy = roomy-put c.requires.roomy c.put_candidate.ensures;
+      still_roomy = roomy-put _ _ c.requires.roomy;
       filled = λ C l S T ramp cut E F.
           let lm = below S.counted c.requires.places.1.0 in
           let la = below S.counted c.requires.places.1.1 in
           let e = sym (ap (candidate_form C c.args.m c.args.a) c.in-Some.is) ∙ c.mouth_candidate.ensures C S T ramp cut E in
           let d = c.separation_of-separation.ensures C S.bounds lm la in
-          filled_more C c.args.m c.args.a F c.requires.roomy c.put_candidate.ensures c.requires.places.0 lm la (outer-inside C c.args.a c.args.m (S.rows.named c.args.m lm) _ _ e)
-          (c.bits_of.ensures ∙ ap (to_bits binary64) d) (near-found C c.args.a c.args.m _ _ e (sym (ap (λ x. not (lt max_mouth_distance x)) d) ∙ sym c.is_close.ensures ∙ c.if-is_close.true));
+          rw c.of.ensures (filled_more C (candidate c.args.m c.args.a c.in-Some.found.outer c.in-Some.found.kind c.bits_of.result) F c.requires.roomy c.requires.places.0 lm la (outer-inside C c.args.a c.args.m (S.rows.named c.args.m lm) _ _ e)
+          (c.bits_of.ensures ∙ ap (to_bits binary64) d) (near-found C c.args.a c.args.m _ _ e (sym (ap (λ x. not (lt max_mouth_distance x)) d) ∙ sym c.is_close.ensures ∙ c.if-is_close.true)));
     }
 
 pub returns-else-is_close : goal.returns-else-is_close

@@ -13,8 +13,8 @@ use Rattle.mouth_proposals.proofs.candidates.push_mouths.Given as goal
 
 abbrev pub invariant-loop-m : goal.invariant-loop-m
 invariant-loop-m l =
-    (l.m ≤ l.count) × ((l.n ≤ l.m) × (Roomy l.mouths l.ramps l.outers l.kinds l.separations × ((C : Context) → Shows l.boundaries l.pairs l.starts l.counts l.marks l.count C → ShownTallies C l.tallies
-    → no_ramp C l.a ≡ false → full_cut C l.a ≡ true → EndsOf C l.a l.ends → Filled C l.mouths l.ramps l.outers l.kinds l.separations l.n (collect l.m (mouth_candidate C l.a)))))
+    (l.m ≤ l.count) × ((l.n ≤ l.m) × (Roomy l.entries × ((C : Context) → Shows l.boundaries l.pairs l.starts l.counts l.marks l.count C → ShownTallies C l.tallies
+    → no_ramp C l.a ≡ false → full_cut C l.a ≡ true → EndsOf C l.a l.ends → Filled C l.entries l.n (collect l.m (mouth_candidate C l.a)))))
 
 abbrev pub decreases-loop-m : goal.decreases-loop-m
 decreases-loop-m l = l.count - l.m

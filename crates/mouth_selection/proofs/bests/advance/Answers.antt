@@ -1,5 +1,6 @@
 -- `bests::advance` meets its contract. The invariant: what is known of every context that is shown, and what has not risen; the measure is how many mouths are not
 -- removed. A turn takes the least of the bests, which is the least of all that is left. Assumes nothing.
+use Rattle.mouth_proposals.specs.Listed.{blank}
 use Prim.Native.Nat.{ℕ, ◌<◌}
 use native.Mathlib.Omega.{arith}
 use native.Mathlib.Nat.{le_refl, le_trans}
@@ -29,7 +30,7 @@ module _ (c : goal.At-loop-found) where
   abbrev shown : Lists c.args.boundaries.now c.args.pairs.now c.args.starts.now c.args.count C₀
   shown = c.requires.shown.1.0
 
-  abbrev known : Progress C₀ (λ i. i < c.args.count) c.loop-found.marks c.loop-found.removed c.loop-found.used c.args.mouthof.now c.args.rampof.now c.args.outerof.now c.args.kindof.now c.args.apart.now c.loop-found.found c.loop-found.fresh
+  abbrev known : Progress C₀ (λ i. i < c.args.count) c.loop-found.marks c.loop-found.removed c.loop-found.used c.args.bestof.now c.loop-found.found c.loop-found.fresh
   known = c.loop-found.invariant.1.1 C₀ shown c.requires.shown.1.1
 
 -- the best is left: it is taken
@@ -41,9 +42,9 @@ module _ (c : goal.After-take_entry) where
   below = lt_of_le-ne c.least_marked-a.ensures.bound c.if-a-count.false
 
   module _ (C : Context) (L : Lists c.args.boundaries.now c.args.pairs.now c.args.starts.now c.args.count C)
-      (P : Progress C (λ i. i < c.args.count) c.loop-found.marks c.loop-found.removed c.loop-found.used c.args.mouthof.now c.args.rampof.now c.args.outerof.now c.args.kindof.now c.args.apart.now c.loop-found.found c.loop-found.fresh) where
+      (P : Progress C (λ i. i < c.args.count) c.loop-found.marks c.loop-found.removed c.loop-found.used c.args.bestof.now c.loop-found.found c.loop-found.fresh) where
     abbrev entry : MouthProposal
-    entry = entry_at C c.args.mouthof.now c.args.rampof.now c.args.outerof.now c.args.kindof.now a
+    entry = entry_at C c.args.bestof.now a
 
     within : a < C.count
     within = subst (λ n. a < n) (sym L.counted) below
@@ -55,7 +56,7 @@ module _ (c : goal.After-take_entry) where
         ∙ not-false _ c.if-not-entry_left.false-raw)
 
     least : Some entry ≡ least_among C P.chosen (proposals C)
-    least = best_first L P a (c.least_marked-a.ensures.best C c.args.outerof.now c.args.kindof.now L.bounds (measured-count L P)).1 below free
+    least = best_first L P a (c.least_marked-a.ensures.best C L.bounds (measured-count L P)).1 below free
 
 pub loop-found-init : goal.loop-found-init
 loop-found-init c = ((refl, c.requires.room), (le_refl _, λ C L P. P))
@@ -84,7 +85,7 @@ returns-then-a-count c =
       weight = at.invariant.1.0;
       progress = λ C L P₀.
           let P = at.invariant.1.1 C L P₀ in
-          (P, λ h. no_best L P _ (c.least_marked-a.ensures.best C s.outerof.now s.kindof.now L.bounds (measured-count L P)).1 c.if-a-count.true);
+          (P, λ h. no_best L P _ (c.least_marked-a.ensures.best C L.bounds (measured-count L P)).1 c.if-a-count.true);
     }
 
 pub entry_left-requires : goal.entry_left-requires
@@ -117,7 +118,7 @@ returns-then-not-entry_left c =
             (λ e.
             false≢true
             (sym (not-true _ c.if-not-entry_left.true-raw) ∙ c.entry_left.ensures C P.chosen L.rows P.state (N.mouth k h) (N.ramp k h) (N.outer k h)
-            ∙ ap not (P.left k (subst (λ n. k < n) (sym L.counted) h) e ((c.least_marked-a.ensures.best C s.outerof.now s.kindof.now L.bounds (measured-count L P)).0 h)))),
+            ∙ ap not (P.left k (subst (λ n. k < n) (sym L.counted) h) e ((c.least_marked-a.ensures.best C L.bounds (measured-count L P)).0 h)))),
       );
       room = at.invariant.0;
       weight = at.invariant.1.0;
@@ -138,7 +139,7 @@ take_entry-requires c =
     let few = few-count L P in
     record {
       boundaries_room = (omega (arith, h, few), (few, omega (arith, L.bounds.long, L.counted)));
-      marks_of_boundaries = (subst (λ n. get_or c.args.rampof.now c.least_marked-a.result 0 < n) L.counted ((named_count L P).ramp _ h), (room.used_long, room.gone_long));
+      marks_of_boundaries = (subst (λ n. (get_or c.args.bestof.now c.least_marked-a.result blank).ramp < n) L.counted ((named_count L P).ramp _ h), (room.used_long, room.gone_long));
       safe = (safe-entries L (named_count L P) few P.anchored.long).safe _ h;
     }
 

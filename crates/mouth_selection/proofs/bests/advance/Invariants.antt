@@ -12,8 +12,8 @@ use Rattle.mouth_selection.proofs.bests.advance.Given as goal
 abbrev pub invariant-loop-found : goal.invariant-loop-found
 invariant-loop-found l =
     ((length l.marks ≡ length l.initial.marks) × Room l.removed l.used l.found l.fresh) × ((weight l.count l.removed l.fresh ≤ weight l.count l.initial.removed l.initial.fresh)
-    × ((C : Context) → Lists l.boundaries l.pairs l.starts l.count C → Progress C (λ i. i < l.count) l.initial.marks l.initial.removed l.initial.used l.mouthof l.rampof l.outerof l.kindof l.apart l.initial.found l.initial.fresh
-    → Progress C (λ i. i < l.count) l.marks l.removed l.used l.mouthof l.rampof l.outerof l.kindof l.apart l.found l.fresh))
+    × ((C : Context) → Lists l.boundaries l.pairs l.starts l.count C → Progress C (λ i. i < l.count) l.initial.marks l.initial.removed l.initial.used l.bestof l.initial.found l.initial.fresh
+    → Progress C (λ i. i < l.count) l.marks l.removed l.used l.bestof l.found l.fresh))
 
 abbrev pub decreases-loop-found : goal.decreases-loop-found
 decreases-loop-found l = count_below l.count (λ i. not (get_or l.removed i false))

@@ -1,4 +1,5 @@
 -- `bests::list_ramp` meets its contract, from what its calls ensure. Assumes nothing.
+use Rattle.mouth_proposals.specs.declared.candidates.Candidate.{Candidate}
 use Prim.Native.Nat.{ℕ}
 use mathlib.Core.Path.{sym, ap, ◌∙◌}
 use mathlib.Core.List.{List}
@@ -12,7 +13,7 @@ use Rattle.mouth_selection.specs.Selecting.{Lists}
 use Rattle.mouth_selection.proofs.SelectionLaws.{safe-entries}
 use Rattle.mouth_selection.proofs.bests.list_ramp.Goals as goal
 
-named : {C : Context} {mouths ramps outers separations : List ℕ} {n : ℕ} → Listed C mouths ramps outers separations n → Named C mouths ramps outers n
+named : {C : Context} {entries : List Candidate} {n : ℕ} → Listed C entries n → Named C entries n
 named F = record { mouth = F.mouth; ramp = F.ramp; outer = F.outer }
 
 lists : {boundaries pairs starts counts marks : List ℕ} {count : ℕ} {C : Context} → Shows boundaries pairs starts counts marks count C → Lists boundaries pairs starts count C
@@ -43,7 +44,7 @@ returns c =
       listed = λ C T S U K.
           let F = c.push_ramp-n.ensures.filled C S U in
           record {
-            filled = record { listed = F.listed; entries = F.entries ∙ ap (λ n. collect n (mouth_candidate C c.args.a)) (sym S.counted) };
+            filled = record { listed = F.listed; proposed = F.proposed ∙ ap (λ n. collect n (mouth_candidate C c.args.a)) (sym S.counted) };
             left = c.mark_left.ensures.marked C T S.rows (named F.listed) K;
           };
     }

@@ -1,4 +1,5 @@
 -- `bests::proceed` meets its contract: the best is put, and proposals are taken once all bests are known. Assumes nothing.
+use Rattle.mouth_proposals.specs.declared.candidates.Candidate.{Candidate}
 use Prim.Native.Nat.{ℕ, ◌≤◌, ◌<◌}
 use native.Mathlib.Omega.{arith}
 use native.Mathlib.Nat.{le_refl}
@@ -12,16 +13,9 @@ use Rattle.mouth_selection.specs.Selecting.{BestPut}
 use Rattle.mouth_selection.proofs.BestSteps.{progress_as, best_put, put-length, weight-put}
 use Rattle.mouth_selection.proofs.bests.proceed.Goals as goal
 
-still-roomy : {mouths ramps outers kinds separations : List ℕ} {n k a : ℕ} {mouthof rampof outerof kindof apart mouthof' rampof' outerof' kindof' apart' : List ℕ}
-    → Roomy mouthof rampof outerof kindof apart → BestPut mouths ramps outers kinds separations n k a mouthof rampof outerof kindof apart mouthof' rampof' outerof' kindof' apart' → Roomy mouthof' rampof' outerof' kindof' apart'
-still-roomy R W =
-    record {
-      mouths_long = put-length W.mouth R.mouths_long;
-      ramps_long = put-length W.ramp R.ramps_long;
-      outers_long = put-length W.outer R.outers_long;
-      kinds_long = put-length W.kind R.kinds_long;
-      separations_long = put-length W.bits R.separations_long;
-    }
+still-roomy : {entries : List Candidate} {n k a : ℕ} {bestof bestof' : List Candidate}
+    → Roomy bestof → BestPut entries n k a bestof bestof' → Roomy bestof'
+still-roomy R W = record { long = put-length W.put R.long }
 
 pub put_best-requires : goal.put_best-requires
 put_best-requires c =

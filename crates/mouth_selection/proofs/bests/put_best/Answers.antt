@@ -3,24 +3,25 @@ use mathlib.Core.Path.{sym, ap}
 use mathlib.Core.Bool.{cond}
 use lib.ListN.{set}
 use borrow.Author.Tests.{lt-ltb, le-ltb}
+use Rattle.mouth_proposals.specs.declared.candidates.Candidate.{Candidate}
 use Rattle.mouth_selection.specs.Selecting.{PutIf}
 use Prim.Native.Nat.{ℕ, ◌≤◌, ◌<◌}
 use mathlib.Core.List.{List}
 use lib.Dec.{ltb}
 use Rattle.mouth_selection.proofs.bests.put_best.Goals as goal
 
-put : {k n a v : ℕ} (l : List ℕ) → k < n → PutIf (ltb k n) l a v (set l a v)
+put : {k n a : ℕ} {v : Candidate} (l : List Candidate) → k < n → PutIf (ltb k n) l a v (set l a v)
 put {k} {n} {a} {v} l h = record { is = sym (ap (λ b. cond b (set l a v) l) (lt-ltb k n h)) }
 
-kept : {k n a v : ℕ} (l : List ℕ) → n ≤ k → PutIf (ltb k n) l a v l
+kept : {k n a : ℕ} {v : Candidate} (l : List Candidate) → n ≤ k → PutIf (ltb k n) l a v l
 kept {k} {n} {a} {v} l h = record { is = sym (ap (λ b. cond b (set l a v) l) (le-ltb k n h)) }
 
 pub returns-then-k-n : goal.returns-then-k-n
 returns-then-k-n c =
     let h = c.if-k-n.true in
-    record { mouth = put _ h; ramp = put _ h; outer = put _ h; kind = put _ h; bits = put _ h }
+    record { put = put _ h }
 
 pub returns-else-k-n : goal.returns-else-k-n
 returns-else-k-n c =
     let h = c.if-k-n.false in
-    record { mouth = kept _ h; ramp = kept _ h; outer = kept _ h; kind = kept _ h; bits = kept _ h }
+    record { put = kept _ h }

@@ -14,8 +14,8 @@ pub returns-then-not-marked-k : goal.returns-then-not-marked-k
 returns-then-not-marked-k c =
     let s = c.args in record {
       bound = (c.requires.places.1, λ d. refl);
-      best = λ C outers kinds S M b.
-          (b, passed_over C s.mouths.now s.ramps.now outers kinds s.marked.now s.n s.best s.k c.requires.places.0 (not-true _ c.if-not-marked-k.true-raw));
+      best = λ C S M b.
+          (b, passed_over C s.entries.now s.marked.now s.n s.best s.k c.requires.places.0 (not-true _ c.if-not-marked-k.true-raw));
     }
 
 pub returns-then-best-n : goal.returns-then-best-n
@@ -23,8 +23,8 @@ returns-then-best-n c =
     let s = c.args in
     let e = not-false _ c.if-not-marked-k.false-raw in record {
       bound = (omega (arith, c.requires.places.0), λ d. absurd (d refl));
-      best = λ C outers kinds S M b.
-          (λ h. e, first_found C s.mouths.now s.ramps.now outers kinds s.marked.now s.n s.best s.k c.requires.places.0 e c.if-best-n.true);
+      best = λ C S M b.
+          (λ h. e, first_found C s.entries.now s.marked.now s.n s.best s.k c.requires.places.0 e c.if-best-n.true);
     }
 
 pub entry_before-requires : goal.entry_before-requires
@@ -42,9 +42,9 @@ returns-then-entry_before c =
     let e = not-false _ c.if-not-marked-k.false-raw in
     let hb : s.best < s.n = lt_of_le-ne c.requires.places.1 c.if-best-n.false in record {
       bound = (omega (arith, c.requires.places.0), λ d. absurd (d refl));
-      best = λ C outers kinds S M b. (
+      best = λ C S M b. (
         λ h. e,
-        one_better C s.mouths.now s.ramps.now outers kinds s.marked.now s.n s.best s.k c.requires.places.0 S M e hb (b hb) c.entry_before.ensures s.k c.if-entry_before.true c.requires.places.0 refl,
+        one_better C s.entries.now s.marked.now s.n s.best s.k c.requires.places.0 S M e hb (b hb) c.entry_before.ensures s.k c.if-entry_before.true c.requires.places.0 refl,
       );
     }
 
@@ -54,8 +54,8 @@ returns c =
     let e = not-false _ c.if-not-marked-k.false-raw in
     let hb : s.best < s.n = lt_of_le-ne c.requires.places.1 c.if-best-n.false in record {
       bound = (c.requires.places.1, λ d. refl);
-      best = λ C outers kinds S M b. (
+      best = λ C S M b. (
         b,
-        one_better C s.mouths.now s.ramps.now outers kinds s.marked.now s.n s.best s.k c.requires.places.0 S M e hb (b hb) c.entry_before.ensures s.best c.if-entry_before.false hb refl,
+        one_better C s.entries.now s.marked.now s.n s.best s.k c.requires.places.0 S M e hb (b hb) c.entry_before.ensures s.best c.if-entry_before.false hb refl,
       );
     }

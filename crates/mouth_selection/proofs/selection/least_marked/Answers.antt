@@ -13,7 +13,7 @@ use Rattle.mouth_selection.proofs.selection.least_marked.Goals as goal
 pub loop-k-init : goal.loop-k-init
 loop-k-init c =
     let s = c.args in
-    (omega arith, (omega arith, λ C outers kinds S M. (λ h. absurd (omega (arith, h)), round-start C s.mouths.now s.ramps.now outers kinds s.marked.now s.n)))
+    (omega arith, (omega arith, λ C S M. (λ h. absurd (omega (arith, h)), round-start C s.entries.now s.marked.now s.n)))
 
 pub better_marked-best-requires : goal.better_marked-best-requires
 better_marked-best-requires c =
@@ -29,10 +29,10 @@ loop-k-preserved c =
       c.better_marked-best.ensures.bound.0,
       (
         search rules,
-        λ C outers kinds S M.
-            let was = at.invariant.1.1 C outers kinds S M in
-            let now = c.better_marked-best.ensures.best C outers kinds S M was.0 in
-            (now.0, round_more C s.mouths.now s.ramps.now outers kinds s.marked.now s.n at.k was.1 now.1),
+        λ C S M.
+            let was = at.invariant.1.1 C S M in
+            let now = c.better_marked-best.ensures.best C S M was.0 in
+            (now.0, round_more C s.entries.now s.marked.now s.n at.k was.1 now.1),
       ),
     )
 
@@ -41,7 +41,7 @@ returns c =
     let at = c.loop-k in
     let s = c.args in record {
       bound = at.invariant.0;
-      best = λ C outers kinds S M.
-          let was = at.invariant.1.1 C outers kinds S M in
-          (was.0, was.1 ∙ ap (λ k. least_from (ranks_before C) None (marked_entries C s.mouths.now s.ramps.now outers kinds s.marked.now k)) (le_antisymm at.invariant.1.0 c.loop-k-test.false));
+      best = λ C S M.
+          let was = at.invariant.1.1 C S M in
+          (was.0, was.1 ∙ ap (λ k. least_from (ranks_before C) None (marked_entries C s.entries.now s.marked.now k)) (le_antisymm at.invariant.1.0 c.loop-k-test.false));
     }

@@ -14,8 +14,8 @@ use Rattle.mouth_selection.proofs.selection.least_marked.Given as goal
 
 abbrev pub invariant-loop-k : goal.invariant-loop-k
 invariant-loop-k l =
-    (l.best ≤ l.n) × ((l.k ≤ l.n) × ((C : Context) (outers kinds : List ℕ) → ShownBoundaries C l.boundaries → Measured C l.mouths l.ramps l.separations l.marked l.n
-    → (l.best < l.n → get_or l.marked l.best false ≡ true) × (entry_if C l.mouths l.ramps outers kinds l.n l.best ≡ least_from (ranks_before C) None (marked_entries C l.mouths l.ramps outers kinds l.marked l.k))))
+    (l.best ≤ l.n) × ((l.k ≤ l.n) × ((C : Context) → ShownBoundaries C l.boundaries → Measured C l.entries l.marked l.n
+    → (l.best < l.n → get_or l.marked l.best false ≡ true) × (entry_if C l.entries l.n l.best ≡ least_from (ranks_before C) None (marked_entries C l.entries l.marked l.k))))
 
 abbrev pub decreases-loop-k : goal.decreases-loop-k
 decreases-loop-k l = l.n - l.k

@@ -31,7 +31,7 @@ loop-k-preserved c =
       (
         length-set at.marked at.k c.entry_left.result ∙ at.invariant.1.0,
         λ C T P N S i l.
-            one_more (λ j b. b ≡ not (is_refused C T (entry_at C s.mouths.now s.ramps.now s.outers.now s.kinds.now j))) at.marked at.k c.entry_left.result
+            one_more (λ j b. b ≡ not (is_refused C T (entry_at C s.entries.now j))) at.marked at.k c.entry_left.result
             (omega (arith, h, c.requires.safe.few, at.invariant.1.0)) (at.invariant.1.1 C T P N S)
             (c.entry_left.ensures C T P S (N.mouth at.k h) (N.ramp at.k h) (N.outer at.k h)) i l,
       ),

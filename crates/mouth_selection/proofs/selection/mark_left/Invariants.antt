@@ -15,8 +15,8 @@ use Rattle.mouth_selection.proofs.selection.mark_left.Given as goal
 abbrev pub invariant-loop-k : goal.invariant-loop-k
 invariant-loop-k l =
     (l.k ≤ l.n) × ((length l.marked ≡ max_candidates)
-    × ((C : Context) (taken : List MouthProposal) → ShownPairs C l.pairs l.starts → Named C l.mouths l.ramps l.outers l.n → TakenState C taken l.removed l.used l.marks
-    → (i : ℕ) → i < l.k → get_or l.marked i false ≡ not (is_refused C taken (entry_at C l.mouths l.ramps l.outers l.kinds i))))
+    × ((C : Context) (taken : List MouthProposal) → ShownPairs C l.pairs l.starts → Named C l.entries l.n → TakenState C taken l.removed l.used l.marks
+    → (i : ℕ) → i < l.k → get_or l.marked i false ≡ not (is_refused C taken (entry_at C l.entries i))))
 
 abbrev pub decreases-loop-k : goal.decreases-loop-k
 decreases-loop-k l = l.n - l.k

@@ -1,4 +1,5 @@
 -- `selection::take` meets its contract: its mouth, its ramp end and its regions are marked. Assumes nothing.
+use Rattle.mouth_proposals.specs.Candidates.{is_triangular}
 use Prim.Native.Nat.{◌%◌, ◌<◌}
 use native.Mathlib.Omega.{arith}
 use mathlib.Core.Path.{refl, sym, ap, ◌∙◌, subst}
@@ -34,7 +35,7 @@ returns c =
             holds =
                 subst (HeldMarks C (T ++ (p ∷ [])))
                 (sym (c.hold_proposal.ensures
-                ∙ ap (λ l. mark_inner outer (cond (eqb outer 0) marks (mark_held (cond (eqb kind triangular) 2 1) marks outer)) (regions_of l)) (sym (P.at m hm))))
+                ∙ ap (λ l. mark_inner outer (cond (eqb outer 0) marks (mark_held (cond (is_triangular kind) 2 1) marks outer)) (regions_of l)) (sym (P.at m hm))))
                 (held-taken C T m a outer kind marks S.holds long (P.named m hm) ho (refused-parts C T m a outer kind free));
           };
       lengths = (
@@ -43,6 +44,6 @@ returns c =
       );
       odd_parts = λ i h.
           ap (λ l. get_or l i 0 % 2) c.hold_proposal.ensures
-          ∙ inner-odd outer (cond (eqb outer 0) marks (mark_held (cond (eqb kind triangular) 2 1) marks outer)) _ i (omega (arith, h, outer-length (eqb outer 0) marks (cond (eqb kind triangular) 2 1) outer))
-          ∙ outer-odd (eqb outer 0) marks (cond (eqb kind triangular) 2 1) outer i h;
+          ∙ inner-odd outer (cond (eqb outer 0) marks (mark_held (cond (is_triangular kind) 2 1) marks outer)) _ i (omega (arith, h, outer-length (eqb outer 0) marks (cond (is_triangular kind) 2 1) outer))
+          ∙ outer-odd (eqb outer 0) marks (cond (is_triangular kind) 2 1) outer i h;
     }

@@ -2,29 +2,30 @@
 use Rattle.std.proofs.Common.{◌≡◌, ℕ, ◌+◌, ◌-◌, ◌*◌, ◌≤◌, ◌<◌, Bool, List, length, get_or, set, sym, ap, ◌∙◌, subst, length-set, arith}
 use Rattle.definitions.specs.Context.{Context}
 use Rattle.context.specs.declared.Region.{Region}
-use Rattle.junction_proposals.specs.Rows.{max_proposals, numbers_per_proposal, row_at, is_allowed}
+use Rattle.junction_proposals.specs.declared.proposals.Candidate.{Candidate}
+use Rattle.junction_proposals.specs.Rows.{max_proposals, row_at, is_allowed}
 use Rattle.junction_regions.specs.Asked.{Asked}
 use Rattle.topology.specs.Held.{place_in}
 use Rattle.topology.specs.Proposals.{Allows, Allowed}
 use Rattle.topology.proofs.ProposalLoops.{asked, allowed_more}
 use Rattle.topology.proofs.junction_pass.allow_proposals.Goals as goal
 
-abbrev Inv : (records : List Region) (boundaries marks rows : List ℕ) (n : ℕ) (allowed : List Bool) (k : ℕ) → Type 0
+abbrev Inv : (records : List Region) (boundaries marks : List ℕ) (rows : List Candidate) (n : ℕ) (allowed : List Bool) (k : ℕ) → Type 0
 Inv records boundaries marks rows n allowed k =
     (k ≤ n) × (length allowed ≡ max_proposals) × ((C : Context) → Allows C records boundaries marks rows n → Allowed C rows k allowed)
 
-start : {records : List Region} {boundaries marks rows : List ℕ} {n : ℕ} {allowed : List Bool}
+start : {records : List Region} {boundaries marks : List ℕ} {rows : List Candidate} {n : ℕ} {allowed : List Bool}
     → length allowed ≡ max_proposals → Inv records boundaries marks rows n allowed 0
 start e = (omega arith, e, λ C h. record { long = e; at = λ k l. absurd (omega (arith, l)) })
 
 -- what a turn asks, over plain variables
-module _ {records : List Region} {boundaries marks rows : List ℕ} {n : ℕ} {allowed : List Bool} {k : ℕ}
+module _ {records : List Region} {boundaries marks : List ℕ} {rows : List Candidate} {n : ℕ} {allowed : List Bool} {k : ℕ}
     (pre : (C : Context) × Allows C records boundaries marks rows n) (inv : Inv records boundaries marks rows n allowed k) where
   done : n ≤ k → (C : Context) → Allows C records boundaries marks rows n → Allowed C rows n allowed
   done f C h = let a = inv.2 C h in record { long = a.long; at = λ j l. a.at j (omega (arith, l, f)) }
 
   module _ (below : k < n) where
-    in_row : numbers_per_proposal * k + 3 < length rows
+    in_row : k < length rows
     in_row = omega (arith, below, pre.1.whole)
 
     first_in_lem : {i : ℕ} → i ≡ (row_at rows k).first - 1 → i < length records

@@ -1,5 +1,6 @@
 -- `mouth_pass::best_near` meets its contract. The invariant: of every context that is shown, `best` is the least of the candidates before `k` that are marked and near.
 -- A turn keeps it: a candidate that does not rank before the best so far need not be near (`NearLeast` of `mouth_selection`). Assumes nothing.
+use Rattle.mouth_proposals.specs.declared.candidates.Candidate.{Candidate}
 use Prim.Native.Nat.{ℕ, ◌-◌, ◌≤◌, ◌<◌}
 use mathlib.Core.Path.{◌≡◌}
 use mathlib.Core.Bool.{Bool, true, false}
@@ -13,17 +14,17 @@ use Rattle.topology.specs.Mouths.{NearAsked}
 use Rattle.topology.proofs.mouth_pass.best_near.Given as goal
 
 -- best is the least of the first k candidates that are marked and near
-pub record Least (C : Context) (mouths ramps outers kinds : List ℕ) (marked : List Bool) (n best k : ℕ) : Type 0 where
+pub record Least (C : Context) (entries : List Candidate) (marked : List Bool) (n best k : ℕ) : Type 0 where
   pub known : best < n → get_or marked best false ≡ true
-  pub is : entry_if C mouths ramps outers kinds n best ≡ near_least C mouths ramps outers kinds marked k
+  pub is : entry_if C entries n best ≡ near_least C entries marked k
 
 -- and so it is of every context that is shown
-abbrev pub LeastSoFar : List Region → List ℕ → List ℕ → List ℕ → List ℕ → List ℕ → List ℕ → List ℕ → List ℕ → List Bool → ℕ → ℕ → ℕ → Type 0
-LeastSoFar records boundaries pairs starts mouths ramps outers kinds separations marked n best k =
-    (best ≤ n) × (k ≤ n) × ((C : Context) → NearAsked C records boundaries pairs starts mouths ramps n → Measured C mouths ramps separations marked n → Least C mouths ramps outers kinds marked n best k)
+abbrev pub LeastSoFar : List Region → List ℕ → List ℕ → List ℕ → List Candidate → List Bool → ℕ → ℕ → ℕ → Type 0
+LeastSoFar records boundaries pairs starts entries marked n best k =
+    (best ≤ n) × (k ≤ n) × ((C : Context) → NearAsked C records boundaries pairs starts entries n → Measured C entries marked n → Least C entries marked n best k)
 
 abbrev pub invariant-loop-k : goal.invariant-loop-k
-invariant-loop-k l = LeastSoFar l.records l.boundaries l.pairs l.starts l.mouths l.ramps l.outers l.kinds l.separations l.marked l.n l.best l.k
+invariant-loop-k l = LeastSoFar l.records l.boundaries l.pairs l.starts l.entries l.marked l.n l.best l.k
 
 abbrev pub decreases-loop-k : goal.decreases-loop-k
 decreases-loop-k l = l.n - l.k

@@ -12,7 +12,7 @@ list_ramp-n-requires c =
     let P = c.requires.shown.1.1.1 in
     record {
       shown = record { context = c.requires.shown.0; shows = still-shows R P.anchored; cuts = R.cuts };
-      roomy = (record { mouths_long = refl; ramps_long = refl; outers_long = refl; kinds_long = refl; separations_long = refl }, refl);
+      roomy = (record { long = refl }, refl);
       place = omega (arith, c.requires.ready.before, c.requires.ready.few);
     }
 
