@@ -27,8 +27,7 @@ fn last_held(
     requires { Holds records.now (length last.now) held last.now links.now }
     ensures { one_more result ≡ last_below held (is_of_map records.now number) }
 {
-    // Kept: the walk follows links, which no range gives. Slots and links have one more than a position: a fresh table is all 0, and an Option of a number takes
-    // twice the room.
+    // Kept: the walk follows links, as no range does; they have one more than a position, since a fresh table is all 0 and Options take twice the room.
     let mut next = last[slot_of(number, last.len())] as usize;
     while 0 < next {
         let k = next - 1;

@@ -17,8 +17,7 @@ fn place_of(output: &[u64], maps: usize, map: u64) -> usize
 {
     let mut low = 0;
     let mut high = maps;
-    // Kept: std's search by halves goes over single values, and promises a place only where they are in order; the entries are four numbers each in one list, as
-    // C has them, and the place is promised whatever they are.
+    // Kept: std's search by halves promises a place only of single values in order; here entries are four numbers each, as C has them, in any order.
     while low < high {
         let middle = low + (high - low) / 2;
         if map < output[ENTRY_SIZE * middle] {
