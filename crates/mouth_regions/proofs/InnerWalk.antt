@@ -20,7 +20,7 @@ use Rattle.context.proofs.Counting.{between_none, between_more}
 use Rattle.mouth_proposals.specs.Rows.{inner_of}
 use Rattle.mouth_regions.specs.Inner.{places_of, region_at, inner_at, passes}
 use Rattle.mouth_regions.specs.Near.{corner_near, region_near}
-use Rattle.mouth_proposals.specs.Candidates.{proposal_of, broad}
+use Rattle.mouth_proposals.specs.Candidates.{proposal_of}
 use Rattle.mouth_proposals.proofs.RowLists.{all-regions}
 use Rattle.mouth_proposals.proofs.ShapeTests.{all_distinct}
 use Rattle.mouth_proposals.proofs.ShapedMouths.{all_of-filter}

@@ -22,7 +22,7 @@ use Rattle.laws.specs.NumberLaws.Comparisons.{le_or_lt, same_or}
 use Rattle.context.specs.Shown.{pair_at, pairs_between}
 use Rattle.context.proofs.Counting.{between_none, between_more}
 use Rattle.mouth_proposals.specs.Rows.{inner_of}
-use Rattle.mouth_proposals.specs.Candidates.{triangular, proposal_of}
+use Rattle.mouth_proposals.specs.Candidates.{proposal_of}
 use Rattle.mouth_selection.specs.Held.{held, is_held, hold_at_lem, mark_held, mark_inner, HeldMarks}
 use Rattle.mouth_proposals.proofs.ApproachLaws.{Named}
 use Rattle.mouth_proposals.proofs.Fitting.{all-named-regions}

@@ -23,7 +23,7 @@ use Rattle.laws.specs.OrderLaws.ListOrder.{eqb_sym}
 use Rattle.laws.specs.RustMouths.Triangles.{any-regions}
 use Rattle.laws.specs.ListLaws.Tests.{neither}
 use Rattle.context.specs.Shown.{ShownBoundaries}
-use Rattle.mouth_proposals.specs.Candidates.{triangular, proposal_of}
+use Rattle.mouth_proposals.specs.Candidates.{proposal_of}
 use Rattle.mouth_selection.specs.Held.{held, is_used, is_held, is_refused, hold_at_lem, mark_held, mark_inner, HeldMarks, same_end_lem, end_mark}
 use Rattle.mouth_proposals.proofs.Distinct.{member-inner}
 use Rattle.mouth_proposals.proofs.ApproachLaws.{Named}

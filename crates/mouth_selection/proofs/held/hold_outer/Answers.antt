@@ -3,9 +3,7 @@ use Rattle.mouth_proposals.specs.Candidates.{is_triangular}
 use native.Mathlib.Omega.{arith}
 use mathlib.Core.Path.{sym, ap, ◌∙◌}
 use mathlib.Core.Bool.{cond}
-use lib.Dec.{eqb}
 use borrow.Author.Tests.{eq-eqb, ne_eqb}
-use Rattle.mouth_proposals.specs.Candidates.{triangular}
 use Rattle.mouth_selection.specs.Held.{mark_held}
 use Rattle.mouth_selection.proofs.Marks.{hold-le}
 use Rattle.mouth_selection.proofs.held.hold_outer.Goals as goal

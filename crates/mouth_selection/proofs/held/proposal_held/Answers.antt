@@ -8,7 +8,6 @@ use lib.Dec.{eqb, leb}
 use borrow.Author.Tests.{eq-eqb, ne_eqb}
 use Rattle.definitions.specs.Scan.{any}
 use Rattle.definitions.specs.MouthShapes.{regions_of}
-use Rattle.mouth_proposals.specs.Candidates.{triangular}
 use Rattle.mouth_selection.specs.Held.{hold_at_lem}
 use Rattle.mouth_selection.proofs.Marks.{hold-le, held_by}
 use Rattle.mouth_selection.proofs.held.proposal_held.Goals as goal

@@ -1,9 +1,8 @@
 -- `selection::least_marked` meets its contract. The invariant: `best` is the least of the entries passed, and marked. Assumes nothing.
-use Prim.Native.Nat.{ℕ, ◌-◌, ◌≤◌, ◌<◌}
+use Prim.Native.Nat.{◌-◌, ◌≤◌, ◌<◌}
 use mathlib.Core.Path.{◌≡◌}
 use mathlib.Core.Bool.{true, false}
 use Rattle.std.specs.Prelude.{None}
-use mathlib.Core.List.{List}
 use lib.ListN.{get_or}
 use Rattle.definitions.specs.Context.{Context}
 use Rattle.definitions.specs.RampMouths.{ranks_before}

@@ -9,7 +9,7 @@ use lib.ListN.{length, get_or, length-set}
 use lib.Dec.{eqb}
 use borrow.Author.Tests.{lt-ltb}
 use Rattle.definitions.specs.MouthShapes.{regions_of}
-use Rattle.mouth_proposals.specs.Candidates.{triangular, proposal_of}
+use Rattle.mouth_proposals.specs.Candidates.{proposal_of}
 use Rattle.mouth_selection.specs.Held.{HeldMarks, same_end_lem, mark_held, mark_inner}
 use Rattle.mouth_selection.proofs.Marks.{inner-length, outer-length, inner-odd, outer-odd}
 use Rattle.mouth_selection.proofs.TakenLaws.{refused-parts, mouth-taken, end-taken, held-taken}
