@@ -26,26 +26,26 @@ module _ (M : Map) where
   C = context_of M
 
   -- there is a region
-  abbrev Some : Proposal → Type 0
-  Some p = 0 < C.regions
+  abbrev HasRegions : Proposal → Type 0
+  HasRegions p = 0 < C.regions
 
-  of_any : 0 < C.regions → (o : Option Proposal) → All Some (to_list o)
+  of_any : 0 < C.regions → (o : Option Proposal) → All HasRegions (to_list o)
   of_any h None = done
   of_any h (Some p) = more h done
 
-  of_pair : (i : ℕ) (b : Bool) {l : List Pair} → All (Named M) l → All Some (to_list (union_from C i (only_pair b l)))
+  of_pair : (i : ℕ) (b : Bool) {l : List Pair} → All (Named M) l → All HasRegions (to_list (union_from C i (only_pair b l)))
   unfolding union_from context_of
   of_pair i false a = done
   of_pair i true done = done
   of_pair i true (more {x = p} h done) = of_any (omega (arith, h.low, h.ordered, h.high)) (union_from C i (Some p))
   of_pair i true (more h (more k a)) = done
 
-  all_some : All Some (ranked C)
+  all_some : All HasRegions (ranked C)
   unfolding ranked proposals union_proposal full_pair
   all_some =
-      all-sort Some (ranks_before C)
-      (all_append (collect-below Some (union_proposal C) C.count (λ i h. of_pair i (full_cut C i) (pairs-named M i)))
-      (collect-below Some (λ k. bridge_proposal C (suc k)) C.regions (λ k h. of_any (omega (arith, h)) (bridge_proposal C (suc k)))))
+      all-sort HasRegions (ranks_before C)
+      (all_append (collect-below HasRegions (union_proposal C) C.count (λ i h. of_pair i (full_cut C i) (pairs-named M i)))
+      (collect-below HasRegions (λ k. bridge_proposal C (suc k)) C.regions (λ k h. of_any (omega (arith, h)) (bridge_proposal C (suc k)))))
 
   pub none_ranked : C.regions ≡ 0 → ranked_of M ≡ []
   unfolding ranked_of ranked_rows judged_after

@@ -32,11 +32,12 @@ pub fn interior_fits(
     let mut fits = true;
     let mut ramp = false;
     for k in interior.begin..interior.end {
-        if is_inside(pairs, names, interior.name, k) {
-            let region = record_at(records, record_place(pairs, k));
-            fits = fits & region_fits(reach, region);
-            ramp = ramp | (0 < region.ramp_cells);
+        if !is_inside(pairs, names, interior.name, k) {
+            continue;
         }
+        let region = record_at(records, record_place(pairs, k));
+        fits = fits & region_fits(reach, region);
+        ramp = ramp | (0 < region.ramp_cells);
     }
     fits & ramp
 }

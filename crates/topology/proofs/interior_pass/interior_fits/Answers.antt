@@ -74,15 +74,15 @@ pub record_place-requires : goal.record_place-requires
 record_place-requires c = place-asked c.requires c.loop-k.invariant c.loop-k-test.true
 
 pub record_at-region-requires : goal.record_at-region-requires
-record_at-region-requires c = in_records c.requires c.loop-k.invariant c.loop-k-test.true c.is_inside.ensures c.if-is_inside.true c.record_place.ensures
+record_at-region-requires c = in_records c.requires c.loop-k.invariant c.loop-k-test.true c.is_inside.ensures c.if-not-is_inside.false c.record_place.ensures
 
-pub loop-k-preserved-then-is_inside : goal.loop-k-preserved-then-is_inside
-loop-k-preserved-then-is_inside c =
-    again c.requires c.loop-k.invariant c.loop-k-test.true c.is_inside.ensures c.if-is_inside.true c.record_place.ensures c.reach_of-reach.ensures c.record_at-region.ensures
+pub loop-k-preserved : goal.loop-k-preserved
+loop-k-preserved c =
+    again c.requires c.loop-k.invariant c.loop-k-test.true c.is_inside.ensures c.if-not-is_inside.false c.record_place.ensures c.reach_of-reach.ensures c.record_at-region.ensures
     c.region_fits-fits.ensures
 
-pub loop-k-preserved-else-is_inside : goal.loop-k-preserved-else-is_inside
-loop-k-preserved-else-is_inside c = past c.requires c.loop-k.invariant c.loop-k-test.true c.is_inside.ensures c.if-is_inside.false
+pub loop-k-preserved-then-not-is_inside : goal.loop-k-preserved-then-not-is_inside
+loop-k-preserved-then-not-is_inside c = past c.requires c.loop-k.invariant c.loop-k-test.true c.is_inside.ensures c.if-not-is_inside.true
 
 pub returns : goal.returns
 returns c = done c.requires c.loop-k.invariant c.loop-k-test.false

@@ -78,9 +78,6 @@ is_allowed-fits-requires c =
 pub put_allowed-requires : goal.put_allowed-requires
 put_allowed-requires c = omega (arith, c.requires.rows_fit.1.few)
 
-pub overflow_add-k : goal.overflow_add-k
-overflow_add-k c = record { fits = omega (arith, c.requires.rows_fit.1.few) }
-
 pub loop-k-preserved : goal.loop-k-preserved
 loop-k-preserved c =
     again c.requires.rows_fit c.loop-k.invariant c.loop-k-test.true c.first_place.ensures c.record_at-first.ensures c.second_place.ensures c.record_at-second.ensures
