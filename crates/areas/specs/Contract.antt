@@ -1,6 +1,5 @@
 -- The contract of the partition: the answer and every lent list at exit, for every input, by `partition_verdict` and `partition_exit`. Assumes nothing.
-use Rattle.std.specs.Prelude.{ℕ, ◌*◌, ◌/◌, ◌≡◌, List, [], length}
-use Rattle.std.specs.Prelude.{Option, Result}
+use Rattle.std.specs.Prelude.{ℕ, ◌*◌, ◌/◌, ◌≡◌, List, [], length, Option, Result}
 use Rattle.definitions.specs.Limits.{numbers_per_span}
 use Rattle.definitions.specs.Refusals.{Refusal, or_else, unless, sides_fault, cells_fault, is_whole, spans_refusal, partition_room}
 use Rattle.definitions.specs.Verdict.{Lent, refusal, partition_verdict}

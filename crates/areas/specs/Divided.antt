@@ -1,6 +1,5 @@
 -- What the partition leaves of lists that no check before it refuses: its contract, where the checks say so. Definitions only; assumes nothing.
-use Rattle.std.specs.Prelude.{ℕ, ◌≡◌, List, length}
-use Rattle.std.specs.Prelude.{None, Result}
+use Rattle.std.specs.Prelude.{ℕ, ◌≡◌, List, length, None, Result}
 use Rattle.refusals.specs.declared.Refusal as code
 use Rattle.areas.specs.Contract.{given, early_refusal, Ran}
 

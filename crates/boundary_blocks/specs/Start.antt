@@ -1,6 +1,5 @@
 -- The starting list over flat lists, and the rows of what is kept. Definitions only; assumes nothing.
-use Rattle.std.specs.Prelude.{ℕ, ◌+◌, ◌*◌, ◌≤◌, true, List, [], ◌∷◌, length, get_or}
-use Rattle.std.specs.Prelude.{Some}
+use Rattle.std.specs.Prelude.{ℕ, ◌+◌, ◌*◌, ◌≤◌, true, List, [], ◌∷◌, length, get_or, Some}
 use Rattle.definitions.specs.Limits.{numbers_per_span, numbers_per_boundary}
 use Rattle.definitions.specs.Scan.{collect, concat_map}
 use Rattle.definitions.specs.Grid.{Boundary, segment_at, boundary_at}

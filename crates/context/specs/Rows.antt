@@ -1,6 +1,5 @@
 -- The words of the contracts over the rows of pairs. Definitions only; assumes nothing.
-use Rattle.std.specs.Prelude.{ℕ, ◌+◌, ◌*◌, ◌≤◌, ◌<◌, ◌≡◌, List, length, get_or}
-use Rattle.std.specs.Prelude.{Option, None, Some}
+use Rattle.std.specs.Prelude.{ℕ, ◌+◌, ◌*◌, ◌≤◌, ◌<◌, ◌≡◌, List, length, get_or, Option, None, Some}
 use Rattle.definitions.specs.Limits.{max_entries, numbers_per_pair}
 use Rattle.definitions.specs.Grid.{Pair}
 use Rattle.definitions.specs.Lists.{overwrite}

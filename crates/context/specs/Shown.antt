@@ -1,7 +1,6 @@
 -- A context as the plain lists that the passes read: which entries show what of it. Of a span's pairs, the rows from `starts` s up to `starts` (s + 1) are meant.
 -- What is said of regions stands at r - 1 for region r. Definitions only; assumes nothing.
-use Rattle.std.specs.Prelude.{ℕ, ◌+◌, ◌-◌, ◌*◌, ◌%◌, ◌≤◌, ◌<◌, ◌≡◌, not, List, length, get_or, eqb}
-use Rattle.std.specs.Prelude.{Option}
+use Rattle.std.specs.Prelude.{ℕ, ◌+◌, ◌-◌, ◌*◌, ◌%◌, ◌≤◌, ◌<◌, ◌≡◌, not, List, length, get_or, eqb, Option}
 use Rattle.definitions.specs.Limits.{max_entries, numbers_per_boundary, tallies_per_span, numbers_per_pair}
 use Rattle.definitions.specs.Scan.{only_if}
 use Rattle.definitions.specs.Grid.{Pair, boundary_at}

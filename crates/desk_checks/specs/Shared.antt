@@ -1,6 +1,5 @@
 -- The words of the contract of `prepare_shared`. Definitions only; assumes nothing.
-use Rattle.std.specs.Prelude.{ℕ, ◌≡◌, List, [], length}
-use Rattle.std.specs.Prelude.{Some, Result, Ok, Err}
+use Rattle.std.specs.Prelude.{ℕ, ◌≡◌, List, [], length, Some, Result, Ok, Err}
 use Rattle.definitions.specs.RegionRecord.{Region}
 use Rattle.refusals.specs.declared.Refusal.{Refusal}
 use Rattle.refusals.specs.Refusals.{number_of}

@@ -1,6 +1,5 @@
 -- What the declared types say, in the words of RegionRecord: the paper's values of a share, and the answer for C. Definitions only; assumes nothing.
-use Rattle.std.specs.Prelude.{ℕ, Bool, true, false}
-use Rattle.std.specs.Prelude.{Option, None, Some}
+use Rattle.std.specs.Prelude.{ℕ, Bool, true, false, Option, None, Some}
 use Rattle.definitions.specs.RegionRecord as def
 use Rattle.elevations.specs.declared.Share.{Share}
 use Rattle.elevations.specs.declared.Dominance.{Dominance}

@@ -4,7 +4,7 @@ use Prim.Native.Nat.{ℕ, ◌*◌, ◌/◌, ◌≤◌}
 use native.Mathlib.Omega.{arith}
 use mathlib.Core.Path.{◌≡◌, sym, ap, ap₂, subst, ◌∙◌}
 use mathlib.Core.Bool.{Bool, ◌&&◌}
-use Rattle.std.specs.Prelude.{None}
+use Rattle.std.specs.Prelude.{None, Result, Ok, Err, IsOk}
 use mathlib.Core.List.{List}
 use lib.ListN.{length, replicate, length-map, length-replicate}
 use lib.Dec.{leb}
@@ -23,7 +23,6 @@ use Rattle.laws.specs.ListLaws.Tests.{both}
 use Rattle.laws.specs.ListLaws.NoFault.{no_fault_lem}
 use Rattle.row_runs.specs.Contract.{Chain}
 use Rattle.areas.specs.Fit.{Fit}
-use Rattle.std.specs.Prelude.{Result, Ok, Err, IsOk}
 use Rattle.refusals.specs.declared.Refusal as code
 use Rattle.refusals.proofs.Steps.{positive, is-ok}
 use Rattle.call_partition.specs.declared.Ready.{Ready}

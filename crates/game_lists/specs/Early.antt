@@ -1,6 +1,5 @@
 -- The first refusal of the call before its first partition: 1 to 4, 16, and 5 to 10. Definitions only; assumes nothing.
-use Rattle.std.specs.Prelude.{ℕ, List, leb}
-use Rattle.std.specs.Prelude.{Option}
+use Rattle.std.specs.Prelude.{ℕ, List, leb, Option}
 use Rattle.definitions.specs.Refusals.{Refusal, or_else, unless}
 use Rattle.definitions.specs.Verdict.{refusal}
 use Rattle.call_partition.specs.Early.{sizes_refusal, early_refusal}

@@ -1,6 +1,5 @@
 -- The words of the contract of `divide_kept`. Definitions only; assumes nothing.
-use Rattle.std.specs.Prelude.{ℕ, ◌*◌, ◌<◌, ◌≡◌, Bool, false, List, length, get_or, drop}
-use Rattle.std.specs.Prelude.{None}
+use Rattle.std.specs.Prelude.{ℕ, ◌*◌, ◌<◌, ◌≡◌, Bool, false, List, length, get_or, drop, None}
 use Rattle.definitions.specs.Limits.{tallies_per_span, numbers_per_pair}
 use Rattle.definitions.specs.Scan.{member}
 use Rattle.definitions.specs.Lists.{overwrite, zeroed}

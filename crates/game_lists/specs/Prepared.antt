@@ -1,7 +1,6 @@
 -- What the first part of the call leaves, before its records are filled: the whole contract where it refuses, and otherwise what the rest goes on from. Definitions
 -- only; assumes nothing.
-use Rattle.std.specs.Prelude.{ℕ, ◌≤◌, ◌≡◌, List, length}
-use Rattle.std.specs.Prelude.{None, Result, Ok, Err}
+use Rattle.std.specs.Prelude.{ℕ, ◌≤◌, ◌≡◌, List, length, None, Result, Ok, Err}
 use Rattle.definitions.specs.RegionRecord.{Region}
 use Rattle.refusals.specs.declared.Refusal.{Refusal}
 use Rattle.refusals.specs.Refusals.{number_of}

@@ -1,9 +1,8 @@
 -- The number and the value of each answer (SPECIFICATION 6), and what the contract of `hypotenuse` says in these words: it leaves one answer to each pair of doubles. Assumes nothing.
-use Rattle.std.specs.Prelude.{◌≡◌, refl, true, false, cond, ◌&&◌, ℕ, Float, pos}
+use Rattle.std.specs.Prelude.{◌≡◌, refl, true, false, cond, ◌&&◌, ℕ, Float, pos, Option, None, Some}
 use Rattle.std.proofs.Common.{ap, ◌∙◌, arith}
 use Rattle.std.specs.Float.{fin}
 use Rattle.definitions.specs.Hypotenuse.{in_range, hypot_of, hypot_number, hypot_value}
-use Rattle.std.specs.Prelude.{Option, None, Some}
 
 abbrev pub number_of : Option Float → ℕ
 number_of (Some r) = 0

@@ -1,11 +1,10 @@
 -- The one answer that the contract of `hypotenuse` allows at the examples of SPECIFICATION 6, at a tie each way, and at the first doubles out of range. Assumes nothing.
-use Rattle.std.specs.Prelude.{◌≡◌, ℕ, Float}
+use Rattle.std.specs.Prelude.{◌≡◌, ℕ, Float, Option, None, Some}
 use Rattle.std.proofs.Math.Path.{refl}
 use Rattle.std.specs.Float.Ieee.{binary64, of_bits}
 use Rattle.definitions.specs.Hypotenuse.{hypot_number, hypot_value}
 use Rattle.definitions.specs.Geometry.{float}
 use Rattle.hypotenuse.specs.Contract.{Allowed, is_root_lem, is_refused_lem}
-use Rattle.std.specs.Prelude.{Option, None, Some}
 
 -- two doubles given by their bits
 abbrev pub AllowedBits : ℕ → ℕ → Option Float → Type 0

@@ -24,10 +24,9 @@ use Rattle.laws.specs.SetLaws.Sets as sets
 use Rattle.laws.specs.RustContext.SoundContext.{Sound}
 use Rattle.laws.specs.ListLaws.NumberLists.{member-append}
 use Rattle.interior_proposals.specs.Owners.{edge, Owned}
-use Rattle.interior_proposals.specs.Candidates.{candidate, port}
+use Rattle.interior_proposals.specs.Candidates.{candidate, port, both_ports}
 use Rattle.interior_proposals.specs.Proposals.{expanded_of, fitting_ports, proposed_ports, records_fit}
 use Rattle.interior_proposals.specs.declared.ports.Ports.{Ports}
-use Rattle.interior_proposals.specs.Candidates.{both_ports}
 use Rattle.interior_proposals.proofs.CandidateLaws.{candidate_unspoilt, edge-owned}
 use Rattle.interior_proposals.proofs.NoConflict.{Fit, regions-apart, edges-apart}
 use Rattle.interior_proposals.proofs.Bools.{first_two}

@@ -1,7 +1,6 @@
 -- The bridge of a pocket, read off the lists: `bridge_proposal` of Junctions.antt but for what it asks of the pocket's record. Definitions only; assumes nothing.
-use Rattle.std.specs.Prelude.{ℕ, ◌-◌, ◌≤◌, ◌<◌, ◌≡◌, Bool, true, false, not, ◌&&◌, get_or}
+use Rattle.std.specs.Prelude.{ℕ, ◌-◌, ◌≤◌, ◌<◌, ◌≡◌, Bool, true, false, not, ◌&&◌, get_or, Option, None, Some, MatchOption}
 use Rattle.std.proofs.Math.Bool.{cond}
-use Rattle.std.specs.Prelude.{Option, None, Some, MatchOption}
 use mathlib.Core.List.{List, [], ◌∷◌}
 use Rattle.std.proofs.Math.Dec.{eqb}
 use Rattle.std.specs.Float.{binary64}

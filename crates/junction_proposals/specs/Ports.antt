@@ -1,7 +1,6 @@
 -- The ports of regions, read off the lists of full pairs. Definitions only; assumes nothing.
-use Rattle.std.specs.Prelude.{ℕ, ◌-◌, ◌≤◌, ◌≡◌, Bool, ◌&&◌, ◌||◌, cond, List, length, take, get_or}
+use Rattle.std.specs.Prelude.{ℕ, ◌-◌, ◌≤◌, ◌≡◌, Bool, ◌&&◌, ◌||◌, cond, List, length, take, get_or, Option}
 use Rattle.std.proofs.Math.Bool.{not}
-use Rattle.std.specs.Prelude.{Option}
 use Rattle.std.proofs.Math.Dec.{eqb}
 use Rattle.definitions.specs.Scan.{all_below, any_below_lem, count_below, collect, only_if}
 use Rattle.definitions.specs.Grid.{Pair, contains}

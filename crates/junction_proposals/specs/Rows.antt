@@ -1,7 +1,6 @@
 -- Proposals as the code has them: boundary, kind, first and second region. Definitions only; assumes nothing.
-use Rattle.std.specs.Prelude.{ℕ, ◌≤◌, ◌<◌, Bool, ◌&&◌, List, get_or, eqb}
+use Rattle.std.specs.Prelude.{ℕ, ◌≤◌, ◌<◌, Bool, ◌&&◌, List, get_or, eqb, Option, Some}
 use Rattle.std.proofs.Math.Bool.{not, cond}
-use Rattle.std.specs.Prelude.{Option, Some}
 use Rattle.definitions.specs.Scan.{collect, only_if}
 use Rattle.definitions.specs.Geometry.{center}
 use Rattle.definitions.specs.RegionRecord.{has_ramp, strictly_flat}

@@ -1,7 +1,6 @@
 -- What a mouth and a ramp propose before the records of regions are looked at, as the code has it: the region outside, and a kind. Definitions only; assumes nothing.
-use Rattle.std.specs.Prelude.{ℕ, ◌≤◌, Bool, true, false, ◌&&◌, ◌||◌, [], ◌∷◌}
+use Rattle.std.specs.Prelude.{ℕ, ◌≤◌, Bool, true, false, ◌&&◌, ◌||◌, [], ◌∷◌, Option, None, Some}
 use Rattle.std.proofs.Math.Bool.{not, cond}
-use Rattle.std.specs.Prelude.{Option, None, Some}
 use Rattle.std.proofs.Math.Dec.{eqb}
 use Rattle.std.specs.Float.Ieee.{lt}
 use Rattle.definitions.specs.Scan.{all, filter, only_if}

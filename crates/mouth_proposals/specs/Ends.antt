@@ -1,6 +1,5 @@
 -- What is known of the other end of a ramp once it is looked for: an answer for each region of the ramp's full pair. Definitions only; assumes nothing.
-use Rattle.std.specs.Prelude.{ℕ, ◌≡◌, Bool, true, cond, eqb}
-use Rattle.std.specs.Prelude.{Option, None, Some}
+use Rattle.std.specs.Prelude.{ℕ, ◌≡◌, Bool, true, cond, eqb, Option, None, Some}
 use Rattle.definitions.specs.Grid.{contains}
 use Rattle.definitions.specs.Context.{Context, full_pair, holds}
 use Rattle.definitions.specs.RampMouths.{other_end_incident}

@@ -1,6 +1,5 @@
 -- Candidates as a list of structs: a mouth, a ramp, a region outside (0 for none), a kind and the bits of a separation. Definitions only; assumes nothing.
-use Rattle.std.specs.Prelude.{ℕ, ◌≤◌, ◌<◌, ◌≡◌, List, length, get_or}
-use Rattle.std.specs.Prelude.{Some}
+use Rattle.std.specs.Prelude.{ℕ, ◌≤◌, ◌<◌, ◌≡◌, List, length, get_or, Some}
 use Rattle.std.specs.Float.{binary64}
 use Rattle.std.specs.Float.Ieee.{to_bits}
 use Rattle.definitions.specs.Scan.{collect}

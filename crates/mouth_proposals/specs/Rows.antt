@@ -1,6 +1,5 @@
 -- The rows of a boundary, and what the answers on them stand for. Definitions only; assumes nothing.
-use Rattle.std.specs.Prelude.{ℕ, ◌+◌, not, List, [], ◌∷◌, get_or, eqb}
-use Rattle.std.specs.Prelude.{Option, None, Some}
+use Rattle.std.specs.Prelude.{ℕ, ◌+◌, not, List, [], ◌∷◌, get_or, eqb, Option, None, Some}
 use Rattle.definitions.specs.Scan.{filter}
 use Rattle.definitions.specs.Grid as grid
 use Rattle.definitions.specs.MouthShapes.{MouthShape, single, star, distinct_regions}

@@ -1,6 +1,5 @@
 // The approach of a mouth: the one of its regions that the ramp's full pair names.
-ghost use Rattle.std.specs.Prelude.{◌≡◌, true, ◌+◌, ◌*◌, ◌<◌, length};
-ghost use Rattle.std.specs.Prelude.{Some};
+ghost use Rattle.std.specs.Prelude.{◌≡◌, true, ◌+◌, ◌*◌, ◌<◌, length, Some};
 ghost use Rattle.definitions.specs.Limits.{tallies_per_span};
 ghost use Rattle.definitions.specs.Scan.{filter};
 ghost use Rattle.definitions.specs.Grid.{contains};

@@ -1,5 +1,5 @@
 -- A walk over the places of a mouth's rows asks every inner region of its proposal, and so whether their corners are near. Assumes nothing.
-use Rattle.mouth_proposals.specs.Candidates.{is_broad}
+use Rattle.mouth_proposals.specs.Candidates.{is_broad, proposal_of}
 use Rattle.mouth_proposals.specs.declared.mouths.MouthKind.{MouthKind}
 use Prim.Native.Nat.{ℕ, zero, suc, ◌+◌, ◌-◌, ◌*◌, ◌/◌, ◌%◌, ◌≤◌, ◌<◌}
 use native.Mathlib.Omega.{arith}
@@ -20,7 +20,6 @@ use Rattle.context.proofs.Counting.{between_none, between_more}
 use Rattle.mouth_proposals.specs.Rows.{inner_of}
 use Rattle.mouth_regions.specs.Inner.{places_of, region_at, inner_at, passes}
 use Rattle.mouth_regions.specs.Near.{corner_near, region_near}
-use Rattle.mouth_proposals.specs.Candidates.{proposal_of}
 use Rattle.mouth_proposals.proofs.RowLists.{all-regions}
 use Rattle.mouth_proposals.proofs.ShapeTests.{all_distinct}
 use Rattle.mouth_proposals.proofs.ShapedMouths.{all_of-filter}

@@ -1,5 +1,5 @@
 -- Marks of regions: what holding a region, a row and the rows of a mouth does to them, and that a proposal is held exactly where its marks say so. Assumes nothing.
-use Rattle.mouth_proposals.specs.Candidates.{is_triangular}
+use Rattle.mouth_proposals.specs.Candidates.{is_triangular, proposal_of}
 use Rattle.mouth_proposals.specs.declared.mouths.MouthKind.{MouthKind}
 use Prim.Native.Nat.{ℕ, ◌+◌, ◌-◌, ◌*◌, ◌%◌, ◌≤◌, ◌<◌}
 use native.Mathlib.Omega.{arith}
@@ -22,7 +22,6 @@ use Rattle.laws.specs.NumberLaws.Comparisons.{le_or_lt, same_or}
 use Rattle.context.specs.Shown.{pair_at, pairs_between}
 use Rattle.context.proofs.Counting.{between_none, between_more}
 use Rattle.mouth_proposals.specs.Rows.{inner_of}
-use Rattle.mouth_proposals.specs.Candidates.{proposal_of}
 use Rattle.mouth_selection.specs.Held.{held, is_held, hold_at_lem, mark_held, mark_inner, HeldMarks}
 use Rattle.mouth_proposals.proofs.ApproachLaws.{Named}
 use Rattle.mouth_proposals.proofs.Fitting.{all-named-regions}

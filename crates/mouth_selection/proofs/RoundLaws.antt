@@ -1,5 +1,5 @@
 -- One round over the entries: the better of two, and one entry more. Keys read off the lists are those of the definitions. Assumes nothing.
-use Rattle.mouth_proposals.specs.Listed.{blank}
+use Rattle.mouth_proposals.specs.Listed.{blank, entry_at}
 use Rattle.mouth_proposals.specs.declared.candidates.Candidate.{Candidate}
 use Prim.Native.Nat.{ℕ, ◌+◌, ◌<◌}
 use native.Mathlib.Omega.{arith}
@@ -16,7 +16,6 @@ use Rattle.definitions.specs.RampMouths.{MouthProposal, key, ranks_before}
 use Rattle.laws.specs.ListLaws.ScanSteps.{collect_next}
 use Rattle.context.specs.Shown.{ShownBoundaries}
 use Rattle.mouth_proposals.specs.Candidates.{proposal_of}
-use Rattle.mouth_proposals.specs.Listed.{entry_at}
 use Rattle.mouth_selection.specs.Keys.{key_at}
 use Rattle.mouth_selection.specs.Entries.{entry_if, marked_at, marked_entries, Measured}
 use Rattle.mouth_selection.specs.Rounds.{better, least_from, better_of}

@@ -1,6 +1,6 @@
 -- One proposal more is taken: what its mouth, its ramp end and its regions add to what is refused is what the code marks. A region outside it was held by no inner
 -- region and no triangle, or the proposal would have been refused. Assumes nothing.
-use Rattle.mouth_proposals.specs.Candidates.{is_triangular}
+use Rattle.mouth_proposals.specs.Candidates.{is_triangular, proposal_of}
 use Rattle.mouth_proposals.specs.declared.mouths.MouthKind.{MouthKind}
 use Prim.Native.Nat.{ℕ, ◌+◌, ◌-◌, ◌*◌, ◌/◌, ◌%◌, ◌≤◌, ◌<◌, zero-le}
 use native.Mathlib.Omega.{arith}
@@ -23,7 +23,6 @@ use Rattle.laws.specs.OrderLaws.ListOrder.{eqb_sym}
 use Rattle.laws.specs.RustMouths.Triangles.{any-regions}
 use Rattle.laws.specs.ListLaws.Tests.{neither}
 use Rattle.context.specs.Shown.{ShownBoundaries}
-use Rattle.mouth_proposals.specs.Candidates.{proposal_of}
 use Rattle.mouth_selection.specs.Held.{held, is_used, is_held, is_refused, hold_at_lem, mark_held, mark_inner, HeldMarks, same_end_lem, end_mark}
 use Rattle.mouth_proposals.proofs.Distinct.{member-inner}
 use Rattle.mouth_proposals.proofs.ApproachLaws.{Named}

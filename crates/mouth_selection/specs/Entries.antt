@@ -1,8 +1,7 @@
 -- Candidates of the lists as the selection reads them: those that are marked, one or none, and what is known and asked of each. Definitions only; assumes nothing.
-use Rattle.mouth_proposals.specs.Listed.{blank}
+use Rattle.mouth_proposals.specs.Listed.{blank, max_candidates, entry_at}
 use Rattle.mouth_proposals.specs.declared.candidates.Candidate.{Candidate}
-use Rattle.std.specs.Prelude.{ℕ, ◌+◌, ◌*◌, ◌≤◌, ◌<◌, ◌≡◌, Bool, true, false, List, length, get_or, ltb}
-use Rattle.std.specs.Prelude.{Option}
+use Rattle.std.specs.Prelude.{ℕ, ◌+◌, ◌*◌, ◌≤◌, ◌<◌, ◌≡◌, Bool, true, false, List, length, get_or, ltb, Option}
 use Rattle.std.specs.Float.{binary64}
 use Rattle.std.specs.Float.Ieee.{to_bits}
 use Rattle.definitions.specs.Limits.{numbers_per_boundary}
@@ -10,7 +9,6 @@ use Rattle.definitions.specs.Scan.{collect, only_if}
 use Rattle.definitions.specs.Context.{Context}
 use Rattle.definitions.specs.RampMouths.{MouthProposal, separation_of}
 use Rattle.context.specs.Rows.{Stretch, NamedRow}
-use Rattle.mouth_proposals.specs.Listed.{max_candidates, entry_at}
 
 module _ (C : Context) (entries : List Candidate) where
   -- entry k, if it is marked

@@ -1,8 +1,7 @@
 -- The first least of what conflicts with none taken, and what may be known of it from before. Definitions only; assumes nothing.
 use Rattle.mouth_proposals.specs.declared.candidates.Candidate.{Candidate}
-use Rattle.std.specs.Prelude.{ℕ, ◌≡◌, Bool, false, List, [], ◌∷◌, get_or}
+use Rattle.std.specs.Prelude.{ℕ, ◌≡◌, Bool, false, List, [], ◌∷◌, get_or, Option, None, Some}
 use Rattle.std.proofs.Math.Bool.{not, cond}
-use Rattle.std.specs.Prelude.{Option, None, Some}
 use Rattle.definitions.specs.Scan.{filter}
 use Rattle.definitions.specs.Context.{Context}
 use Rattle.definitions.specs.RampMouths.{MouthProposal, ranks_before, corners_near_lem}

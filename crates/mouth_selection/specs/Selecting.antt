@@ -1,5 +1,5 @@
 -- What is known between two proposals that are taken: the bests of the ramps, and which of them are fresh. Definitions only; assumes nothing.
-use Rattle.mouth_proposals.specs.Listed.{blank}
+use Rattle.mouth_proposals.specs.Listed.{blank, entry_at, Filled}
 use Rattle.mouth_proposals.specs.declared.candidates.Candidate.{Candidate}
 use Rattle.std.specs.Prelude.{ℕ, ◌+◌, ◌*◌, ◌≤◌, ◌<◌, ◌≡◌, Bool, true, false, not, ◌&&◌, cond, List, [], length, get_or, set, ltb}
 use Rattle.std.specs.Float.{binary64}
@@ -11,7 +11,6 @@ use Rattle.definitions.specs.RampMouths.{MouthProposal, mouth_proposal, proposal
 use Rattle.laws.specs.ListLaws.Options.{OnO}
 use Rattle.context.specs.Shown.{ShownBoundaries, ShownPairs, ShownAnchored}
 use Rattle.mouth_proposals.specs.Candidates.{mouth_candidate}
-use Rattle.mouth_proposals.specs.Listed.{entry_at, Filled}
 use Rattle.mouth_selection.specs.Held.{is_refused, TakenState}
 use Rattle.mouth_selection.specs.Entries.{marked_at, entry_if, Named, Measured}
 use Rattle.mouth_selection.specs.Rounds.{Under, least_among}

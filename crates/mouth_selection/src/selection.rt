@@ -1,6 +1,5 @@
 // Entries of lists of candidates: which conflict with none taken, which is the least, and one taken.
-ghost use Rattle.std.specs.Prelude.{◌≡◌, true, false, not, List, [], ◌∷◌, ◌++◌, ℕ, ◌+◌, ◌*◌, ◌%◌, ◌≤◌, ◌<◌, length, get_or};
-ghost use Rattle.std.specs.Prelude.{None};
+ghost use Rattle.std.specs.Prelude.{◌≡◌, true, false, not, List, [], ◌∷◌, ◌++◌, ℕ, ◌+◌, ◌*◌, ◌%◌, ◌≤◌, ◌<◌, length, get_or, None};
 ghost use Rattle.definitions.specs.Limits.{numbers_per_boundary};
 ghost use Rattle.definitions.specs.Sort.{list_lt};
 ghost use Rattle.definitions.specs.Context.{Context};

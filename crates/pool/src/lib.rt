@@ -2,8 +2,7 @@
 
 #![tactic(auto)]
 
-ghost use Rattle.std.specs.Prelude.{◌≡◌, length};
-ghost use Rattle.std.specs.Prelude.{None};
+ghost use Rattle.std.specs.Prelude.{◌≡◌, length, None};
 ghost use Rattle.catalogue.specs.Terms.{terms_refusal};
 ghost use Rattle.catalogue.specs.Pool.{pool_verdict, pool_at_exit};
 ghost use Rattle.refusals.specs.Refusals.{refusal_in};

@@ -1,6 +1,5 @@
 -- What the steps of the listing promise: entries that show no record yet, and entries in which a record is shown. Definitions only; assumes nothing.
-use Rattle.std.specs.Prelude.{ℕ, ◌+◌, ◌≡◌, cond, List, length, eqb}
-use Rattle.std.specs.Prelude.{Option, None, Some}
+use Rattle.std.specs.Prelude.{ℕ, ◌+◌, ◌≡◌, cond, List, length, eqb, Option, None, Some}
 use Rattle.definitions.specs.Lists.{overwrite}
 use Rattle.definitions.specs.Scan.{only_if, concat_map}
 use Rattle.catalogue.specs.Terms.{term_at, days_of, contains}

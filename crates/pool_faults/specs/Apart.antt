@@ -1,7 +1,6 @@
 -- Terms of one map that are apart, that is have no day in common, and the keys by which terms are sorted so that neighbours tell it. Definitions only; assumes
 -- nothing.
-use Rattle.std.specs.Prelude.{ℕ, suc, ◌%◌, ◌≤◌, ◌<◌, ◌≡◌, false, List, length, get_or}
-use Rattle.std.specs.Prelude.{None, Some, Result, Ok, Err}
+use Rattle.std.specs.Prelude.{ℕ, suc, ◌%◌, ◌≤◌, ◌<◌, ◌≡◌, false, List, length, get_or, None, Some, Result, Ok, Err}
 use Rattle.definitions.specs.Refusals.{first_below_lem}
 use Rattle.catalogue.specs.Terms.{Days, term_at, days_of, term_fault}
 use Rattle.pool_terms.specs.Contract.{sharing, first_in, end_in}

@@ -1,6 +1,5 @@
 // The first term that breaks a rule, 18 or 19.
-ghost use Rattle.std.specs.Prelude.{◌≡◌, true, ◌+◌, ◌*◌, ◌%◌, ◌≤◌, ◌<◌, length, ltb};
-ghost use Rattle.std.specs.Prelude.{None};
+ghost use Rattle.std.specs.Prelude.{◌≡◌, true, ◌+◌, ◌*◌, ◌%◌, ◌≤◌, ◌<◌, length, ltb, None};
 ghost use Rattle.catalogue.specs.Terms.{numbers_per_term, term_at, days_of, term_fault, terms_refusal};
 ghost use Rattle.refusals.specs.Refusals.{refusal_in};
 ghost use Rattle.pool_terms.specs.Contract.{first_in, end_in};

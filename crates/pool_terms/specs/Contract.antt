@@ -1,6 +1,5 @@
 -- What the answers of this crate say, by cases, and what is asked of two terms. Definitions only; assumes nothing.
-use Rattle.std.specs.Prelude.{ℕ, Bool, ◌&&◌, List, eqb}
-use Rattle.std.specs.Prelude.{Option, None, Some}
+use Rattle.std.specs.Prelude.{ℕ, Bool, ◌&&◌, List, eqb, Option, None, Some}
 use Rattle.catalogue.specs.Dates.{Date}
 use Rattle.catalogue.specs.Terms as def
 use Rattle.pool_terms.specs.declared.terms.Days.{Days}

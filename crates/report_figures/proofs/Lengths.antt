@@ -1,6 +1,5 @@
 -- Squared lengths: of two pixels, and of one row more. Assumes nothing.
-use Rattle.std.proofs.Common.{◌≡◌, ℕ, suc, ◌+◌, ◌-◌, ◌*◌, ◌≤◌, List, [], ◌∷◌, sym, refl, ap, ◌∙◌, ap₂, mul-le-mul, le_antisymm, arith}
-use Rattle.std.proofs.Common.{Bool, true, false, cond, leb}
+use Rattle.std.proofs.Common.{◌≡◌, ℕ, suc, ◌+◌, ◌-◌, ◌*◌, ◌≤◌, List, [], ◌∷◌, sym, refl, ap, ◌∙◌, ap₂, mul-le-mul, le_antisymm, arith, Bool, true, false, cond, leb}
 use borrow.Author.Tests.{leb-true, leb-false}
 use Rattle.laws.specs.FloatLaws.Pixels.{max_pixel}
 use Rattle.laws.specs.ListLaws.FlatRows.{row_at, rows_in_lem, rows_next}

@@ -1,6 +1,5 @@
 -- What the declared types say, in the words of the report, and what is asked of rows. Definitions only; assumes nothing.
-use Rattle.std.specs.Prelude.{ℕ, ◌*◌, ◌<◌, ◌≤◌, true, false, List, [], ◌∷◌, length}
-use Rattle.std.specs.Prelude.{Option, None, Some}
+use Rattle.std.specs.Prelude.{ℕ, ◌*◌, ◌<◌, ◌≤◌, true, false, List, [], ◌∷◌, length, Option, None, Some}
 use Rattle.definitions.specs.Limits.{max_entries, numbers_per_row}
 use Rattle.laws.specs.FloatLaws.Pixels.{PixelSegment}
 use Rattle.laws.specs.ListLaws.FlatRows.{row_at}

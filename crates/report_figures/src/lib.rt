@@ -6,8 +6,7 @@ pub mod call_figures;
 pub mod row_lengths;
 pub mod sums;
 
-ghost use Rattle.std.specs.Prelude.{◌≡◌};
-ghost use Rattle.std.specs.Prelude.{None};
+ghost use Rattle.std.specs.Prelude.{◌≡◌, None};
 ghost use Rattle.report.specs.Report.{empty_report, mean_of, mean_kept};
 ghost use Rattle.report_figures.specs.Forms.{report_form, mean_form};
 

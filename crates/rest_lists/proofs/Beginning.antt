@@ -4,7 +4,7 @@ use Prim.Native.Nat.{ℕ, ◌*◌, ◌/◌, ◌%◌, ◌≤◌}
 use native.Mathlib.Omega.{arith}
 use mathlib.Core.Path.{◌≡◌, refl, sym, ap, subst, ◌∙◌}
 use mathlib.Core.Bool.{◌&&◌, cond}
-use Rattle.std.specs.Prelude.{Option, None, Some}
+use Rattle.std.specs.Prelude.{Option, None, Some, Result, Err, Ok}
 use mathlib.Core.List.{List, [], ◌∷◌}
 use lib.ListN.{length, take, replicate, length-replicate}
 use lib.Dec.{eqb, leb}
@@ -20,11 +20,10 @@ use Rattle.definitions.specs.Refusals.{Refusal, or_else, unless, sides_fault, ce
 use Rattle.definitions.specs.Verdict.{Lent, Answer, map_in, refusal, first_refusal, records_fault, pair_rows_of, pairs_fault, verdict}
 use Rattle.definitions.specs.AtExit.{stage_of, untouched, complete, tallies_of, scratch_at_exit, call_exit, exit_with}
 use Rattle.definitions.specs.Lists.{overwrite, zeroed}
-use Rattle.laws.specs.TableLaws.AcceptedCalls.{or_else-assoc}
+use Rattle.laws.specs.TableLaws.AcceptedCalls.{or_else-assoc, refusal_none}
 use Rattle.laws.specs.ListLaws.Lists.{length_run}
 use Rattle.laws.specs.ListLaws.NoFault.{no_fault_lem, or_else_none}
 use Rattle.laws.specs.ListLaws.Tests.{both}
-use Rattle.laws.specs.TableLaws.AcceptedCalls.{refusal_none}
 use Rattle.laws.specs.TableLaws.KeptRows.{boundary_count_lem}
 use Rattle.areas.specs.Fit.{Fit}
 use Rattle.areas.proofs.Leaving.{Leaves, leaves_or, leaves-refusal}
@@ -32,7 +31,6 @@ use Rattle.areas.proofs.Early.{spans_leave}
 use Rattle.areas.proofs.FirstRefusal.{first_joined}
 use Rattle.call_partition.specs.Contract.{given, Ran}
 use Rattle.call_partition.specs.Early.{sizes_refusal, entries_refusal, has_room_lem}
-use Rattle.std.specs.Prelude.{Result, Err, Ok}
 use Rattle.refusals.specs.declared.Refusal as code
 use Rattle.refusals.specs.Refusals.{refusal_of}
 use Rattle.refusals.proofs.Steps.{positive}

@@ -4,7 +4,7 @@ use Prim.Native.Nat.{ℕ, ◌*◌, ◌/◌, ◌^◌, ◌≤◌, ◌<◌}
 use native.Mathlib.Omega.{arith}
 use mathlib.Core.Path.{◌≡◌, refl, sym, ap, subst, ◌∙◌}
 use mathlib.Core.Bool.{◌&&◌}
-use Rattle.std.specs.Prelude.{None}
+use Rattle.std.specs.Prelude.{None, Result, Err, Ok, IsOk}
 use mathlib.Core.List.{List}
 use lib.ListN.{length, take, drop, replicate, length-append, length-drop, length-replicate}
 use lib.Dec.{leb}
@@ -21,11 +21,9 @@ use Rattle.laws.specs.ListLaws.Lists.{length_run}
 use Rattle.laws.specs.ListLaws.NoFault.{no_fault_lem}
 use Rattle.laws.specs.ListLaws.Tests.{both}
 use Rattle.areas.specs.Fit.{Fit}
-use Rattle.refusals.proofs.Steps.{next}
-use Rattle.std.specs.Prelude.{Result, Err, Ok, IsOk}
+use Rattle.refusals.proofs.Steps.{next, positive, is-ok}
 use Rattle.refusals.specs.declared.Refusal as code
 use Rattle.refusals.specs.Refusals.{number_of}
-use Rattle.refusals.proofs.Steps.{positive, is-ok}
 use Rattle.call_partition.specs.declared.Ready.{Ready}
 use Rattle.call_partition.specs.Early.{sizes_refusal, entries_refusal, early_refusal}
 use Rattle.call_partition.specs.Prepared.{PreparedAs, DividedAs}

@@ -1,6 +1,5 @@
 -- The first refusal of a run to rest before its first pass: 1 to 3, 16, and 5 to 10. Definitions only; assumes nothing.
-use Rattle.std.specs.Prelude.{ℕ, ◌*◌, ◌/◌, Bool, ◌&&◌, List, length, ltb}
-use Rattle.std.specs.Prelude.{Option}
+use Rattle.std.specs.Prelude.{ℕ, ◌*◌, ◌/◌, Bool, ◌&&◌, List, length, ltb, Option}
 use Rattle.definitions.specs.Limits.{numbers_per_span, numbers_per_boundary}
 use Rattle.definitions.specs.Grid.{segment_at}
 use Rattle.definitions.specs.Refusals.{Refusal, or_else, unless}

@@ -15,8 +15,7 @@ use Rattle.laws.specs.SheetReading.SheetLaws.{keeps-number, ends-inside, then_fo
 use Rattle.sheet.proofs.Chains.{alike, within}
 use Rattle.results.specs.Result.{Entry, Placed, result_of, kind, entry, entries, result, ascent_fault, pair_key, rules_fault}
 use Rattle.results.specs.ResultAnswers.{refused, judged_by, reading, read_result}
-use Rattle.result_reader.specs.Parts.{turns_fault, no_fault, key_fault, ListHeld, opening, Lists₂, front, back, part_entries, OpeningHeld, FrontHeld, BackHeld}
-use Rattle.result_reader.specs.Parts.{result_in, plan_by, ResultTold}
+use Rattle.result_reader.specs.Parts.{turns_fault, no_fault, key_fault, ListHeld, opening, Lists₂, front, back, part_entries, OpeningHeld, FrontHeld, BackHeld, result_in, plan_by, ResultTold}
 use Rattle.std.specs.Prelude.{Option, None, Some, Result}
 use Rattle.refusals.specs.declared.Refusal.{Refusal}
 use Rattle.result_reader.specs.declared.Part.{Part}

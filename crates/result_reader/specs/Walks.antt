@@ -1,7 +1,6 @@
 -- Entries of a list while they are walked: what is remembered of those that went by, what the rules say of the ones that follow, and what a walk answers.
 -- Definitions only; assumes nothing.
-use Rattle.std.specs.Prelude.{ℕ, ◌≤◌, ◌≡◌, Bool, true, false, cond, List, [], ◌∷◌, length, drop}
-use Rattle.std.specs.Prelude.{Option, None, Some, Result, Ok, Err}
+use Rattle.std.specs.Prelude.{ℕ, ◌≤◌, ◌≡◌, Bool, true, false, cond, List, [], ◌∷◌, length, drop, Option, None, Some, Result, Ok, Err}
 use Rattle.definitions.specs.Limits.{numbers_per_pair, numbers_per_row}
 use Rattle.definitions.specs.SheetNumber.{Read, found, failed}
 use Rattle.definitions.specs.Sort.{list_lt}

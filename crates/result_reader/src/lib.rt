@@ -13,10 +13,8 @@ ghost use Rattle.definitions.specs.Sheet.{times};
 ghost use Rattle.definitions.specs.Sort.{list_lt};
 ghost use Rattle.sheet.specs.Numbers.{read_of, items_at, Told};
 ghost use Rattle.results.specs.Result.{labels_fault};
-ghost use Rattle.result_reader.specs.Walks.{turns_from, Walks};
-ghost use Rattle.result_reader.specs.Walks.{key_tail, key_numbers, key_size, key_of, ascent_of, ascent_from};
-ghost use Rattle.result_reader.specs.Parts.{turns_fault, no_fault, key_fault, ListTold, OpeningTold, FrontTold, BackTold, ResultTold};
-ghost use Rattle.result_reader.specs.Parts.{plan_by, PlanHeld, PartHeld, part_numbers, room_in, Room};
+ghost use Rattle.result_reader.specs.Walks.{turns_from, Walks, key_tail, key_numbers, key_size, key_of, ascent_of, ascent_from};
+ghost use Rattle.result_reader.specs.Parts.{turns_fault, no_fault, key_fault, ListTold, OpeningTold, FrontTold, BackTold, ResultTold, plan_by, PlanHeld, PartHeld, part_numbers, room_in, Room};
 ghost use Rattle.result_reader.specs.Contract.{answer_in, refused_by, Reads};
 
 use refusals::{Cause, Refusal};

@@ -1,7 +1,6 @@
 -- Words of the crate's contracts: which kind is refused, the first refusal of a map that a sheet states, and the sheet with its spans cut out. Definitions only;
 -- assumes nothing.
-use Rattle.std.specs.Prelude.{ℕ, ◌+◌, ◌-◌, ◌≤◌, ◌≡◌, Bool, false, not, List, ◌++◌, eqb, length, take, drop}
-use Rattle.std.specs.Prelude.{Option}
+use Rattle.std.specs.Prelude.{ℕ, ◌+◌, ◌-◌, ◌≤◌, ◌≡◌, Bool, false, not, List, ◌++◌, eqb, length, take, drop, Option}
 use Rattle.definitions.specs.Refusals.{Refusal, or_else, unless, pass_fault, spans_refusal, boundaries_fault, anchors_fault, elevations_fault}
 use Rattle.definitions.specs.Verdict.{Answer, refusal}
 use Rattle.definitions.specs.SheetNumber.{Read, found, failed}

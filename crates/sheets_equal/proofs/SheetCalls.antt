@@ -1,7 +1,7 @@
 -- Request 3 over calls. What is assumed, whole: two calls of `sheet::read_sheet` met its contract (`Called`) and answered 0, and their bytes are below 256. Then
 -- their bytes are equal exactly when they left the same pass, sides and map lists. That every call meets `Called`, whatever it is lent, is the contract of
 -- `read_sheet` (crates/sheet).
-use Rattle.std.specs.Prelude.{ℕ, ◌*◌, ◌/◌, ◌≡◌, refl, ◌↔◌, Bool, true, false, ◌&&◌, cond, List, [], leb, length, take, drop}
+use Rattle.std.specs.Prelude.{ℕ, ◌*◌, ◌/◌, ◌≡◌, refl, ◌↔◌, Bool, true, false, ◌&&◌, cond, List, [], leb, length, take, drop, Result, Ok, Err}
 use Rattle.std.proofs.Common.{arith, sym, ap, ◌∙◌}
 use Rattle.std.proofs.Math.Seq.{take-append_seam}
 use Rattle.definitions.specs.Limits.{numbers_per_span, numbers_per_boundary, numbers_per_anchor}
@@ -9,7 +9,6 @@ use Rattle.definitions.specs.Lists.{overwrite}
 use Rattle.definitions.specs.SheetNumber.{Read, found, failed}
 use Rattle.definitions.specs.Sheet.{Sheet, Reading, well_formed, refused, reading, sheet, read_sheet, plain_cell_limit, read_verdict, room_for, reading_number, at_exit}
 use Rattle.laws.specs.SheetReading.SheetSizes.{Sized, sized}
-use Rattle.std.specs.Prelude.{Result, Ok, Err}
 use Rattle.refusals.specs.declared.Refusal.{Refusal}
 use Rattle.sheet.specs.Contract.{Answered, answer_of, by_number, answer_number, answer_number_lem}
 use Rattle.sheet.specs.declared.Header.{Header}

@@ -1,7 +1,7 @@
 -- The loops of `corners_near` and `best_near`: what is known when so many places or candidates are passed, one more, and the end. And what the parts of pass 1
 -- ask of one another. Assumes nothing.
-use Rattle.mouth_proposals.specs.Listed.{blank}
-use Rattle.mouth_proposals.specs.Candidates.{is_broad}
+use Rattle.mouth_proposals.specs.Listed.{blank, Listed}
+use Rattle.mouth_proposals.specs.Candidates.{is_broad, broad, proposal_of}
 use Rattle.mouth_proposals.specs.declared.candidates.Candidate.{Candidate}
 use Rattle.mouth_proposals.specs.declared.mouths.MouthKind.{MouthKind}
 use Prim.Native.Nat.{ℕ, ◌+◌, ◌-◌, ◌*◌, ◌/◌, ◌%◌, ◌≤◌, ◌<◌}
@@ -23,11 +23,9 @@ use Rattle.context.specs.Records.{record_of}
 use Rattle.context.specs.Shown.{ShownBoundaries, ShownAnchored}
 use Rattle.context.specs.Rows.{NamedRow}
 use Rattle.context.proofs.ShownLaws.{shown-rows}
-use Rattle.mouth_proposals.specs.Candidates.{broad, proposal_of}
 use Rattle.mouth_regions.specs.Inner.{places_of, region_at, inner_at, passes}
 use Rattle.mouth_regions.specs.Near.{region_near}
 use Rattle.mouth_proposals.specs.Lent.{Shows}
-use Rattle.mouth_proposals.specs.Listed.{Listed}
 use Rattle.mouth_selection.specs.Entries.{SafeKeys, Measured}
 use Rattle.mouth_selection.specs.Selecting.{Lists, Progress}
 use Rattle.mouth_regions.proofs.InnerWalk.{corners-near}

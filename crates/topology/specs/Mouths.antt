@@ -1,5 +1,5 @@
 -- The words of the contracts of `corners_near`, `best_near`, `next_ramp` and `replace_ramp_mouths`. Definitions only; assumes nothing.
-use Rattle.mouth_proposals.specs.Listed.{blank}
+use Rattle.mouth_proposals.specs.Listed.{blank, max_candidates, Roomy}
 use Rattle.mouth_proposals.specs.declared.candidates.Candidate.{Candidate}
 use Rattle.std.specs.Prelude.{ℕ, ◌-◌, ◌≤◌, ◌<◌, ◌≡◌, Bool, false, List, length, get_or}
 use Rattle.definitions.specs.Limits.{max_entries}
@@ -10,7 +10,6 @@ use Rattle.laws.specs.FloatLaws.Pixels.{PixelContext}
 use Rattle.context.specs.declared.Region.{Region}
 use Rattle.context.specs.Shown.{ShownBoundaries, ShownTallies, ShownPairs}
 use Rattle.mouth_proposals.specs.Lent.{Placed, Shows}
-use Rattle.mouth_proposals.specs.Listed.{max_candidates, Roomy}
 use Rattle.mouth_selection.specs.Selecting.{Room, weight}
 use Rattle.topology.specs.Held.{HoldsRecords}
 

@@ -9,4 +9,3 @@ use Rattle.sheet.proofs.fill_endpoints.Given as goal
 abbrev pub invariant-loop-i : goal.invariant-loop-i
 invariant-loop-i l =
     (l.i ≤ l.count) × (length l.spans ≡ length l.initial.spans) × (l.spans ≡ overwrite (endpoints_in l.i l.boundaries) l.initial.spans)
-

@@ -8,4 +8,3 @@ use Rattle.sheet.proofs.fill_numbers.Given as goal
 
 abbrev pub invariant-loop-i : goal.invariant-loop-i
 invariant-loop-i l = Filling number l.bytes l.initial.out (overwrite (values_at number l.bytes l.at l.count) l.initial.out) l.count l.out l.next l.i
-

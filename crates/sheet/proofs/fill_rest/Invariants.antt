@@ -9,4 +9,3 @@ use Rattle.sheet.proofs.fill_rest.Given as goal
 
 abbrev pub invariant-loop-i : goal.invariant-loop-i
 invariant-loop-i l = Filling number l.bytes l.initial.out (sets l.initial.out l.first (values_at number l.bytes l.at (l.count - l.first))) l.count l.out l.next l.i
-

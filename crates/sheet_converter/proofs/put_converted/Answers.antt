@@ -1,10 +1,9 @@
 -- `sheet_converter::put_converted` meets its contract: kind 3, what stands before the spans, and what stands behind them. Assumes nothing.
 use native.Mathlib.Omega.{arith}
 use Rattle.results.specs.Shortest.{shortest_within, shortest}
-use Rattle.result_writer.proofs.Placing.{put_then}
+use Rattle.result_writer.proofs.Placing.{put_then, put-long}
 use Rattle.sheet_converter.specs.Contract.{cut_out}
 use Rattle.sheet_converter.proofs.Copying.{put_whole, front_long, back_long}
-use Rattle.result_writer.proofs.Placing.{put-long}
 use Rattle.sheet_converter.proofs.put_converted.Goals as goal
 
 pub put_shortest-a-requires : goal.put_shortest-a-requires

@@ -1,15 +1,13 @@
 -- `boundary_blocks::start::put_boundaries` meets its contract. The loop's invariant: the boundaries that the first k rows name are stored, and nothing else. Assumes nothing.
 use Prim.Native.Nat.{◌*◌}
 use native.Mathlib.Omega.{arith}
-use mathlib.Core.Path.{◌≡◌, refl, ap, ◌∙◌}
+use mathlib.Core.Path.{◌≡◌, refl, ap, ◌∙◌, subst}
 use lib.Seq.{sets}
 use borrow.Author.Rules.{rules}
 use Rattle.definitions.specs.Scan.{concat_map}
 use Rattle.definitions.specs.Lists.{overwrite}
-use Rattle.laws.specs.ListLaws.FlatRows.{row_at, rows_in_lem}
-use mathlib.Core.Path.{subst}
+use Rattle.laws.specs.ListLaws.FlatRows.{row_at, rows_in_lem, rows-length, row_in}
 use Rattle.laws.specs.ListLaws.Members.{all-place}
-use Rattle.laws.specs.ListLaws.FlatRows.{rows-length, row_in}
 use Rattle.rest.specs.FlatLists.{flat_boundary}
 use Rattle.rest_definitions.specs.RowOrder.{no_row}
 use Rattle.boundary_blocks.specs.Start.{NamedIn, turned_in, turned_of}

@@ -6,8 +6,7 @@ use lib.ListN.{get_or, length}
 use Rattle.definitions.specs.Scan.{filter}
 use Rattle.definitions.specs.MouthShapes.{distinct_regions}
 use Rattle.laws.specs.ListLaws.Lists.{All}
-use Rattle.context.specs.Rows.{NamedRow}
-use Rattle.context.specs.Rows.{pair_form}
+use Rattle.context.specs.Rows.{NamedRow, pair_form}
 use Rattle.mouth_proposals.specs.Outers.{outers_of}
 use Rattle.mouth_proposals.proofs.ApproachLaws.{Named}
 use Rattle.mouth_proposals.proofs.RowLists.{between_two, two_rows, named-lo, named-hi}

@@ -1,6 +1,6 @@
 -- `bests::advance` meets its contract. The invariant: what is known of every context that is shown, and what has not risen; the measure is how many mouths are not
 -- removed. A turn takes the least of the bests, which is the least of all that is left. Assumes nothing.
-use Rattle.mouth_proposals.specs.Listed.{blank}
+use Rattle.mouth_proposals.specs.Listed.{blank, entry_at}
 use Prim.Native.Nat.{ℕ, ◌<◌}
 use native.Mathlib.Omega.{arith}
 use native.Mathlib.Nat.{le_refl, le_trans}
@@ -13,7 +13,6 @@ use borrow.Author.Tests.{not-true, not-false}
 use Rattle.definitions.specs.Context.{Context}
 use Rattle.definitions.specs.RampMouths.{MouthProposal, proposals}
 use Rattle.mouth_proposals.specs.Candidates.{proposal_of}
-use Rattle.mouth_proposals.specs.Listed.{entry_at}
 use Rattle.mouth_selection.specs.Held.{is_refused}
 use Rattle.mouth_selection.specs.Rounds.{least_among}
 use Rattle.mouth_selection.specs.Selecting.{Lists, Progress}

@@ -1,5 +1,5 @@
 -- `selection::take` meets its contract: its mouth, its ramp end and its regions are marked. Assumes nothing.
-use Rattle.mouth_proposals.specs.Candidates.{is_triangular}
+use Rattle.mouth_proposals.specs.Candidates.{is_triangular, proposal_of}
 use Prim.Native.Nat.{◌%◌, ◌<◌}
 use native.Mathlib.Omega.{arith}
 use mathlib.Core.Path.{refl, sym, ap, ◌∙◌, subst}
@@ -9,7 +9,6 @@ use lib.ListN.{length, get_or, length-set}
 use lib.Dec.{eqb}
 use borrow.Author.Tests.{lt-ltb}
 use Rattle.definitions.specs.MouthShapes.{regions_of}
-use Rattle.mouth_proposals.specs.Candidates.{proposal_of}
 use Rattle.mouth_selection.specs.Held.{HeldMarks, same_end_lem, mark_held, mark_inner}
 use Rattle.mouth_selection.proofs.Marks.{inner-length, outer-length, inner-odd, outer-odd}
 use Rattle.mouth_selection.proofs.TakenLaws.{refused-parts, mouth-taken, end-taken, held-taken}
