@@ -32,7 +32,8 @@ fn share_port(
     ensures { result ≡ any_below_lem count (λ j. reserves_at smaller.now larger.now (row_at rows.now p) j
         && reserves_at smaller.now larger.now (row_at rows.now q) j) }
 {
-    (0..count).any(|j| reserves(smaller, larger, rows, p, j) & reserves(smaller, larger, rows, q, j))
+    (0..count).any(|j| reserves(smaller, larger, rows, p, j)
+        & reserves(smaller, larger, rows, q, j))
 }
 
 // Whether row q, taken, keeps row p from being taken.

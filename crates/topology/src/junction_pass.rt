@@ -80,7 +80,12 @@ pub fn remove_junction_boundaries(
         marks.now count regions →
         Removes C count removed.new }
 {
-    let mut rows = [Candidate { index: 0, kind: Kind::Union, first: 0, second: 0 }; MAX_PROPOSALS];
+    let mut rows = [Candidate {
+        index: 0,
+        kind: Kind::Union,
+        first: 0,
+        second: 0,
+    }; MAX_PROPOSALS];
     let mut allowed = [false; MAX_PROPOSALS];
     let n = allowed_proposals(
         records,

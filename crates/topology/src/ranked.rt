@@ -41,7 +41,12 @@ pub fn rank_junctions(
         count regions
         → Ranked C count removed.new listed.old listed.new result }
 {
-    let mut rows = [Candidate { index: 0, kind: Kind::Union, first: 0, second: 0 }; MAX_PROPOSALS];
+    let mut rows = [Candidate {
+        index: 0,
+        kind: Kind::Union,
+        first: 0,
+        second: 0,
+    }; MAX_PROPOSALS];
     let mut allowed = [false; MAX_PROPOSALS];
     let n = allowed_proposals(
         records,
