@@ -63,10 +63,12 @@ pub fn judge_interiors(
         Collapsed C count removed.new }
 {
     for i in 0..count {
-        if let Some(interior) = interior_at(pairs, starts, owners, found, count, i) {
-            let fits = interior_fits(records, boundaries, pairs, names, interior);
-            mark_edges(owners, count, interior.name, fits, removed);
-        }
+        let interior = match interior_at(pairs, starts, owners, found, count, i) {
+            None => continue,
+            Some(interior) => interior,
+        };
+        let fits = interior_fits(records, boundaries, pairs, names, interior);
+        mark_edges(owners, count, interior.name, fits, removed);
     }
 }
 

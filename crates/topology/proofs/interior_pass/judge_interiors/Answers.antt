@@ -73,8 +73,8 @@ interior_fits-fits-requires c = fits-asked c.requires.interiors_found c.loop-i.i
 pub mark_edges-requires : goal.mark_edges-requires
 mark_edges-requires c = mark-asked c.requires.interiors_found c.loop-i.invariant
 
-pub loop-i-preserved-in-Some : goal.loop-i-preserved-in-Some
-loop-i-preserved-in-Some c =
+pub loop-i-preserved : goal.loop-i-preserved
+loop-i-preserved c =
     let m = c.mark_edges.ensures in
     again c.requires.interiors_found c.loop-i.invariant c.loop-i-test.true c.in-Some.ensures c.interior_fits-fits.ensures _ m.removed m.removed_length
 
