@@ -1,7 +1,7 @@
 -- DEMAND 2 over calls, its labels and assessments: a call that met the contract and returned 0 holds in its lists the labels, tallies and pairs that the Rust's own
 -- `partition_by_spans` gives for the map that it was lent, and so does a partition alone, which answers with as many regions as the Rust has areas. (The kept rows are `Call-rows`, RustRows.) The proof: the lists hold the
 -- definitions' data, which are the Rust's (rust_partition, PartitionAsRust). Assumes nothing more.
-use Rattle.std.specs.Prelude.{ℕ, ◌≡◌, List, [], ◌∷◌, length, Option}
+use Rattle.std.specs.Prelude.{ℕ, ◌≡◌, List, [], ◌∷◌, length, Option, Result}
 use Rattle.std.proofs.Common.{arith, sym, ap, ◌∙◌}
 use Rattle.definitions.specs.Limits.{numbers_per_span}
 use Rattle.definitions.specs.RegionRecord.{Region}
@@ -13,7 +13,7 @@ use Rattle.definitions.specs.Verdict.{Lent, Answer, map_in, pair_rows_of, refusa
 use Rattle.definitions.specs.AtExit.{tallies_of, call_exit, partition_exit, exit_with, stage_of}
 use Rattle.laws.specs.ListLaws.Lists.{All, done, more}
 use Rattle.laws.specs.TableLaws.AcceptedCalls.{Numbered, refusal-numbered, spans-numbered, counted}
-use Rattle.areas.specs.declared.Partitioned.{Partitioned}
+use Rattle.refusals.specs.declared.Refusal as code
 use Rattle.areas.specs.Answers.{answer_of}
 use Rattle.areas.specs.Contract as alone
 use Rattle.call_partition.specs.Contract.{Ran}
@@ -42,7 +42,7 @@ call_partition {L} ran success =
     (ran.pairs ∙ ap (λ n. (call_exit L n).pairs) success)
 
 -- a partition alone: lent, answer, and at exit labels, masks, queue, tallies and pairs
-pub partition_alone : {L : Lent} {r : Partitioned} {l m q t p : List ℕ} → alone.Ran L r l m q t p → (answer_of r).number ≡ 0 → AsRust L (partition_by_spans (map_in L)) l t p
+pub partition_alone : {L : Lent} {r : Result ℕ code.Refusal} {l m q t p : List ℕ} → alone.Ran L r l m q t p → (answer_of r).number ≡ 0 → AsRust L (partition_by_spans (map_in L)) l t p
 unfolding partition_exit exit_with stage_of
 partition_alone {L} ran success =
     as_rust L (partition_grid L (ap (λ b. b.number) (sym ran.answer) ∙ success)) (ran.labels ∙ ap (λ n. (partition_exit L n).labels) success)
@@ -73,7 +73,7 @@ verdict-count : (L : Lent) → (partition_verdict L).number ≡ 0 → (partition
 unfolding partition_verdict
 verdict-count L h = counted (region_count (map_in L)) (checks-numbered L) h
 
-pub partition_areas : {L : Lent} {r : Partitioned} {l m q t p : List ℕ} → alone.Ran L r l m q t p → (answer_of r).number ≡ 0 → (answer_of r).value ≡ length (partition_by_spans (map_in L)).areas
+pub partition_areas : {L : Lent} {r : Result ℕ code.Refusal} {l m q t p : List ℕ} → alone.Ran L r l m q t p → (answer_of r).number ≡ 0 → (answer_of r).value ≡ length (partition_by_spans (map_in L)).areas
 partition_areas {L} ran success =
     let accepts : (partition_verdict L).number ≡ 0 = ap (λ b. b.number) (sym ran.answer) ∙ success in
     ap (λ b. b.value) ran.answer ∙ verdict-count L accepts ∙ sym (rust_areas (map_in L) (partition_grid L accepts))

@@ -47,7 +47,6 @@ use Rattle.grid_steps.specs.Walk.{direction_at}
 use Rattle.grid_steps.specs.Inner.{placed, byte_at}
 use Rattle.grid_steps.proofs.Ways as ways
 use Rattle.context.specs.Records.{record_of}
-use Rattle.areas.specs.declared.Partitioned.{Partitioned}
 use Rattle.areas.specs.Answers.{answer_of}
 use Rattle.areas.specs.Contract as alone
 use Rattle.call_partition.specs.Contract.{Ran}
@@ -166,7 +165,7 @@ pub widths_by_total_order : (x y : Boundary) → width_fits x.width_bits ≡ tru
 widths_by_total_order = widths.key_by_total_order
 
 -- labels, tallies and pairs of an accepted partition alone are the Rust's
-pub partition_alone : {L : Lent} {r : Partitioned} {l m q t p : List ℕ} → alone.Ran L r l m q t p → (answer_of r).number ≡ 0
+pub partition_alone : {L : Lent} {r : Result ℕ refusals.Refusal} {l m q t p : List ℕ} → alone.Ran L r l m q t p → (answer_of r).number ≡ 0
     → AsRust L (partition_by_spans (map_in L)) l t p
 partition_alone = partitions.partition_alone
 

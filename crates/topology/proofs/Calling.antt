@@ -19,8 +19,10 @@ use Rattle.laws.specs.NumberLaws.Comparisons.{same_or}
 use Rattle.laws.specs.ListLaws.Flags.{none_set}
 use Rattle.context.specs.declared.Region.{Region}
 use Rattle.context.specs.Records.{record_of, max_cells}
-use Rattle.call_partition.specs.declared.Prepared.{Prepared}
-use Rattle.call_partition.specs.declared.Prepared.TheVariants.{Refused, Ready}
+use Rattle.std.specs.Prelude.{Result, Ok, Err}
+use Rattle.refusals.specs.declared.Refusal as code
+use Rattle.refusals.specs.Refusals.{number_of}
+use Rattle.call_partition.specs.declared.Ready.{Ready}
 use Rattle.call_partition.specs.Prepared.{ReadyAs, PreparedAs}
 use Rattle.pass_lists.specs.Finished.{Finished, Marked}
 use Rattle.pass_lists.proofs.AfterChecks.{ready-accepted, ready-sides, ready-sound, ready-checked}
@@ -43,11 +45,11 @@ no_marks = record { long = length-replicate {A = Bool} max_entries false; clear 
 
 module _ {pass w h : ℕ} {cells spans boundaries anchors : List ℕ} {room output : ℕ} {l m q t p l' m' q' t' p' : List ℕ} where
   -- by the case of the answer
-  pub when_ready : {r : Prepared} {regions rows : ℕ} → PreparedAs pass w h cells spans boundaries anchors room output l m q t p r l' m' q' t' p' → r ≡ Ready regions rows → ReadyAs pass w h cells spans boundaries anchors room output l m q t p regions rows l' m' q' t' p'
+  pub when_ready : {r : Result Ready code.Refusal} {ready : Ready} → PreparedAs pass w h cells spans boundaries anchors room output l m q t p r l' m' q' t' p' → r ≡ Ok ready → ReadyAs pass w h cells spans boundaries anchors room output l m q t p ready.regions ready.rows l' m' q' t' p'
   when_ready a e = subst (λ r. PreparedAs pass w h cells spans boundaries anchors room output l m q t p r l' m' q' t' p') e a
 
-  pub when_refused : {r : Prepared} {number place : ℕ} (s : List Region) (o : List ℕ) → PreparedAs pass w h cells spans boundaries anchors room output l m q t p r l' m' q' t' p' → r ≡ Refused number place → length s ≡ room → length o ≡ output
-      → RanOver pass (lends w h cells spans boundaries anchors l m q t p s o) (record { number = number; value = place }) (leaves l' m' q' t' p' s o)
+  pub when_refused : {r : Result Ready code.Refusal} {x : code.Refusal} (s : List Region) (o : List ℕ) → PreparedAs pass w h cells spans boundaries anchors room output l m q t p r l' m' q' t' p' → r ≡ Err x → length s ≡ room → length o ≡ output
+      → RanOver pass (lends w h cells spans boundaries anchors l m q t p s o) (record { number = number_of x.cause; value = x.place }) (leaves l' m' q' t' p' s o)
   when_refused s o a e long wide =
       record {
         ran = subst (λ r. PreparedAs pass w h cells spans boundaries anchors room output l m q t p r l' m' q' t' p') e a (map record_of s) o (length-map s record_of ∙ long) wide;

@@ -38,7 +38,7 @@ use Rattle.rest_definitions.specs.Rest.{kept_map}
 use Rattle.rest.specs.Clearing.{beyond-stays}
 use Rattle.game_calls.specs.KeptGraph.{graph_map}
 use Rattle.game_calls.specs.SecondPartition.{second-fewer, second-records}
-use Rattle.game_lists.specs.declared.kept.Graph.{Graph}
+use Rattle.call_partition.specs.declared.Ready.{Ready}
 use Rattle.game_lists.specs.Kept.{Source, lent_of, Divides, DividedKept}
 use Rattle.topology.specs.declared.games.Second.{Second}
 use Rattle.topology.specs.Filled.{Fills, Filled, Renewed}
@@ -107,7 +107,7 @@ module _ {B : Begun} {pass w h : ℕ} {cells spans boundaries anchors : List ℕ
             pairs_long = G.pairs_long;
           }
 
-      module _ {g : Graph} {l₃ m₃ q₃ t₃ p₃ : List ℕ} (N : DividedKept (lent_of w h cells spans source) l m₂ q₂ t p g l₃ m₃ q₃ t₃ p₃)
+      module _ {g : Ready} {l₃ m₃ q₃ t₃ p₃ : List ℕ} (N : DividedKept (lent_of w h cells spans source) l m₂ q₂ t p g l₃ m₃ q₃ t₃ p₃)
           (longL₃ : length l₃ ≡ length l) (longM₃ : length m₃ ≡ length m₂) (longQ₃ : length q₃ ≡ length q₂) where
         cells_same : cell_count K ≡ h * w
         unfolding graph_map kept_map map_with cell_count map_of

@@ -15,8 +15,10 @@ use Rattle.definitions.specs.Verdict.{pair_rows_of}
 use Rattle.definitions.specs.AtExit.{complete}
 use Rattle.context.specs.declared.Region.{Region}
 use Rattle.context.specs.Records.{record_of}
-use Rattle.call_partition.specs.declared.Prepared.{Prepared}
-use Rattle.call_partition.specs.declared.Prepared.TheVariants.{Refused, Ready}
+use Rattle.std.specs.Prelude.{Result, Ok, Err}
+use Rattle.refusals.specs.declared.Refusal as code
+use Rattle.refusals.specs.Refusals.{number_of}
+use Rattle.call_partition.specs.declared.Ready.{Ready}
 use Rattle.game.specs.Graph.{edges_in, graph_of, verdicts_at_exit}
 use Rattle.game_calls.specs.KeptGraph.{graph_map, kept_game}
 use Rattle.game_calls.specs.GameVerdict.{GameAnswer}
@@ -36,16 +38,16 @@ begun verdicts l m q t p = record { verdicts = verdicts; labels = l; masks = m; 
 
 module _ {pass w h : ℕ} {cells spans boundaries anchors : List ℕ} {room output verdicts : ℕ} {l m q t p l' m' q' t' p' : List ℕ} where
   -- by the case of the answer
-  pub game_ready : {r : Prepared} {regions rows : ℕ} → GamePreparedAs pass w h cells spans boundaries anchors room output verdicts l m q t p r l' m' q' t' p'
-      → r ≡ Ready regions rows → GameReady pass w h cells spans boundaries anchors room output verdicts l m q t p regions rows l' m' q' t' p'
+  pub game_ready : {r : Result Ready code.Refusal} {ready : Ready} → GamePreparedAs pass w h cells spans boundaries anchors room output verdicts l m q t p r l' m' q' t' p'
+      → r ≡ Ok ready → GameReady pass w h cells spans boundaries anchors room output verdicts l m q t p ready.regions ready.rows l' m' q' t' p'
   game_ready a e = subst (λ r. GamePreparedAs pass w h cells spans boundaries anchors room output verdicts l m q t p r l' m' q' t' p') e a
 
-  pub refused_over : {r : Prepared} {number place : ℕ} (goal : ℕ) (s : List Region) (o v : List ℕ) {a : GameAnswer}
-      → GamePreparedAs pass w h cells spans boundaries anchors room output verdicts l m q t p r l' m' q' t' p' → r ≡ Refused number place
-      → length s ≡ room → length o ≡ output → length v ≡ verdicts → a ≡ record { number = number; value = place; regions = 0 }
+  pub refused_over : {r : Result Ready code.Refusal} {x : code.Refusal} (goal : ℕ) (s : List Region) (o v : List ℕ) {a : GameAnswer}
+      → GamePreparedAs pass w h cells spans boundaries anchors room output verdicts l m q t p r l' m' q' t' p' → r ≡ Err x
+      → length s ≡ room → length o ≡ output → length v ≡ verdicts → a ≡ record { number = number_of x.cause; value = x.place; regions = 0 }
       → PlayedOver pass (lends w h cells spans boundaries anchors l m q t p s o) goal v a (leaves l' m' q' t' p' s o) v
-  refused_over {number = number} {place = place} goal s o v prepared e long wide table is =
-      let at : GamePreparedAs pass w h cells spans boundaries anchors room output verdicts l m q t p (Refused number place) l' m' q' t' p'
+  refused_over {x = x} goal s o v prepared e long wide table is =
+      let at : GamePreparedAs pass w h cells spans boundaries anchors room output verdicts l m q t p (Err x) l' m' q' t' p'
       = subst (λ r. GamePreparedAs pass w h cells spans boundaries anchors room output verdicts l m q t p r l' m' q' t' p') e prepared in
       subst (λ b. PlayedOver pass (lends w h cells spans boundaries anchors l m q t p s o) goal v b (leaves l' m' q' t' p' s o) v) (sym is)
       (record { played = at goal (map record_of s) o v (length-map s record_of ∙ long) wide table; beyond = refl })

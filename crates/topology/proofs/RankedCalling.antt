@@ -18,8 +18,10 @@ use Rattle.definitions.specs.Verdict.{map_in}
 use Rattle.context.specs.declared.Region.{Region}
 use Rattle.context.specs.Records.{record_of}
 use Rattle.laws.specs.NumberLaws.Comparisons.{same_or}
-use Rattle.call_partition.specs.declared.Prepared.{Prepared}
-use Rattle.call_partition.specs.declared.Prepared.TheVariants.{Refused}
+use Rattle.std.specs.Prelude.{Result, Ok, Err}
+use Rattle.refusals.specs.declared.Refusal as code
+use Rattle.refusals.specs.Refusals.{number_of}
+use Rattle.call_partition.specs.declared.Ready.{Ready}
 use Rattle.call_partition.specs.Prepared.{ReadyAs, PreparedAs}
 use Rattle.pass_lists.specs.Finished.{Finished}
 use Rattle.pass_lists.proofs.AfterPartition.{spans-lent, boundaries-lent}
@@ -59,9 +61,9 @@ module _ (w h : ℕ) (cells spans boundaries anchors : List ℕ) where
 -- ---- the call
 
 module _ {w h : ℕ} {cells spans boundaries anchors : List ℕ} {room output : ℕ} {l m q t p l' m' q' t' p' : List ℕ} where
-  pub refused_over : {r : Prepared} {number place : ℕ} (s : List Region) (o k : List ℕ) → PreparedAs 3 w h cells spans boundaries anchors room output l m q t p r l' m' q' t' p'
-      → r ≡ Refused number place → length s ≡ room → length o ≡ output
-      → RankedOver (lends w h cells spans boundaries anchors l m q t p s o) k (record { number = number; value = place; proposals = 0 }) (leaves l' m' q' t' p' s o) k
+  pub refused_over : {r : Result Ready code.Refusal} {x : code.Refusal} (s : List Region) (o k : List ℕ) → PreparedAs 3 w h cells spans boundaries anchors room output l m q t p r l' m' q' t' p'
+      → r ≡ Err x → length s ≡ room → length o ≡ output
+      → RankedOver (lends w h cells spans boundaries anchors l m q t p s o) k (record { number = number_of x.cause; value = x.place; proposals = 0 }) (leaves l' m' q' t' p' s o) k
   refused_over s o k a e long wide =
       record {
         ran =

@@ -17,8 +17,10 @@ use Rattle.definitions.specs.Lists.{overwrite, zeroed}
 use Rattle.laws.specs.ListLaws.Lists.{length_run}
 use Rattle.context.specs.declared.Region.{Region}
 use Rattle.context.specs.Records.{record_of}
-use Rattle.call_partition.specs.declared.Prepared.{Prepared}
-use Rattle.call_partition.specs.declared.Prepared.TheVariants.{Refused, Ready}
+use Rattle.std.specs.Prelude.{Result, Ok, Err}
+use Rattle.refusals.specs.declared.Refusal as code
+use Rattle.refusals.specs.Refusals.{number_of}
+use Rattle.call_partition.specs.declared.Ready.{Ready}
 use Rattle.call_partition.specs.Contract.{given}
 use Rattle.rest_definitions.specs.RowOrder.{start_map}
 use Rattle.rest.specs.FlatLists.{flat_spans, flat_boundaries}
@@ -40,13 +42,13 @@ use Rattle.topology.proofs.Calling.{ready_fills}
 
 module _ {w h : ℕ} {cells spans boundaries anchors l m q t p l' m' q' t' p' : List ℕ} where
   -- by the case of the answer
-  pub begun_when : {room output : ℕ} {r : Prepared} {regions rows : ℕ} {n b d : List ℕ} → BegunAs w h cells spans boundaries anchors room output l m q t p r l' m' q' t' p' n b d → r ≡ Ready regions rows
-      → Begun w h cells spans boundaries anchors room output l m q t p regions rows l' m' q' t' p' n b d
+  pub begun_when : {room output : ℕ} {r : Result Ready code.Refusal} {ready : Ready} {n b d : List ℕ} → BegunAs w h cells spans boundaries anchors room output l m q t p r l' m' q' t' p' n b d → r ≡ Ok ready
+      → Begun w h cells spans boundaries anchors room output l m q t p ready.regions ready.rows l' m' q' t' p' n b d
   begun_when {room} {output} {n = n} {b = b} {d = d} B e = subst (λ r. BegunAs w h cells spans boundaries anchors room output l m q t p r l' m' q' t' p' n b d) e B
 
-  pub refused_over : {s : List Region} {o : List ℕ} {r : Prepared} {number place : ℕ} (n b d : List ℕ)
-      → BegunAs w h cells spans boundaries anchors (length s) (length o) l m q t p r l' m' q' t' p' n b d → r ≡ Refused number place
-      → RestRanOver (lends w h cells spans boundaries anchors l m q t p s o) (record { number = number; value = place; rounds = 0 }) (leaves l' m' q' t' p' s o)
+  pub refused_over : {s : List Region} {o : List ℕ} {r : Result Ready code.Refusal} {x : code.Refusal} (n b d : List ℕ)
+      → BegunAs w h cells spans boundaries anchors (length s) (length o) l m q t p r l' m' q' t' p' n b d → r ≡ Err x
+      → RestRanOver (lends w h cells spans boundaries anchors l m q t p s o) (record { number = number_of x.cause; value = x.place; rounds = 0 }) (leaves l' m' q' t' p' s o)
   refused_over {s} {o} n b d B e =
       record {
         ran = subst (λ r. BegunAs w h cells spans boundaries anchors (length s) (length o) l m q t p r l' m' q' t' p' n b d) e B (map record_of s) o (length-map s record_of) refl;

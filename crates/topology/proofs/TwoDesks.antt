@@ -21,8 +21,10 @@ use Rattle.laws.specs.FloatLaws.MapPixels.{side-bounds}
 use Rattle.context.specs.declared.Region.{Region}
 use Rattle.context.specs.Records.{record_of, max_cells}
 use Rattle.areas.proofs.Labelling.{zeroed_rest, zeroed-again}
-use Rattle.call_partition.specs.declared.Prepared.{Prepared}
-use Rattle.call_partition.specs.declared.Prepared.TheVariants.{Refused, Ready}
+use Rattle.std.specs.Prelude.{Result, Ok, Err}
+use Rattle.refusals.specs.declared.Refusal as code
+use Rattle.refusals.specs.Refusals.{number_of}
+use Rattle.call_partition.specs.declared.Ready.{Ready}
 use Rattle.call_partition.specs.Prepared.{ReadyAs}
 use Rattle.call_partition.proofs.Exits.{verdict-kept, ran_complete}
 use Rattle.pass_lists.specs.Finished.{Finishes, Finished}
@@ -217,12 +219,12 @@ lent cells l m q t p s = record { cells = cells; labels = l; masks = m; queue = 
 
 -- by the case of the answer
 module _ {w h : ℕ} {cells spans : List ℕ} {room : ℕ} {l m q t p l' m' q' t' p' : List ℕ} where
-  pub shared-ready : {r : Prepared} {regions rows : ℕ} → SharedAs w h cells spans room l m q t p r l' m' q' t' p' → r ≡ Ready regions rows
-      → ReadyAs 1 w h cells spans [] [] room 0 l m q t p regions rows l' m' q' t' p'
+  pub shared-ready : {r : Result Ready code.Refusal} {ready : Ready} → SharedAs w h cells spans room l m q t p r l' m' q' t' p' → r ≡ Ok ready
+      → ReadyAs 1 w h cells spans [] [] room 0 l m q t p ready.regions ready.rows l' m' q' t' p'
   shared-ready P e = subst (λ r. SharedAs w h cells spans room l m q t p r l' m' q' t' p') e P
 
-  pub shared-refused : {r : Prepared} {number place : ℕ} {s : List def.Region} → SharedAs w h cells spans room l m q t p r l' m' q' t' p' → r ≡ Refused number place → length s ≡ room
-      → RefusedBoth (lent_both w h cells spans l m q t p s) number place l' m' q' t' p' s
+  pub shared-refused : {r : Result Ready code.Refusal} {x : code.Refusal} {s : List def.Region} → SharedAs w h cells spans room l m q t p r l' m' q' t' p' → r ≡ Err x → length s ≡ room
+      → RefusedBoth (lent_both w h cells spans l m q t p s) (number_of x.cause) x.place l' m' q' t' p' s
   shared-refused {s = s} P e = subst (λ r. SharedAs w h cells spans room l m q t p r l' m' q' t' p') e P s
 
 -- a shared refusal goes to both

@@ -4,7 +4,7 @@ ghost use Rattle.topology.specs.Games.{Begun, RunsKept, RanKept, PlayedOver};
 
 use crate::marks::mark_removed;
 use crate::records::{fill, renew};
-use call_partition::Prepared;
+use call_partition::Ready;
 use checks::limits::{NUMBERS_PER_BOUNDARY, NUMBERS_PER_SPAN};
 use context::Region;
 use game_lists::checked::prepare_game;
@@ -196,8 +196,8 @@ pub fn topology_runner_and_guard(
         queue, tallies, pairs,
     );
     match prepared {
-        Prepared::Refused(number, place) => refused(number, place as u64),
-        Prepared::Ready(regions, rows) => {
+        Err(refusal) => refused(refusal),
+        Ok(Ready { regions, rows }) => {
             let second = run_kept(
                 pass,
                 records,

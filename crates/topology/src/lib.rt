@@ -20,7 +20,7 @@ pub mod two_desks;
 ghost use Rattle.std.specs.Prelude.{◌≡◌};
 ghost use Rattle.topology.specs.Contract.{answer_of, exported, RanOver};
 
-use call_partition::{Prepared, prepare};
+use call_partition::{Ready, prepare};
 use checks::limits::{NUMBERS_PER_BOUNDARY, NUMBERS_PER_SPAN};
 use context::Region;
 use marks::mark_removed;
@@ -103,11 +103,11 @@ pub fn topology_kept_boundaries(
         tallies, pairs,
     );
     match prepared {
-        Prepared::Refused(number, place) => TopologyAnswer {
-            number,
-            value: place as u64,
+        Err(refusal) => TopologyAnswer {
+            number: refusal.cause.number(),
+            value: refusal.place as u64,
         },
-        Prepared::Ready(regions, rows) => {
+        Ok(Ready { regions, rows }) => {
             let columns = width as usize;
             let needed = height as usize * columns;
             let mut removed = [false; 256];

@@ -12,7 +12,7 @@ ghost use Rattle.topology.specs.Ranked.{Ranked, RankedFor, RankedOver};
 
 use crate::junction_pass::allowed_proposals;
 use crate::records::fill;
-use call_partition::{Prepared, prepare};
+use call_partition::{Ready, prepare};
 use checks::limits::{NUMBERS_PER_BOUNDARY, NUMBERS_PER_SPAN};
 use context::Region;
 use junction_proposals::proposals::{Candidate, Kind, MAX_PROPOSALS};
@@ -175,12 +175,12 @@ pub fn topology_ranked_junctions(
         tallies, pairs,
     );
     match prepared {
-        Prepared::Refused(number, place) => RankedAnswer {
-            number,
-            value: place as u64,
+        Err(refusal) => RankedAnswer {
+            number: refusal.cause.number(),
+            value: refusal.place as u64,
             proposals: 0,
         },
-        Prepared::Ready(regions, rows) => {
+        Ok(Ready { regions, rows }) => {
             let columns = width as usize;
             let needed = height as usize * columns;
             let mut removed = [false; 256];

@@ -9,7 +9,7 @@ ghost use Rattle.topology.specs.Rest.{rest_answer, RestRanOver, Stands, Underway
 
 use crate::marks::mark_removed;
 use crate::records::{fill, renew};
-use call_partition::Prepared;
+use call_partition::Ready;
 use checks::limits::NUMBERS_PER_BOUNDARY;
 use context::Region;
 use rest_lists::begin::begin_rest;
@@ -332,12 +332,12 @@ pub fn topology_run_to_rest(
         &mut kept_boundaries,
     );
     match prepared {
-        Prepared::Refused(number, place) => RestAnswer {
-            number,
-            value: place as u64,
+        Err(refusal) => RestAnswer {
+            number: refusal.cause.number(),
+            value: refusal.place as u64,
             rounds: 0,
         },
-        Prepared::Ready(regions, rows) => {
+        Ok(Ready { regions, rows }) => {
             let columns = width as usize;
             let lines = height as usize;
             let first = Standing {

@@ -2,6 +2,7 @@
 // the shared lists as they are on success, and leaves them so.
 ghost use Rattle.std.specs.Prelude.{◌≡◌, ◌≤◌};
 ghost use Rattle.definitions.specs.Limits.{max_side};
+ghost use Rattle.refusals.specs.Refusals.{number_of};
 ghost use Rattle.desks.specs.Desks.{own_refusal, answer_from};
 ghost use Rattle.topology.specs.Contract.{exported};
 ghost use Rattle.topology.specs.Desks.{desk_of, Ground, Terrain, DeskRan, DesksRan, RanBothOver};
@@ -9,14 +10,14 @@ ghost use Rattle.topology.specs.Desks.{desk_of, Ground, Terrain, DeskRan, DesksR
 use crate::TopologyAnswer;
 use crate::marks::mark_removed;
 use crate::records::fill;
-use areas::checked::Check;
-use call_partition::Prepared;
+use call_partition::Ready;
 use call_partition::scratch::clear_scratch;
 use checks::limits::{NUMBERS_PER_BOUNDARY, NUMBERS_PER_SPAN};
 use context::Region;
 use desk_checks::own::check_desk;
 use desk_checks::shared::prepare_shared;
 use pass_lists::finish;
+use refusals::Refusal;
 
 // The answer to each desk.
 #[repr(C)]
@@ -36,15 +37,15 @@ fn both(first: TopologyAnswer, second: TopologyAnswer) -> DesksAnswer
 }
 
 // "a refusal over the shared lists comes first and goes to both"
-fn refused_both(number: u64, place: usize) -> DesksAnswer
+fn refused_both(refusal: Refusal) -> DesksAnswer
     ensures { result ≡ record {
-      route = record { number = number; value = place };
-      coaching = record { number = number; value = place };
+      route = record { number = number_of refusal.cause; value = refusal.place };
+      coaching = record { number = number_of refusal.cause; value = refusal.place };
     } }
 {
     let answer = TopologyAnswer {
-        number,
-        value: place as u64,
+        number: refusal.cause.number(),
+        value: refusal.place as u64,
     };
     both(answer, answer)
 }
@@ -64,11 +65,11 @@ fn own_answer(
         ≡ answer_from (own_refusal width height spans.now pass boundaries.now anchors.now output) 0 }
 {
     match check_desk(pass, width, height, spans, boundaries, anchors, output) {
-        Check::Refused(number, place) => TopologyAnswer {
-            number,
-            value: place as u64,
+        Err(refusal) => TopologyAnswer {
+            number: refusal.cause.number(),
+            value: refusal.place as u64,
         },
-        Check::Fit => TopologyAnswer {
+        Ok(()) => TopologyAnswer {
             number: 0,
             value: 0,
         },
@@ -301,8 +302,8 @@ pub fn topology_two_desks(
         width, height, cells, spans, room, labels, masks, queue, tallies, pairs,
     );
     match prepared {
-        Prepared::Refused(number, place) => refused_both(number, place),
-        Prepared::Ready(regions, rows) => {
+        Err(refusal) => refused_both(refusal),
+        Ok(Ready { regions, rows }) => {
             let columns = width as usize;
             fill(records, regions, columns, cells, labels, queue);
             clear_scratch(masks, queue, height as usize * columns);

@@ -3,26 +3,26 @@ use Rattle.std.proofs.Common.{refl}
 use Rattle.topology.proofs.Playing.{game_ready, refused_over, runs-ready, rows_fit, played-over}
 use Rattle.topology.proofs.games.topology_runner_and_guard.Goals as goal
 
-pub returns-in-Refused : goal.returns-in-Refused
-returns-in-Refused c =
-    refused_over c.args.goal c.args.records.now c.args.output.now c.args.verdicts.now c.prepare_game-prepared.ensures c.in-Refused.is refl refl refl c.refused.ensures
+pub returns-in-Err : goal.returns-in-Err
+returns-in-Err c =
+    refused_over c.args.goal c.args.records.now c.args.output.now c.args.verdicts.now c.prepare_game-prepared.ensures c.in-Err.is refl refl refl c.refused.ensures
 
 pub run_kept-second-requires : goal.run_kept-second-requires
 run_kept-second-requires c =
-    let G = game_ready c.prepare_game-prepared.ensures c.in-Ready.is in
+    let G = game_ready c.prepare_game-prepared.ensures c.in-Ok.is in
     let size = c.prepare_game-prepared.auto in
     (_, runs-ready G c.args.records.now c.args.output.now refl refl size.labels size.masks size.queue size.tallies size.pairs)
 
 pub play-requires : goal.play-requires
 play-requires c =
-    let G = game_ready c.prepare_game-prepared.ensures c.in-Ready.is in
+    let G = game_ready c.prepare_game-prepared.ensures c.in-Ok.is in
     let size = c.prepare_game-prepared.auto in
     let runs = runs-ready G c.args.records.now c.args.output.now refl refl size.labels size.masks size.queue size.tallies size.pairs in
     (rows_fit G (c.run_kept-second.ensures _ runs), G.enough)
 
-pub returns-in-Ready : goal.returns-in-Ready
-returns-in-Ready c =
-    let G = game_ready c.prepare_game-prepared.ensures c.in-Ready.is in
+pub returns-in-Ok : goal.returns-in-Ok
+returns-in-Ok c =
+    let G = game_ready c.prepare_game-prepared.ensures c.in-Ok.is in
     let size = c.prepare_game-prepared.auto in
     let runs = runs-ready G c.args.records.now c.args.output.now refl refl size.labels size.masks size.queue size.tallies size.pairs in
     played-over G (c.run_kept-second.ensures _ runs) c.args.goal c.args.verdicts.now refl refl refl c.play.ensures.answer c.play.ensures.verdicts

@@ -4,22 +4,22 @@ use Rattle.topology.proofs.Calling.{needed-few}
 use Rattle.topology.proofs.RestCall.{begun_when, refused_over, begun_fills, stands_first, rest-scratch, rest-room, rest_over}
 use Rattle.topology.proofs.to_rest.topology_run_to_rest.Goals as goal
 
-pub returns-in-Refused : goal.returns-in-Refused
-returns-in-Refused c = refused_over _ _ _ c.begin_rest-prepared.ensures c.in-Refused.is
+pub returns-in-Err : goal.returns-in-Err
+returns-in-Err c = rw c.number.ensures (refused_over _ _ _ c.begin_rest-prepared.ensures c.in-Err.is)
 
 pub fill-requires : goal.fill-requires
-fill-requires c = (_, begun_fills (begun_when c.begin_rest-prepared.ensures c.in-Ready.is) c.begin_rest-prepared.auto.queue)
+fill-requires c = (_, begun_fills (begun_when c.begin_rest-prepared.ensures c.in-Ok.is) c.begin_rest-prepared.auto.queue)
 
 pub run_turns-answer-requires : goal.run_turns-answer-requires
 run_turns-answer-requires c =
-    let begun = begun_when c.begin_rest-prepared.ensures c.in-Ready.is in
+    let begun = begun_when c.begin_rest-prepared.ensures c.in-Ok.is in
     let size = c.begin_rest-prepared.auto in
     let fills = begun_fills begun size.queue in
     (_, _, stands_first begun c.args.output.now refl refl (c.fill.ensures _ fills) c.fill.auto.records size.labels size.masks size.queue size.tallies size.pairs)
 
 pub overflow_mul-lines : goal.overflow_mul-lines
 overflow_mul-lines c =
-    let begun = begun_when c.begin_rest-prepared.ensures c.in-Ready.is in
+    let begun = begun_when c.begin_rest-prepared.ensures c.in-Ok.is in
     let size = c.begin_rest-prepared.auto in
     let fills = begun_fills begun size.queue in
     let T = stands_first begun c.args.output.now refl refl (c.fill.ensures _ fills) c.fill.auto.records size.labels size.masks size.queue size.tallies size.pairs in
@@ -27,7 +27,7 @@ overflow_mul-lines c =
 
 pub finish_rest-requires-clause-scratch : goal.finish_rest-requires-clause-scratch
 finish_rest-requires-clause-scratch c =
-    let begun = begun_when c.begin_rest-prepared.ensures c.in-Ready.is in
+    let begun = begun_when c.begin_rest-prepared.ensures c.in-Ok.is in
     let size = c.begin_rest-prepared.auto in
     let fills = begun_fills begun size.queue in
     let T = stands_first begun c.args.output.now refl refl (c.fill.ensures _ fills) c.fill.auto.records size.labels size.masks size.queue size.tallies size.pairs in
@@ -35,15 +35,15 @@ finish_rest-requires-clause-scratch c =
 
 pub finish_rest-requires-clause-room : goal.finish_rest-requires-clause-room
 finish_rest-requires-clause-room c =
-    let begun = begun_when c.begin_rest-prepared.ensures c.in-Ready.is in
+    let begun = begun_when c.begin_rest-prepared.ensures c.in-Ok.is in
     let size = c.begin_rest-prepared.auto in
     let fills = begun_fills begun size.queue in
     let T = stands_first begun c.args.output.now refl refl (c.fill.ensures _ fills) c.fill.auto.records size.labels size.masks size.queue size.tallies size.pairs in
     rest-room (c.run_turns-answer.ensures _ _ T)
 
-pub returns-in-Ready : goal.returns-in-Ready
-returns-in-Ready c =
-    let begun = begun_when c.begin_rest-prepared.ensures c.in-Ready.is in
+pub returns-in-Ok : goal.returns-in-Ok
+returns-in-Ok c =
+    let begun = begun_when c.begin_rest-prepared.ensures c.in-Ok.is in
     let size = c.begin_rest-prepared.auto in
     let fills = begun_fills begun size.queue in
     let T = stands_first begun c.args.output.now refl refl (c.fill.ensures _ fills) c.fill.auto.records size.labels size.masks size.queue size.tallies size.pairs in
