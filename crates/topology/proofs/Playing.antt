@@ -3,7 +3,7 @@
 use Prim.Native.Nat.{ℕ, ◌*◌, ◌≤◌}
 use native.Mathlib.Omega.{arith}
 use mathlib.Core.Path.{◌≡◌, refl, sym, ap, ap₂, subst, ◌∙◌}
-use Rattle.std.specs.Prelude.{None}
+use Rattle.std.specs.Prelude.{None, Result, Ok, Err}
 use mathlib.Core.List.{List, map}
 use lib.ListN.{length, drop, length-append, length-map}
 use Rattle.definitions.specs.Lists.{zeroed}
@@ -15,7 +15,6 @@ use Rattle.definitions.specs.Verdict.{pair_rows_of}
 use Rattle.definitions.specs.AtExit.{complete}
 use Rattle.context.specs.declared.Region.{Region}
 use Rattle.context.specs.Records.{record_of}
-use Rattle.std.specs.Prelude.{Result, Ok, Err}
 use Rattle.refusals.specs.declared.Refusal as code
 use Rattle.refusals.specs.Refusals.{number_of}
 use Rattle.call_partition.specs.declared.Ready.{Ready}

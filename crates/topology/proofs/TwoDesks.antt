@@ -4,7 +4,7 @@ use Prim.Native.Nat.{ℕ, ◌*◌, ◌/◌, ◌≤◌}
 use native.Mathlib.Omega.{arith}
 use mathlib.Core.Path.{◌≡◌, refl, sym, ap, ap₂, ◌∙◌, subst}
 use mathlib.Core.Bool.{Bool, false}
-use Rattle.std.specs.Prelude.{None, Some}
+use Rattle.std.specs.Prelude.{None, Some, Result, Ok, Err}
 use mathlib.Core.List.{List, [], map}
 use lib.ListN.{length, drop, replicate, length-map}
 use Rattle.definitions.specs.Limits.{max_side, max_entries, numbers_per_span, numbers_per_boundary}
@@ -21,7 +21,6 @@ use Rattle.laws.specs.FloatLaws.MapPixels.{side-bounds}
 use Rattle.context.specs.declared.Region.{Region}
 use Rattle.context.specs.Records.{record_of, max_cells}
 use Rattle.areas.proofs.Labelling.{zeroed_rest, zeroed-again}
-use Rattle.std.specs.Prelude.{Result, Ok, Err}
 use Rattle.refusals.specs.declared.Refusal as code
 use Rattle.refusals.specs.Refusals.{number_of}
 use Rattle.call_partition.specs.declared.Ready.{Ready}
