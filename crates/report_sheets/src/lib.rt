@@ -75,12 +75,12 @@ fn add_call(
         &mut output,
         &mut numbers,
     ) {
-        topology::Answer::Kept(kept) => answered(report, pass, 0, kept as u64, count, &output),
-        topology::Answer::Refused(number, place) => answered(
+        Ok(kept) => answered(report, pass, 0, kept as u64, count, &output),
+        Err(refused) => answered(
             report,
             pass,
-            number,
-            place as u64,
+            refused.number,
+            refused.place as u64,
             count,
             &output,
         ),

@@ -116,10 +116,10 @@ fn answer(
         &mut output,
         &mut numbers,
     ) {
-        topology::Answer::Kept(kept) => print(0, kept as u64, &output, count, &mut *out),
-        topology::Answer::Refused(number, place) => print(
-            number,
-            place as u64,
+        Ok(kept) => print(0, kept as u64, &output, count, &mut *out),
+        Err(refused) => print(
+            refused.number,
+            refused.place as u64,
             &output,
             count,
             &mut *out,

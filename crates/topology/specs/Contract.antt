@@ -1,20 +1,19 @@
 -- The contract of the call that runs a pass, over the lent records as they are declared, and what an answer stands for. Definitions only; assumes nothing.
-use Rattle.std.specs.Prelude.{ℕ, zero, suc, min, ◌≡◌, List, map, drop, replicate}
+use Rattle.std.specs.Prelude.{ℕ, zero, suc, min, ◌≡◌, List, map, drop, replicate, Result, Ok, Err}
 use Rattle.definitions.specs.Partition.{region_count}
 use Rattle.definitions.specs.RegionRecord.{empty_region}
 use Rattle.definitions.specs.RegionRecord as def
 use Rattle.definitions.specs.Verdict as verdict
 use Rattle.context.specs.Records.{record_of}
 use Rattle.call_partition.specs.Contract.{Ran}
-use Rattle.topology.specs.declared.Answer.{Answer}
-use Rattle.topology.specs.declared.Answer.TheVariants.{Kept, Refused}
+use Rattle.topology.specs.declared.Refused.{Refused}
 use Rattle.topology.specs.declared.TopologyAnswer.{TopologyAnswer}
 use Rattle.topology.specs.Numbers.{with_records}
 use Rattle.topology.specs.Lent.{LentLists, LeftLists, lent_map, lent_call}
 
-abbrev pub answer_of : Answer → verdict.Answer
-answer_of (Kept rows) = record { number = 0; value = rows }
-answer_of (Refused number place) = record { number = number; value = place }
+abbrev pub answer_of : Result ℕ Refused → verdict.Answer
+answer_of (Ok rows) = record { number = 0; value = rows }
+answer_of (Err r) = record { number = r.number; value = r.place }
 
 -- as the exported call gives it
 abbrev pub exported : TopologyAnswer → verdict.Answer

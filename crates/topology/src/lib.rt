@@ -35,21 +35,24 @@ pub struct TopologyAnswer {
     pub value: u64,
 }
 
-// The same by cases.
-#[derive(Clone, Copy)]
-pub enum Answer {
-    Kept(usize),
-    Refused(u64, usize),
+// A refusal as its number and place: what C's struct holds may be any number, so that it names no cause.
+#[derive(Clone, Copy, Debug, PartialEq, Eq)]
+pub struct Refused {
+    pub number: u64,
+    pub place: usize,
 }
 
-// For callers in Rattle.
-pub fn answer_of(a: TopologyAnswer) -> Answer
+// How many rows are kept, or the refusal: for callers in Rattle.
+pub fn answer_of(a: TopologyAnswer) -> Result<usize, Refused>
     ensures { answer_of result ≡ exported a }
 {
     if a.number == 0 {
-        return Answer::Kept(a.value as usize);
+        return Ok(a.value as usize);
     }
-    Answer::Refused(a.number, a.value as usize)
+    Err(Refused {
+        number: a.number,
+        place: a.value as usize,
+    })
 }
 
 // The call that runs a pass (SPECIFICATION 3), for callers in any language: `jenwyllt_c` exports it.

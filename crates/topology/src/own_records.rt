@@ -5,7 +5,7 @@ ghost use Rattle.context.specs.Records.{record_of};
 ghost use Rattle.topology.specs.Contract.{answer_of, records_here, RanHere};
 
 use crate::numbers::{RECORDS_HERE, put_records};
-use crate::{Answer, answer_of, topology_kept_boundaries};
+use crate::{Refused, answer_of, topology_kept_boundaries};
 use context::Region;
 use plain_numbers::least;
 
@@ -33,7 +33,7 @@ pub fn kept_boundaries_here(
     room: usize,
     output: &mut [u64],
     numbers: &mut [u64],
-) -> Answer
+) -> Result<usize, Refused>
     ensures { RanHere pass
         (record {
           width = width;

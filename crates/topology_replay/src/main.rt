@@ -49,11 +49,16 @@ fn run<W: Write>(
         numbers,
     );
     match answer {
-        topology::Answer::Kept(rows) => write_partition(
-            out, 0, rows, labels, masks, queue, tallies, pairs,
-        )?,
-        topology::Answer::Refused(number, place) => write_partition(
-            out, number, place, labels, masks, queue, tallies, pairs,
+        Ok(rows) => write_partition(out, 0, rows, labels, masks, queue, tallies, pairs)?,
+        Err(refused) => write_partition(
+            out,
+            refused.number,
+            refused.place,
+            labels,
+            masks,
+            queue,
+            tallies,
+            pairs,
         )?,
     };
     write_wide_numbers(out, b"records ", numbers)?;

@@ -5,16 +5,16 @@ use Rattle.report_sheets.proofs.add_call.Goals as goal
 
 pub answered-requires : goal.answered-requires
 answered-requires c =
-    called-left c.in-Kept.is c.kept_boundaries_here.ensures.ran
+    called-left c.in-Ok.is c.kept_boundaries_here.ensures.ran
 
-pub answered-requires-in-Refused : goal.answered-requires-in-Refused
-answered-requires-in-Refused c =
-    called-left c.in-Refused.is c.kept_boundaries_here.ensures.ran
+pub answered-requires-in-Err : goal.answered-requires-in-Err
+answered-requires-in-Err c =
+    called-left c.in-Err.is c.kept_boundaries_here.ensures.ran
 
-pub returns-in-Kept : goal.returns-in-Kept
-returns-in-Kept c =
-    called c.in-Kept.is c.kept_boundaries_here.ensures.ran _ refl c.answered.ensures
+pub returns-in-Ok : goal.returns-in-Ok
+returns-in-Ok c =
+    called c.in-Ok.is c.kept_boundaries_here.ensures.ran _ refl c.answered.ensures
 
-pub returns-in-Refused : goal.returns-in-Refused
-returns-in-Refused c =
-    called c.in-Refused.is c.kept_boundaries_here.ensures.ran _ refl c.answered-in-Refused.ensures
+pub returns-in-Err : goal.returns-in-Err
+returns-in-Err c =
+    called c.in-Err.is c.kept_boundaries_here.ensures.ran _ refl c.answered-in-Err.ensures
