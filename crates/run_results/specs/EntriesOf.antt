@@ -8,7 +8,7 @@ use Rattle.definitions.specs.Sort.{list_lt}
 use Rattle.laws.specs.ListLaws.Lists.{All, done, more}
 use Rattle.results.specs.Result.{Entry, ascent_fault}
 use Rattle.results.specs.ResultAnswers.{chunks, entries_in}
-use Rattle.run_results.specs.Rises.{Rises, None, next}
+use Rattle.run_results.specs.Rises.{Rises}
 
 -- an entry as the writer has it, at no place
 abbrev pub unplaced : List ℕ → Entry
