@@ -165,7 +165,7 @@ pub widths_by_total_order : (x y : Boundary) → width_fits x.width_bits ≡ tru
 widths_by_total_order = widths.key_by_total_order
 
 -- labels, tallies and pairs of an accepted partition alone are the Rust's
-pub partition_alone : {L : Lent} {r : Result ℕ refusals.Refusal} {l m q t p : List ℕ} → alone.Ran L r l m q t p → (answer_of r).number ≡ 0
+pub partition_alone : {L : Lent} {r : prelude.Result ℕ refusals.Refusal} {l m q t p : List ℕ} → alone.Ran L r l m q t p → (answer_of r).number ≡ 0
     → AsRust L (partition_by_spans (map_in L)) l t p
 partition_alone = partitions.partition_alone
 
