@@ -1,15 +1,12 @@
-// Replays stored cases of the partition. Standard input is one case after the other: the numbers that `replay_lists` names, and a sheet, which gives the cells and
-// the spans. Of each case it writes the answer and what the lists hold.
+// Replays stored cases of the partition. Standard input is one case after the other: the numbers of an `Opening`, and a sheet, which gives the cells and the spans.
+// Of each case it writes the answer and what the lists hold.
 
 #![tactic(auto)]
 
 ghost use Rattle.std.specs.Prelude.{◌≤◌, length};
 
 use areas::partition;
-use replay_lists::{
-    CASES, CELLS, HEIGHT, LABELS, MASKS, OPENING, PAIRS, QUEUE, SPANS, TALLIES, WIDTH,
-    masks_before, number, number_within, numbers_before, read_bytes, read_opening, write_partition,
-};
+use replay_lists::{CASES, Opening, length_within, masks_before, numbers_before, write_partition};
 use sheet::read_sheet;
 use std::io;
 use std::io::{Read, Write};
@@ -30,39 +27,31 @@ fn run<W: Write>(
     let answer = partition(
         width, height, cells, spans, labels, masks, queue, tallies, pairs,
     );
-    match answer {
-        Ok(count) => write_partition(out, 0, count, labels, masks, queue, tallies, pairs)?,
-        Err(refusal) => write_partition(
-            out,
-            refusal.cause.number(),
-            refusal.place,
-            labels,
-            masks,
-            queue,
-            tallies,
-            pairs,
-        )?,
+    let (number, value) = match answer {
+        Ok(count) => (0, count),
+        Err(refusal) => (refusal.cause.number(), refusal.place),
     };
+    write_partition(out, number, value, labels, masks, queue, tallies, pairs)?;
     Ok(())
 }
 
-fn lend<W: Write>(out: &mut W, opening: &[u8; 30], cells: &[u8], spans: &[u64]) -> io::Result<()> {
+fn lend<W: Write>(out: &mut W, opening: &Opening, cells: &[u8], spans: &[u64]) -> io::Result<()> {
     let mut labels = numbers_before();
     let mut masks = masks_before();
     let mut queue = numbers_before();
     let mut tallies = numbers_before();
     let mut pairs = numbers_before();
-    let cells_end = number_within(opening, CELLS, cells.len());
-    let spans_end = number_within(opening, SPANS, spans.len());
-    let labels_end = number_within(opening, LABELS, 4096);
-    let masks_end = number_within(opening, MASKS, 4096);
-    let queue_end = number_within(opening, QUEUE, 4096);
-    let tallies_end = number_within(opening, TALLIES, 4096);
-    let pairs_end = number_within(opening, PAIRS, 4096);
+    let cells_end = length_within(opening.cells, cells.len());
+    let spans_end = length_within(opening.spans, spans.len());
+    let labels_end = length_within(opening.labels, 4096);
+    let masks_end = length_within(opening.masks, 4096);
+    let queue_end = length_within(opening.queue, 4096);
+    let tallies_end = length_within(opening.tallies, 4096);
+    let pairs_end = length_within(opening.pairs, 4096);
     run(
         out,
-        number(opening, WIDTH) as u64,
-        number(opening, HEIGHT) as u64,
+        u64::from(opening.width),
+        u64::from(opening.height),
         &cells[0..cells_end],
         &spans[0..spans_end],
         &mut labels[0..labels_end],
@@ -73,7 +62,7 @@ fn lend<W: Write>(out: &mut W, opening: &[u8; 30], cells: &[u8], spans: &[u64]) 
     )
 }
 
-fn replay<W: Write>(out: &mut W, opening: &[u8; 30], bytes: &[u8]) -> io::Result<()> {
+fn replay<W: Write>(out: &mut W, opening: &Opening, bytes: &[u8]) -> io::Result<()> {
     let mut cells = [0u8; 4097];
     let mut spans = [0u64; 1028];
     let mut boundaries = [0u64; 2304];
@@ -89,11 +78,10 @@ fn replay<W: Write>(out: &mut W, opening: &[u8; 30], bytes: &[u8]) -> io::Result
 fn replay_next<R: Read, W: Write>(input: &mut R, out: &mut W, buffer: &mut [u8]) -> io::Result<bool>
     requires { 65536 ≤ length buffer.old }
 {
-    let mut opening = [0u8; 30];
-    if read_opening(input, &mut opening)? < OPENING {
+    let Some(opening) = Opening::read(input)? else {
         return Ok(false);
-    }
-    let size = read_bytes(input, &opening, &mut *buffer)?;
+    };
+    let size = opening.read_sheet(input, &mut *buffer)?;
     replay(out, &opening, &buffer[0..size])?;
     Ok(true)
 }

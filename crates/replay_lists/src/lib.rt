@@ -162,73 +162,83 @@ fn write_cleared_queue<W: Write>(output: &mut W, queue: &[u32]) -> io::Result<()
 
 // ---- what a case begins with
 
-// Fifteen numbers of two bytes each, the lesser byte first, stand before a case's sheet: pass, width and height; how many cells, and how many numbers of spans,
-// boundaries and anchors are passed on; the lengths of the lists that are lent (labels, masks, queue, tallies, pairs, records, output); the length of the sheet.
-pub const PASS: usize = 0;
+// Fifteen numbers of two bytes each, the lesser byte first, stand before a case's sheet.
+const OPENING: usize = 30;
 
-pub const WIDTH: usize = 1;
-
-pub const HEIGHT: usize = 2;
-
-pub const CELLS: usize = 3;
-
-pub const SPANS: usize = 4;
-
-pub const BOUNDARIES: usize = 5;
-
-pub const ANCHORS: usize = 6;
-
-pub const LABELS: usize = 7;
-
-pub const MASKS: usize = 8;
-
-pub const QUEUE: usize = 9;
-
-pub const TALLIES: usize = 10;
-
-pub const PAIRS: usize = 11;
-
-pub const RECORDS: usize = 12;
-
-pub const OUTPUT: usize = 13;
-
-const SHEET: usize = 14;
-
-// The bytes of an opening.
-pub const OPENING: usize = 30;
+// These numbers, in this order.
+#[derive(Clone, Copy)]
+pub struct Opening {
+    pub pass: u16,
+    pub width: u16,
+    pub height: u16,
+    // How many cells, and how many numbers of spans, boundaries and anchors are passed on.
+    pub cells: u16,
+    pub spans: u16,
+    pub boundaries: u16,
+    pub anchors: u16,
+    // The lengths of the lists that are lent.
+    pub labels: u16,
+    pub masks: u16,
+    pub queue: u16,
+    pub tallies: u16,
+    pub pairs: u16,
+    pub records: u16,
+    pub output: u16,
+    // How many bytes the sheet has.
+    sheet: u16,
+}
 
 // Number k of an opening.
-pub fn number(opening: &[u8; 30], k: usize) -> usize
+fn number(opening: &[u8; 30], k: usize) -> u16
     requires { k < 15 }
-    ensures { result < 65536 }
 {
-    usize::from(opening[2 * k]) + 256 * usize::from(opening[2 * k + 1])
+    u16::from_le_bytes([opening[2 * k], opening[2 * k + 1]])
 }
 
-// Number k of an opening as the length of a list; the list has no more than `most` entries.
-pub fn number_within(opening: &[u8; 30], k: usize, most: usize) -> usize
-    requires { k < 15 }
+// A number of an opening as the length of a list; the list has no more than `most` entries.
+pub fn length_within(asked: u16, most: usize) -> usize
     ensures { result ≤ most }
 {
-    number(opening, k).min(most)
+    usize::from(asked).min(most)
 }
 
-// Reads the numbers of the next case, and answers how many bytes there were; fewer than 30 where there is none.
-pub fn read_opening<R: Read>(input: &mut R, opening: &mut [u8; 30]) -> io::Result<usize>
-    ensures { IfOk result (λ n. n ≤ 30) }
-{
-    read_full(input, &mut *opening)
+impl From<[u8; 30]> for Opening {
+    fn from(bytes: [u8; 30]) -> Opening {
+        Opening {
+            pass: number(&bytes, 0),
+            width: number(&bytes, 1),
+            height: number(&bytes, 2),
+            cells: number(&bytes, 3),
+            spans: number(&bytes, 4),
+            boundaries: number(&bytes, 5),
+            anchors: number(&bytes, 6),
+            labels: number(&bytes, 7),
+            masks: number(&bytes, 8),
+            queue: number(&bytes, 9),
+            tallies: number(&bytes, 10),
+            pairs: number(&bytes, 11),
+            records: number(&bytes, 12),
+            output: number(&bytes, 13),
+            sheet: number(&bytes, 14),
+        }
+    }
 }
 
-// Reads the sheet behind an opening, and answers how many bytes it has.
-pub fn read_bytes<R: Read>(
-    input: &mut R,
-    opening: &[u8; 30],
-    buffer: &mut [u8],
-) -> io::Result<usize>
-    requires { 65536 ≤ length buffer.old }
-    ensures { IfOk result (λ n. n ≤ length buffer.new) }
-{
-    let size = number(opening, SHEET);
-    read_full(input, &mut buffer[0..size])
+impl Opening {
+    // Reads what the next case begins with; none where the input ends before.
+    pub fn read<R: Read>(input: &mut R) -> io::Result<Option<Opening>> {
+        let mut bytes = [0u8; 30];
+        if read_full(input, &mut bytes)? < OPENING {
+            return Ok(None);
+        }
+        Ok(Some(Opening::from(bytes)))
+    }
+
+    // Reads the sheet behind it, and answers how many bytes there were.
+    pub fn read_sheet<R: Read>(&self, input: &mut R, buffer: &mut [u8]) -> io::Result<usize>
+        requires { 65536 ≤ length buffer.old }
+        ensures { IfOk result (λ n. n ≤ length buffer.new) }
+    {
+        read_full(input, &mut buffer[..usize::from(self.sheet)])
+    }
 }

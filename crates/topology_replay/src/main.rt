@@ -1,14 +1,13 @@
-// Replays stored cases of the call that runs a pass. Standard input is one case after the other: the numbers that `replay_lists` names, and a sheet, which gives
-// the cells, the spans, the boundaries and the anchors. Of each case it writes the answer and what the lists hold; the records as numbers, eleven each.
+// Replays stored cases of the call that runs a pass. Standard input is one case after the other: the numbers of an `Opening`, and a sheet, which gives the cells,
+// the spans, the boundaries and the anchors. Of each case it writes the answer and what the lists hold; the records as numbers, eleven each.
 
 #![tactic(auto)]
 
 ghost use Rattle.std.specs.Prelude.{◌≤◌, length};
 
 use replay_lists::{
-    ANCHORS, BOUNDARIES, CASES, CELLS, HEIGHT, LABELS, MASKS, OPENING, OUTPUT, PAIRS, PASS, QUEUE,
-    RECORDS, SPANS, TALLIES, WIDTH, masks_before, number, number_within, numbers_before,
-    read_bytes, read_opening, wide_numbers_before, write_partition, write_wide_numbers,
+    CASES, Opening, length_within, masks_before, numbers_before, wide_numbers_before,
+    write_partition, write_wide_numbers,
 };
 use std::io;
 use std::io::{Read, Write};
@@ -18,7 +17,7 @@ use topology::own_records::kept_boundaries_here;
 // Records are lent within the call, as many as the opening says, and written in `numbers`.
 fn run<W: Write>(
     out: &mut W,
-    opening: &[u8; 30],
+    opening: &Opening,
     cells: &[u8],
     spans: &[u64],
     boundaries: &[u64],
@@ -32,9 +31,9 @@ fn run<W: Write>(
     numbers: &mut [u64],
 ) -> io::Result<()> {
     let answer = kept_boundaries_here(
-        number(opening, PASS) as u64,
-        number(opening, WIDTH) as u64,
-        number(opening, HEIGHT) as u64,
+        u64::from(opening.pass),
+        u64::from(opening.width),
+        u64::from(opening.height),
         cells,
         spans,
         boundaries,
@@ -44,23 +43,15 @@ fn run<W: Write>(
         queue,
         tallies,
         pairs,
-        number_within(opening, RECORDS, 512),
+        length_within(opening.records, 512),
         output,
         numbers,
     );
-    match answer {
-        Ok(rows) => write_partition(out, 0, rows, labels, masks, queue, tallies, pairs)?,
-        Err(refused) => write_partition(
-            out,
-            refused.number,
-            refused.place,
-            labels,
-            masks,
-            queue,
-            tallies,
-            pairs,
-        )?,
+    let (number, value) = match answer {
+        Ok(rows) => (0, rows),
+        Err(refused) => (refused.number, refused.place),
     };
+    write_partition(out, number, value, labels, masks, queue, tallies, pairs)?;
     write_wide_numbers(out, b"records ", numbers)?;
     write_wide_numbers(out, b"output ", output)?;
     Ok(())
@@ -69,7 +60,7 @@ fn run<W: Write>(
 // Lends what the opening says to the call.
 fn lend<W: Write>(
     out: &mut W,
-    opening: &[u8; 30],
+    opening: &Opening,
     cells: &[u8],
     spans: &[u64],
     boundaries: &[u64],
@@ -82,12 +73,12 @@ fn lend<W: Write>(
     let mut pairs = numbers_before();
     let mut output = wide_numbers_before();
     let mut numbers = wide_numbers_before();
-    let labels_end = number_within(opening, LABELS, 4096);
-    let masks_end = number_within(opening, MASKS, 4096);
-    let queue_end = number_within(opening, QUEUE, 4096);
-    let tallies_end = number_within(opening, TALLIES, 4096);
-    let pairs_end = number_within(opening, PAIRS, 4096);
-    let output_end = number_within(opening, OUTPUT, 4096);
+    let labels_end = length_within(opening.labels, 4096);
+    let masks_end = length_within(opening.masks, 4096);
+    let queue_end = length_within(opening.queue, 4096);
+    let tallies_end = length_within(opening.tallies, 4096);
+    let pairs_end = length_within(opening.pairs, 4096);
+    let output_end = length_within(opening.output, 4096);
     run(
         out,
         opening,
@@ -108,16 +99,16 @@ fn lend<W: Write>(
 // Passes on as much of the sheet's lists as the opening says.
 fn pass_on<W: Write>(
     out: &mut W,
-    opening: &[u8; 30],
+    opening: &Opening,
     cells: &[u8],
     spans: &[u64],
     boundaries: &[u64],
     anchors: &[u64],
 ) -> io::Result<()> {
-    let cells_end = number_within(opening, CELLS, cells.len());
-    let spans_end = number_within(opening, SPANS, spans.len());
-    let boundaries_end = number_within(opening, BOUNDARIES, boundaries.len());
-    let anchors_end = number_within(opening, ANCHORS, anchors.len());
+    let cells_end = length_within(opening.cells, cells.len());
+    let spans_end = length_within(opening.spans, spans.len());
+    let boundaries_end = length_within(opening.boundaries, boundaries.len());
+    let anchors_end = length_within(opening.anchors, anchors.len());
     lend(
         out,
         opening,
@@ -128,7 +119,7 @@ fn pass_on<W: Write>(
     )
 }
 
-fn replay<W: Write>(out: &mut W, opening: &[u8; 30], bytes: &[u8]) -> io::Result<()> {
+fn replay<W: Write>(out: &mut W, opening: &Opening, bytes: &[u8]) -> io::Result<()> {
     let mut cells = [0u8; 4097];
     let mut spans = [0u64; 1028];
     let mut boundaries = [0u64; 2313];
@@ -144,11 +135,10 @@ fn replay<W: Write>(out: &mut W, opening: &[u8; 30], bytes: &[u8]) -> io::Result
 fn replay_next<R: Read, W: Write>(input: &mut R, out: &mut W, buffer: &mut [u8]) -> io::Result<bool>
     requires { 65536 ≤ length buffer.old }
 {
-    let mut opening = [0u8; 30];
-    if read_opening(input, &mut opening)? < OPENING {
+    let Some(opening) = Opening::read(input)? else {
         return Ok(false);
-    }
-    let size = read_bytes(input, &opening, &mut *buffer)?;
+    };
+    let size = opening.read_sheet(input, &mut *buffer)?;
     replay(out, &opening, &buffer[0..size])?;
     Ok(true)
 }
