@@ -3,7 +3,7 @@
 
 #![tactic(auto)]
 
-ghost use Rattle.std.specs.Prelude.{◌≡◌, ◌+◌, ◌-◌, ◌*◌, ◌<◌, ◌≤◌, ◌^◌, [], length, IfOk};
+ghost use Rattle.std.specs.Prelude.{◌≡◌, ◌+◌, ◌-◌, ◌*◌, ◌<◌, ◌≤◌, ◌^◌, [], length, IfOk, IfSome};
 ghost use Rattle.std.specs.Float.{binary64};
 ghost use Rattle.std.specs.Float.Ieee.{of_bits};
 ghost use Rattle.definitions.specs.Scan.{bit};
@@ -61,7 +61,8 @@ fn double(bits: u64) -> f64
     f64::from_bits(bits)
 }
 
-#[derive(Clone, Copy)]
+// An answer as it is stored.
+#[derive(Clone, Copy, PartialEq, Eq)]
 struct Stored {
     number: u64,
     root: u64,
@@ -88,28 +89,23 @@ fn is_answer_line(s: &[u8]) -> bool
     ensures { result ≡ is_answer_line s.now }
 {
     let n = s.len();
-    if n < SHORTEST_LINE {
-        return false;
-    }
-    if n > LONGEST_LINE {
+    if n < SHORTEST_LINE || n > LONGEST_LINE {
         return false;
     }
     let x = number(&s[0..16], 16);
     let y = number(&s[17..33], 16);
-    let ours = answer_of(x, y);
-    if ours.number == number(&s[34..n - 17], 10) {
-        ours.root == number(&s[n - 16..n], 16)
-    } else {
-        false
-    }
+    let stored = Stored {
+        number: number(&s[34..n - 17], 10),
+        root: number(&s[n - 16..n], 16),
+    };
+    answer_of(x, y) == stored
 }
 
-// How many lines were read, and how many of them have our answer. `used` is the number of bytes up to the last line's end.
+// How many lines were read, and how many of them have our answer.
 #[derive(Clone, Copy)]
 struct Tally {
     lines: u64,
     answers: u64,
-    used: usize,
 }
 
 fn report<W: Write>(output: &mut W, line: u64) -> io::Result<()> {
@@ -130,11 +126,12 @@ fn replay_line<W: Write>(output: &mut W, s: &[u8], lines: u64, answers: u64) -> 
     Ok(0)
 }
 
-// Counts the lines of s on top of those before, and lists the first that have another answer.
-fn replay<W: Write>(output: &mut W, s: &[u8], before: Tally) -> io::Result<Tally>
+// Counts the lines of s on top of those before, and lists the first that have another answer. Answers the counts, and how many bytes there are up to the last line's
+// end.
+fn replay<W: Write>(output: &mut W, s: &[u8], before: Tally) -> io::Result<(Tally, usize)>
     requires { (before.answers ≤ before.lines) × (before.lines + length s.now < 2 ^ 64) }
-    ensures { IfOk result (λ tally. (tally.lines ≡ before.lines + lines_in s.now) × (tally.answers ≡ before.answers + answers_in [] s.now)
-        × (tally.answers ≤ tally.lines) × (tally.lines ≤ before.lines + length s.now) × (tally.used ≤ length s.now)) }
+    ensures { IfOk result (λ r. (r.0.lines ≡ before.lines + lines_in s.now) × (r.0.answers ≡ before.answers + answers_in [] s.now)
+        × (r.0.answers ≤ r.0.lines) × (r.0.lines ≤ before.lines + length s.now) × (r.1 ≤ length s.now)) }
 {
     let mut lines = before.lines;
     let mut answers = before.answers;
@@ -146,11 +143,7 @@ fn replay<W: Write>(output: &mut W, s: &[u8], before: Tally) -> io::Result<Tally
             start = i + 1;
         }
     }
-    Ok(Tally {
-        lines,
-        answers,
-        used: start,
-    })
+    Ok((Tally { lines, answers }, start))
 }
 
 // Moves what is from place a to before place e to the start.
@@ -163,87 +156,68 @@ fn move_down(s: &mut [u8], a: usize, e: usize)
     }
 }
 
-// What is known between two turns of reading: how many bytes of a line that has begun stand at the buffer's start, the counts, and whether more may come.
+// What is known between two turns of reading: the counts, and how many bytes of a line that has begun stand at the buffer's start.
 #[derive(Clone, Copy)]
 struct Turn {
+    tally: Tally,
     held: usize,
-    lines: u64,
-    answers: u64,
-    more: bool,
 }
 
-// Reads once, behind those bytes, and replays the lines that end.
+// Reads once, behind those bytes, and replays the lines that end; none where nothing more came.
 fn replay_some<R: Read, W: Write>(
     input: &mut R,
     output: &mut W,
     buffer: &mut [u8],
     before: Turn,
-) -> io::Result<Turn>
-    requires { (before.held ≤ length buffer.old) × (before.answers ≤ before.lines) × (before.lines + length buffer.old < 2 ^ 64) }
-    ensures { IfOk result (λ turn. (turn.held ≤ length buffer.new) × (turn.answers ≤ turn.lines) × (turn.lines ≤ before.lines + length buffer.new)) }
+) -> io::Result<Option<Turn>>
+    requires { (before.held ≤ length buffer.old) × (before.tally.answers ≤ before.tally.lines) × (before.tally.lines + length buffer.old < 2 ^ 64) }
+    ensures { IfOk result (λ next. IfSome next (λ turn. (turn.held ≤ length buffer.new) × (turn.tally.answers ≤ turn.tally.lines)
+        × (turn.tally.lines ≤ before.tally.lines + length buffer.new))) }
 {
-    let held = before.held;
-    let lines = before.lines;
-    let answers = before.answers;
-    let got = read_full(input, &mut buffer[held..])?;
+    let got = read_full(input, &mut buffer[before.held..])?;
     if got == 0 {
-        return Ok(Turn {
-            held,
-            lines,
-            answers,
-            more: false,
-        });
+        return Ok(None);
     }
-    let n = held + got;
-    let tally = replay(
-        output,
-        &buffer[0..n],
-        Tally {
-            lines,
-            answers,
-            used: 0,
-        },
-    )?;
-    let used = tally.used;
+    let n = before.held + got;
+    let (tally, used) = replay(output, &buffer[0..n], before.tally)?;
     move_down(buffer, used, n);
-    Ok(Turn {
+    Ok(Some(Turn {
+        tally,
         held: n - used,
-        lines: tally.lines,
-        answers: tally.answers,
-        more: true,
-    })
+    }))
 }
 
 fn replay_all<R: Read, W: Write>(
     input: &mut R,
     output: &mut W,
     buffer: &mut [u8],
-) -> io::Result<Turn>
+) -> io::Result<Tally>
     requires { length buffer.old ≤ 65536 }
 {
     let mut turn = Turn {
+        tally: Tally {
+            lines: 0,
+            answers: 0,
+        },
         held: 0,
-        lines: 0,
-        answers: 0,
-        more: true,
     };
     for _ in 0..TURNS {
-        turn = replay_some(input, output, buffer, turn)?;
-        if !turn.more {
-            return Ok(turn);
-        }
+        let Some(next) = replay_some(input, output, buffer, turn)? else {
+            return Ok(turn.tally);
+        };
+        turn = next;
     }
-    Ok(turn)
+    Ok(turn.tally)
 }
 
 fn main(rt: HostRuntime) -> io::Result<()> {
     let mut input = rt.stdin();
     let mut output = rt.stdout();
     let mut buffer = [0u8; 65536];
-    let turn = replay_all(&mut input, &mut output, &mut buffer)?;
+    let tally = replay_all(&mut input, &mut output, &mut buffer)?;
     writeln!(
         &mut output,
         "{} of {} stored answers are ours",
-        turn.answers, turn.lines
+        tally.answers, tally.lines
     )
 }

@@ -1,13 +1,14 @@
 -- `is_answer_line` meets its contract: its tests are those of the definition, one after the other. Assumes nothing.
-use mathlib.Core.Path.{◌≡◌, refl, sym, ap, ◌∙◌}
-use mathlib.Core.Bool.{Bool, false, ◌&&◌}
+use mathlib.Core.Path.{◌≡◌, sym, ◌∙◌}
+use mathlib.Core.Bool.{false, ◌&&◌}
 use mathlib.Core.List.{List}
 use Prim.Native.Nat.{ℕ, ◌-◌, ◌≤◌, ◌<◌}
-use borrow.Author.Tests.{le-leb, lt-leb, eq-eqb, ne_eqb}
+use borrow.Author.Tests.{le-leb, lt-leb}
 use lib.Dec.{eqb}
 use lib.ListN.{length}
 use Rattle.hypotenuse_replay.specs.Lines.{digits_after, number_of_bits, root_of_bits, part, is_answer_line}
 use Rattle.hypotenuse_replay.proofs.is_answer_line.Goals as goal
+use Rattle.hypotenuse_replay.proofs.is_answer_line.Goals.{then-n-lt-SHORTEST_LINE-via-then-n-lt-SHORTEST_LINE, then-n-lt-SHORTEST_LINE-via-else-n-lt-SHORTEST_LINE+then-n-gt-LONGEST_LINE}
 
 module _ (l : List ℕ) where
   too_short : length l < 52 → false ≡ is_answer_line l
@@ -34,18 +35,14 @@ module _ (l : List ℕ) where
       && eqb (sym (or ∙ (λ j. root_of_bits (ex j) (ey j))) i) (sym er i))
 
 pub returns-then-n-lt-SHORTEST_LINE : goal.returns-then-n-lt-SHORTEST_LINE
-returns-then-n-lt-SHORTEST_LINE c = too_short c.args.s.now c.if-n-lt-SHORTEST_LINE.true
+returns-then-n-lt-SHORTEST_LINE c =
+    elim c.then-n-lt-SHORTEST_LINE.branch [
+      | then-n-lt-SHORTEST_LINE-via-then-n-lt-SHORTEST_LINE w ↦ too_short c.args.s.now w.if-n-lt-SHORTEST_LINE.true
+      | then-n-lt-SHORTEST_LINE-via-else-n-lt-SHORTEST_LINE+then-n-gt-LONGEST_LINE w ↦ too_long c.args.s.now w.if-n-lt-SHORTEST_LINE.false w.if-n-gt-LONGEST_LINE.true
+    ]
 
-pub returns-then-n-gt-LONGEST_LINE : goal.returns-then-n-gt-LONGEST_LINE
-returns-then-n-gt-LONGEST_LINE c = too_long c.args.s.now c.if-n-lt-SHORTEST_LINE.false c.if-n-gt-LONGEST_LINE.true
-
-pub returns-then-ours-number : goal.returns-then-ours-number
-returns-then-ours-number c =
-    ap (λ (t : Bool). t && eqb c.answer_of-ours.result.root c.number-then-ours-number.result) (sym (eq-eqb c.answer_of-ours.result.number c.number.result c.if-ours-number.true))
-    ∙ compared c.args.s.now c.if-n-lt-SHORTEST_LINE.false c.if-n-gt-LONGEST_LINE.false c.number-x.result c.number-y.result c.number.result c.number-then-ours-number.result c.answer_of-ours.result.number c.answer_of-ours.result.root c.number-x.ensures c.number-y.ensures c.number.ensures c.number-then-ours-number.ensures c.answer_of-ours.ensures.0 c.answer_of-ours.ensures.1
-
-pub returns-else-ours-number : goal.returns-else-ours-number
-returns-else-ours-number c =
-    let l = c.args.s.now in
-    ap (λ (t : Bool). t && eqb c.answer_of-ours.result.root (digits_after 16 0 (part (length l - 16) (length l) l))) (sym (ne_eqb c.answer_of-ours.result.number c.number.result c.if-ours-number.false))
-    ∙ compared l c.if-n-lt-SHORTEST_LINE.false c.if-n-gt-LONGEST_LINE.false c.number-x.result c.number-y.result c.number.result (digits_after 16 0 (part (length l - 16) (length l) l)) c.answer_of-ours.result.number c.answer_of-ours.result.root c.number-x.ensures c.number-y.ensures c.number.ensures refl c.answer_of-ours.ensures.0 c.answer_of-ours.ensures.1
+pub returns : goal.returns
+returns c =
+    let ours = c.answer_of.result in
+    c.eq.ensures
+    ∙ compared c.args.s.now c.if-n-lt-SHORTEST_LINE.false c.if-n-gt-LONGEST_LINE.false c.number-x.result c.number-y.result c.number.result c.number-2.result ours.number ours.root c.number-x.ensures c.number-y.ensures c.number.ensures c.number-2.ensures c.answer_of.ensures.0 c.answer_of.ensures.1
