@@ -1,4 +1,4 @@
--- Entries one by one: a list that is filled with what it holds before a call, and walks that stop at the first entry of a kind. Assumes nothing.
+-- Entries one by one: a list that is copied, and a walk from the back that stops at the first entry that changed. Assumes nothing.
 use Prim.Native.Nat.{ℕ, ◌+◌, ◌-◌, ◌≤◌, ◌<◌, min}
 use native.Mathlib.Omega.{arith}
 use mathlib.Core.Path.{◌≡◌, sym, subst, ◌∙◌}
@@ -8,12 +8,7 @@ use native.Mathlib.Nat.{eq-or-lt_of_le}
 use borrow.Author.Count.{below_more}
 use lib.ListN.{length, get_or, set, take, length-take}
 use lib.Seq.{get_or-set_same, get_or-set_other, get_or-take}
-use Rattle.replay_lists.specs.Contract.{held_at, HeldBefore, Copied, Changed}
-
--- one entry more is filled
-pub held_more : (l : List ℕ) (i v : ℕ) → i < length l → v ≡ held_at i → HeldBefore i l → HeldBefore (i + 1) (set l i v)
-held_more l i v h e all =
-    below_more (λ k. get_or (set l i v) k 0 ≡ held_at k) i (λ k lt. get_or-set_other l i k v 0 (λ q. omega (arith, q, lt)) ∙ all k lt) (get_or-set_same l i v 0 h ∙ e)
+use Rattle.replay_lists.specs.Contract.{held_at, Copied, Changed}
 
 -- one entry more is copied
 pub copied_more : (l m : List ℕ) (i v : ℕ) → i < length m → v ≡ get_or l i 0 → ((k : ℕ) → k < i → get_or m k 0 ≡ get_or l k 0)

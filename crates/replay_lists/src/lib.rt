@@ -22,6 +22,7 @@ fn held_before(i: usize) -> u64
     60000 + (i % 5000) as u64
 }
 
+// Kept: three alike, of masks, numbers and wide numbers, since a bound of `From` says nothing of the value that a contract speaks of.
 pub fn masks_before() -> [u16; 4096]
     ensures { HeldBefore 4096 result }
 {
