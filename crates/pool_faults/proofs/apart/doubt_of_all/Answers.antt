@@ -4,6 +4,7 @@ use native.Mathlib.Omega.{arith}
 use Prim.Native.Nat.{ℕ, suc, ◌+◌, ◌*◌, ◌-◌, ◌≤◌, ◌<◌, min}
 use native.Mathlib.Nat.{mul-suc, mul-le-mul_left}
 use mathlib.Core.Path.{◌≡◌, refl}
+use lib.Seq.{length-take-le}
 use Rattle.pool_faults.proofs.Taking.{maps-fit, maps-stop, nothing_known, below_more, below_all}
 use borrow.Author.Rules.{rules}
 use Rattle.pool_faults.proofs.apart.doubt_of_all.Goals as goal
@@ -39,8 +40,8 @@ pub doubt_between-found-requires : goal.doubt_between-found-requires
 doubt_between-found-requires c =
     let fits = maps-fit _ _ c.take_maps.ensures c.in-Ok.is in
     record {
-      room = (search rules, still-fits fits (search rules));
-      sizes = (search rules, search rules);
+      room = search rules;
+      sizes = (search rules, omega (arith, fits, length-take-le c.in-Ok.count c.take_maps.new.maps (still-fits fits (search rules)), c.loop-low.invariant.3, c.requires.maps_room));
     }
 
 pub returns-then-high : goal.returns-then-high

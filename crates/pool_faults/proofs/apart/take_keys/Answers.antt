@@ -11,7 +11,7 @@ loop-i-init c = (search rules, keys-start _ _ _ _, refl)
 pub take_key-taken-requires : goal.take_key-taken-requires
 take_key-taken-requires c =
     record {
-      room = (search rules, search rules, omega (arith, c.loop-i.invariant.1.within, c.if-taken-keys.false));
+      room = (search rules, omega (arith, c.loop-i.invariant.1.within, c.if-taken-keys.false));
       sizes = search rules;
       keys = c.loop-i.invariant.1;
     }
