@@ -41,6 +41,33 @@ impl Part {
     {
         self.low <= map && map <= self.high
     }
+
+    // Its lower half.
+    fn lower_half(self) -> Part
+        requires { self.low < self.high }
+        ensures { (result.low ≡ self.low) × (self.low ≤ result.high) × (result.high < self.high) }
+    {
+        let high = self.low + (self.high - self.low) / 2;
+        Part {
+            low: self.low,
+            high,
+        }
+    }
+
+    // The next maps, twice as many as these if there are as many.
+    fn next(self) -> Part
+        requires { (self.low ≤ self.high) × (self.high < 18446744073709551615) }
+        ensures { (result.low ≡ self.high + 1) × (result.low ≤ result.high) × (result.high ≤ 18446744073709551615) }
+    {
+        let low = self.high + 1;
+        let before = self.high - self.low;
+        let high = if (LAST_MAP - low) / 2 <= before {
+            LAST_MAP
+        } else {
+            low + 2 * before + 1
+        };
+        Part { low, high }
+    }
 }
 
 // Whether term i is of a lower map than term j, or of the same and over when j begins.
@@ -207,16 +234,6 @@ fn doubt_between(
     }
 }
 
-// The last map of the next part of them, twice as many as before if there are as many.
-fn part_end(low: u64, before: u64) -> u64
-    ensures { (low ≤ result) × (result ≤ 18446744073709551615) }
-{
-    if (LAST_MAP - low) / 2 <= before {
-        return LAST_MAP;
-    }
-    low + 2 * before + 1
-}
-
 // The same of the terms of all maps. They are taken in parts, each of as many maps as there is room for the terms of.
 fn doubt_of_all(terms: &[u64], until: usize, maps: &mut [u64], keys: &mut [u64]) -> usize
     requires sizes { (numbers_per_term * until ≤ length terms.now) × (until ≤ 4294967296) }
@@ -224,31 +241,29 @@ fn doubt_of_all(terms: &[u64], until: usize, maps: &mut [u64], keys: &mut [u64])
     ensures { (result ≤ until) × (result ≡ until → ApartTo terms.now until) }
 {
     let mut doubt = until;
-    let mut low = 0;
-    let mut high = LAST_MAP;
+    let mut part = Part {
+        low: 0,
+        high: LAST_MAP,
+    };
     // Kept: where a part starts and ends depends on what the last one had room for, so that no range gives the parts.
-    while low <= high {
-        let part = Part { low, high };
+    'parts: loop {
         match take_maps(terms, until, part, &mut *maps) {
             Err(no_room) => {
-                if low == high {
+                if part.low == part.high {
                     return no_room.at;
                 }
-                high = low + (high - low) / 2;
+                part = part.lower_half();
             }
             Ok(count) => {
                 let found = doubt_between(terms, until, part, &mut maps[..count], &mut *keys);
                 doubt = doubt.min(found);
-                if high == LAST_MAP {
+                if part.high == LAST_MAP {
                     return doubt;
                 }
-                let before = high - low;
-                low = high + 1;
-                high = part_end(low, before);
+                part = part.next();
             }
         }
     }
-    doubt
 }
 
 // How many of the first `high` terms are asked about next, of which `apart` are known not to overlap: all of them and half of the rest in turn.

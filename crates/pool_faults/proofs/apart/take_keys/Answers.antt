@@ -1,4 +1,4 @@
--- `apart::take_keys` meets its contract. The invariant: the keys are those of the terms below i. The measure is what is left of the terms. Assumes nothing.
+-- `apart::take_keys` meets its contract. The invariant: the keys are those of the terms below i. Assumes nothing.
 use native.Mathlib.Omega.{arith}
 use mathlib.Core.Path.{refl}
 use Rattle.pool_faults.proofs.Taking.{keys-start, keys-all}
