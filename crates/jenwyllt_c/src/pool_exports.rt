@@ -2,7 +2,8 @@
 
 ghost use Rattle.std.specs.Prelude.{◌≡◌, length};
 ghost use Rattle.catalogue.specs.Pool.{pool_verdict, pool_at_exit};
-ghost use Rattle.pool.specs.Contract.{date, exported};
+ghost use Rattle.pool_terms.specs.Contract.{date};
+ghost use Rattle.pool.specs.Contract.{exported};
 
 use pool::PoolAnswer;
 

@@ -1,6 +1,6 @@
 -- The checks in their order: what those of the two lists find is what the whole verdict says first, and where they find nothing the day asked for and the
 -- output's room decide. Assumes nothing.
-use Prim.Native.Nat.{ℕ, zero, suc, ◌*◌, ◌/◌, ◌%◌, ◌≤◌, ◌<◌}
+use Prim.Native.Nat.{ℕ, zero, suc, ◌*◌, ◌/◌, ◌≤◌, ◌<◌}
 use native.Mathlib.Omega.{arith}
 use mathlib.Core.Path.{◌≡◌, refl, sym, ap, ◌∙◌}
 use mathlib.Core.Bool.{◌&&◌}
@@ -8,7 +8,7 @@ use Rattle.std.specs.Prelude.{Option, None, Some, Ok, Err}
 use mathlib.Core.List.{List, [], ◌∷◌}
 use lib.ListN.{length}
 use lib.Dec.{ltb, leb}
-use borrow.Author.Tests.{eq-eqb, ne_eqb, le-leb, lt-leb}
+use borrow.Author.Tests.{le-leb, lt-leb}
 use Rattle.definitions.specs.Lists.{overwrite}
 use Rattle.definitions.specs.Refusals.{Refusal, or_else, unless}
 use Rattle.definitions.specs.Verdict.{Answer, refusal, first_refusal}
@@ -29,25 +29,6 @@ use Rattle.pool.specs.Contract.{lists_refusal, output_by, Listed}
 -- ---- the lists
 
 module _ (terms records : List ℕ) where
-  pub terms_unfinished : (length terms % 7 ≡ 0 → ⊥) → Some (record { number = 3; place = 0 }) ≡ lists_refusal terms records
-  unfolding lists_refusal
-  terms_unfinished h = rw (ne_eqb (length terms % 7) 0 h) refl
-
-  pub records-unfinished : length terms % 7 ≡ 0 → (length records % 4 ≡ 0 → ⊥) → Some (record { number = 3; place = 0 }) ≡ lists_refusal terms records
-  unfolding lists_refusal
-  records-unfinished h k = rw (eq-eqb (length terms % 7) 0 h, ne_eqb (length records % 4) 0 k) refl
-
-  module _ (h : length terms % 7 ≡ 0) (k : length records % 4 ≡ 0) where
-    finished : lists_refusal terms records ≡ or_else (refusal 17 (accessions_fault records)) (terms_refusal terms)
-    unfolding lists_refusal
-    finished = rw (eq-eqb (length terms % 7) 0 h, eq-eqb (length records % 4) 0 k) refl
-
-    pub record_broken : {i : ℕ} → Some i ≡ accessions_fault records → Some (record { number = 17; place = i }) ≡ lists_refusal terms records
-    record_broken e = sym (finished ∙ ap (λ o. or_else (refusal 17 o) (terms_refusal terms)) (sym e))
-
-    pub records-fine : None ≡ accessions_fault records → terms_refusal terms ≡ lists_refusal terms records
-    records-fine e = sym (finished ∙ ap (λ o. or_else (refusal 17 o) (terms_refusal terms)) (sym e))
-
   or_none : {A : Type 0} (a b : Option A) → or_else a b ≡ None → b ≡ None
   or_none None b e = e
   or_none (Some x) b e = absurd (some_none e)

@@ -2,7 +2,6 @@
 use Rattle.std.specs.Prelude.{ℕ, zero, suc, ◌/◌, ◌≡◌, ◌&&◌, List, [], ◌∷◌, length, leb, Option, Some, Result}
 use Rattle.definitions.specs.Refusals.{Refusal, or_else, unless}
 use Rattle.definitions.specs.Verdict.{Answer, refusal, first_refusal}
-use Rattle.catalogue.specs.Dates.{Date}
 use Rattle.catalogue.specs.Terms.{is_finished, terms_refusal}
 use Rattle.catalogue.specs.Accession.{accessions_fault}
 use Rattle.catalogue.specs.Accession as accession
@@ -11,9 +10,6 @@ use Rattle.definitions.specs.Lists.{overwrite}
 use Rattle.accession.specs.Contract.{answer_of}
 use Rattle.refusals.specs.declared.Refusal as refusals
 use Rattle.pool.specs.declared.PoolAnswer.{PoolAnswer}
-
-abbrev pub date : ℕ → ℕ → ℕ → Date
-date year month day = record { year = year; month = month; day = day }
 
 abbrev pub exported : PoolAnswer → Answer
 exported r = record { number = r.number; value = r.value }

@@ -7,14 +7,15 @@ ghost use Rattle.catalogue.specs.Terms.{terms_refusal};
 ghost use Rattle.catalogue.specs.Pool.{pool_verdict, pool_at_exit};
 ghost use Rattle.refusals.specs.Refusals.{refusal_in};
 ghost use Rattle.accession.specs.Contract.{answer_of};
-ghost use Rattle.pool.specs.Contract.{date, exported, lists_refusal, Listed};
+ghost use Rattle.pool_terms.specs.Contract.{date};
+ghost use Rattle.pool.specs.Contract.{exported, lists_refusal, Listed};
 
 use accession::rules::first_broken;
 use pool_entries::entries::show_records;
 use pool_entries::maps::{count_maps, put_entries};
 use pool_faults::faults::terms_fault;
 use pool_terms::calendar::day_of;
-use refusals::{Cause, Refusal};
+use refusals::{Cause, Refusal, ensure, no_fault};
 
 const TERM_SIZE: usize = 7;
 
@@ -26,19 +27,10 @@ const ENTRY_SIZE: usize = 4;
 fn check_lists(terms: &[u64], records: &[u64]) -> Result<(), Refusal>
     ensures { refusal_in result ≡ lists_refusal terms.now records.now }
 {
-    if terms.len() % TERM_SIZE != 0 || records.len() % RECORD_SIZE != 0 {
-        return Err(Refusal {
-            cause: Cause::Entries,
-            place: 0,
-        });
-    }
-    match first_broken(records) {
-        None => terms_fault(terms),
-        Some(place) => Err(Refusal {
-            cause: Cause::Accession,
-            place,
-        }),
-    }
+    let finished = (terms.len() % TERM_SIZE == 0) & (records.len() % RECORD_SIZE == 0);
+    ensure(finished, Cause::Entries)?;
+    no_fault(first_broken(records), Cause::Accession)?;
+    terms_fault(terms)
 }
 
 // Lists the maps of a day, if the output has room for them: 10.

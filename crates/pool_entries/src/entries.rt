@@ -17,7 +17,7 @@ fn place_of(output: &[u64], maps: usize, map: u64) -> usize
 {
     let mut low = 0;
     let mut high = maps;
-    // Kept: std's search by halves promises a place only of single values in order; here entries are four numbers each, as C has them, in any order.
+    // Kept: `partition_point` over `as_chunks::<4>()` promises a place only where the entries stand in order. Here one is promised of entries in any order.
     while low < high {
         let middle = low + (high - low) / 2;
         if map < output[ENTRY_SIZE * middle] {

@@ -28,6 +28,48 @@ pub struct NoRoom {
     pub at: usize,
 }
 
+// The maps whose numbers are from `low` to `high`.
+#[derive(Clone, Copy)]
+struct Part {
+    low: u64,
+    high: u64,
+}
+
+impl Part {
+    fn has(self, map: u64) -> bool
+        ensures { result ≡ false → Between self.low self.high map → ⊥ }
+    {
+        self.low <= map && map <= self.high
+    }
+
+    // Its lower half.
+    fn lower_half(self) -> Part
+        requires { self.low < self.high }
+        ensures { (result.low ≡ self.low) × (self.low ≤ result.high) × (result.high < self.high) }
+    {
+        let high = self.low + (self.high - self.low) / 2;
+        Part {
+            low: self.low,
+            high,
+        }
+    }
+
+    // The next maps, twice as many as these if there are as many.
+    fn next(self) -> Part
+        requires { (self.low ≤ self.high) × (self.high < 18446744073709551615) }
+        ensures { (result.low ≡ self.high + 1) × (result.low ≤ result.high) × (result.high ≤ 18446744073709551615) }
+    {
+        let low = self.high + 1;
+        let before = self.high - self.low;
+        let high = if (LAST_MAP - low) / 2 <= before {
+            LAST_MAP
+        } else {
+            low + 2 * before + 1
+        };
+        Part { low, high }
+    }
+}
+
 // Whether term i is of a lower map than term j, or of the same and over when j begins.
 fn precedes(terms: &[u64], i: usize, j: usize) -> bool
     requires { (numbers_per_term * (i + 1) ≤ length terms.now) × (numbers_per_term * (j + 1) ≤ length terms.now) }
@@ -85,33 +127,21 @@ fn least_doubtful(terms: &[u64], keys: &mut [u64], until: usize) -> usize
     least_astray(terms, keys, until)
 }
 
-fn is_between(map: u64, low: u64, high: u64) -> bool
-    ensures { result ≡ false → Between low high map → ⊥ }
-{
-    low <= map && map <= high
-}
-
-// Takes the map of term i, if it is from `low` to `high`, and gives how many are taken then.
-fn take_map(terms: &[u64], i: usize, low: u64, high: u64, maps: &mut [u64], taken: usize) -> usize
+// Takes the map of term i, if it is in the part, and gives how many are taken then.
+fn take_map(terms: &[u64], i: usize, part: Part, maps: &mut [u64], taken: usize) -> usize
     requires { (numbers_per_term * (i + 1) ≤ length terms.now) × (taken < length maps.old) }
     ensures { result ≤ length maps.old }
 {
     let map = terms[TERM_SIZE * i];
-    if is_between(map, low, high) {
+    if part.has(map) {
         maps[taken] = map;
         return taken + 1;
     }
     taken
 }
 
-// Takes the maps from `low` to `high` of the first terms.
-fn take_maps(
-    terms: &[u64],
-    until: usize,
-    low: u64,
-    high: u64,
-    maps: &mut [u64],
-) -> Result<usize, NoRoom>
+// Takes the maps of the first terms that are in the part.
+fn take_maps(terms: &[u64], until: usize, part: Part, maps: &mut [u64]) -> Result<usize, NoRoom>
     requires { numbers_per_term * until ≤ length terms.now }
     ensures { Fits until (length maps.old) result }
 {
@@ -120,138 +150,120 @@ fn take_maps(
         if taken == maps.len() {
             return Err(NoRoom { at: i });
         }
-        taken = take_map(terms, i, low, high, &mut *maps, taken);
+        taken = take_map(terms, i, part, &mut *maps, taken);
     }
     Ok(taken)
 }
 
-// The place of a map among the first `count`, which are sorted.
-fn place_of(maps: &[u64], count: usize, map: u64) -> u64
-    requires { count ≤ length maps.now }
-    ensures { result ≤ count }
+// The place of a map among these, which are sorted.
+fn place_of(maps: &[u64], map: u64) -> u64
+    ensures { result ≤ length maps.now }
 {
-    maps[..count].partition_point(|&m| m < map) as u64
+    maps.partition_point(|&m| m < map) as u64
 }
 
-fn key_of(terms: &[u64], i: usize, maps: &[u64], count: usize) -> u64
-    requires room { (numbers_per_term * (i + 1) ≤ length terms.now) × (count ≤ length maps.now) }
+fn key_of(terms: &[u64], i: usize, maps: &[u64]) -> u64
+    requires room { numbers_per_term * (i + 1) ≤ length terms.now }
     requires sizes { (i < 4294967296) × (length maps.now < 65536) }
     ensures { position_in result ≡ i }
 {
-    let place = place_of(maps, count, terms[TERM_SIZE * i]);
+    let place = place_of(maps, terms[TERM_SIZE * i]);
     let first = term_days(terms, i).map_or(0, |days| days.from);
     (place * DAY_NUMBERS + first % DAY_NUMBERS) * POSITIONS + i as u64
 }
 
-// Takes the key of term i, if its map is from `low` to `high`, and gives how many are taken then.
+// Takes the key of term i, if its map is in the part, and gives how many are taken then.
 fn take_key(
     terms: &[u64],
     i: usize,
-    low: u64,
-    high: u64,
+    part: Part,
     maps: &[u64],
-    count: usize,
     keys: &mut [u64],
     taken: usize,
 ) -> usize
-    requires room { (numbers_per_term * (i + 1) ≤ length terms.now) × (count ≤ length maps.now) × (taken < length keys.old) }
+    requires room { (numbers_per_term * (i + 1) ≤ length terms.now) × (taken < length keys.old) }
     requires sizes { (i < 4294967296) × (length maps.now < 65536) }
-    requires keys { Keys terms.now i low high keys.old taken }
-    ensures { Keys terms.now (i + 1) low high keys.new result }
+    requires keys { Keys terms.now i part.low part.high keys.old taken }
+    ensures { Keys terms.now (i + 1) part.low part.high keys.new result }
 {
-    if is_between(terms[TERM_SIZE * i], low, high) {
-        keys[taken] = key_of(terms, i, maps, count);
+    if part.has(terms[TERM_SIZE * i]) {
+        keys[taken] = key_of(terms, i, maps);
         return taken + 1;
     }
     taken
 }
 
-// Takes the keys of the first terms whose maps are from `low` to `high`.
+// Takes the keys of the first terms whose maps are in the part.
 fn take_keys(
     terms: &[u64],
     until: usize,
-    low: u64,
-    high: u64,
+    part: Part,
     maps: &[u64],
-    count: usize,
     keys: &mut [u64],
 ) -> Result<usize, NoRoom>
-    requires room { (numbers_per_term * until ≤ length terms.now) × (count ≤ length maps.now) }
+    requires room { numbers_per_term * until ≤ length terms.now }
     requires sizes { (until ≤ 4294967296) × (length maps.now < 65536) }
-    ensures { Keyed terms.now until low high keys.new result }
+    ensures { Keyed terms.now until part.low part.high keys.new result }
 {
     let mut taken = 0;
     for i in 0..until {
         if taken == keys.len() {
             return Err(NoRoom { at: i });
         }
-        taken = take_key(terms, i, low, high, maps, count, &mut *keys, taken);
+        taken = take_key(terms, i, part, maps, &mut *keys, taken);
     }
     Ok(taken)
 }
 
-// A position up to which nothing is known of the terms of maps from `low` to `high`; `until` where no two of one map overlap.
+// A position up to which nothing is known of the terms of the part's maps, which are these; `until` where no two of one map overlap.
 fn doubt_between(
     terms: &[u64],
     until: usize,
-    low: u64,
-    high: u64,
-    count: usize,
+    part: Part,
     maps: &mut [u64],
     keys: &mut [u64],
 ) -> usize
-    requires room { (numbers_per_term * until ≤ length terms.now) × (count ≤ length maps.old) }
+    requires room { numbers_per_term * until ≤ length terms.now }
     requires sizes { (until ≤ 4294967296) × (length maps.old < 65536) }
-    ensures { (result ≤ until) × (result ≡ until → ApartBetween terms.now low high until) }
+    ensures { (result ≤ until) × (result ≡ until → ApartBetween terms.now part.low part.high until) }
 {
-    sort_numbers(&mut maps[..count]);
-    match take_keys(terms, until, low, high, maps, count, &mut *keys) {
+    sort_numbers(&mut *maps);
+    match take_keys(terms, until, part, maps, &mut *keys) {
         Err(no_room) => no_room.at,
         Ok(taken) => least_doubtful(terms, &mut keys[..taken], until),
     }
 }
 
-// The last map of the next part of them, twice as many as before if there are as many.
-fn part_end(low: u64, before: u64) -> u64
-    ensures { (low ≤ result) × (result ≤ 18446744073709551615) }
-{
-    if (LAST_MAP - low) / 2 <= before {
-        return LAST_MAP;
-    }
-    low + 2 * before + 1
-}
-
-// The same of the terms of all maps. They are taken in parts, from `low` to `high`, each of as many maps as there is room for the terms of.
+// The same of the terms of all maps. They are taken in parts, each of as many maps as there is room for the terms of.
 fn doubt_of_all(terms: &[u64], until: usize, maps: &mut [u64], keys: &mut [u64]) -> usize
     requires sizes { (numbers_per_term * until ≤ length terms.now) × (until ≤ 4294967296) }
     requires maps_room { length maps.old < 65536 }
     ensures { (result ≤ until) × (result ≡ until → ApartTo terms.now until) }
 {
     let mut doubt = until;
-    let mut low = 0;
-    let mut high = LAST_MAP;
+    let mut part = Part {
+        low: 0,
+        high: LAST_MAP,
+    };
     // Kept: where a part starts and ends depends on what the last one had room for, so that no range gives the parts.
-    while low <= high {
-        match take_maps(terms, until, low, high, &mut *maps) {
+    'parts: loop {
+        match take_maps(terms, until, part, &mut *maps) {
             Err(no_room) => {
-                if low == high {
+                if part.low == part.high {
                     return no_room.at;
                 }
-                high = low + (high - low) / 2;
+                part = part.lower_half();
             }
             Ok(count) => {
-                let found = doubt_between(terms, until, low, high, count, &mut *maps, &mut *keys);
+                let found = doubt_between(terms, until, part, &mut maps[..count], &mut *keys);
                 doubt = doubt.min(found);
-                if high == LAST_MAP {
+                if part.high == LAST_MAP {
                     return doubt;
                 }
-                let before = high - low;
-                low = high + 1;
-                high = part_end(low, before);
+                part = part.next();
             }
         }
     }
-    doubt
 }
 
 // How many of the first `high` terms are asked about next, of which `apart` are known not to overlap: all of them and half of the rest in turn.

@@ -1,8 +1,8 @@
 -- When each answer is given: the verdict by its four checks, and the output at exit by the answer's number. Assumes nothing.
-use mathlib.Core.Path.{◌≡◌, refl, sym, ap, ◌∙◌}
-use mathlib.Core.Bool.{Bool, true, false, ◌&&◌, cond}
-use mathlib.Core.List.{List, [], ◌∷◌}
-use Rattle.std.specs.Prelude.{Option, None, Some}
+use mathlib.Core.Path.{◌≡◌, sym, ap, ◌∙◌}
+use mathlib.Core.Bool.{Bool, true, cond}
+use mathlib.Core.List.{List, ◌∷◌}
+use Rattle.std.specs.Prelude.{Option, None, Some, Err}
 use Prim.Native.Nat.{ℕ, ◌-◌, ◌*◌, ◌%◌, ◌≤◌}
 use native.Mathlib.Nat.{le_trans, mul-le-mul, div-le_self}
 use native.Mathlib.Omega.{arith}
@@ -10,14 +10,16 @@ use lib.Dec.{eqb, leb}
 use lib.ListN.{length}
 use lib.Seq.{sets}
 use borrow.Author.Tests.{leb-true, eq-eqb, ne_eqb}
-use Rattle.definitions.specs.Limits.{is_side, max_entries, numbers_per_boundary}
+use Rattle.definitions.specs.Limits.{max_entries, numbers_per_boundary}
 use Rattle.definitions.specs.Lists.{overwrite}
-use Rattle.definitions.specs.Refusals.{unless, is_whole, boundaries_fault}
-use Rattle.definitions.specs.Verdict.{Answer, refusal, first_refusal}
+use Rattle.definitions.specs.Refusals.{Refusal, is_whole}
+use Rattle.definitions.specs.Verdict.{Answer, first_refusal}
 use Rattle.laws.specs.ListLaws.Tests.{both}
 use Rattle.laws.specs.ListLaws.Overwritten.{sets_overwrite}
-use Rattle.separations.specs.Listing.{boundary_count, numbers_per_separation, pair_count, separation_rows, list_verdict, list_at_exit}
-use Rattle.separation_list.specs.Contract.{max_pairs}
+use Rattle.separations.specs.Listing.{boundary_count, pair_count, separation_rows, list_at_exit}
+use Rattle.refusals.specs.declared.Refusal as refusals
+use Rattle.refusals.specs.Refusals.{refusal_of}
+use Rattle.separation_list.specs.Contract.{answer_of, max_pairs}
 
 pub entries-le : (boundaries : List ℕ) {b : Bool} → b ≡ is_whole numbers_per_boundary boundaries → b ≡ true → boundary_count boundaries ≤ max_entries
 entries-le boundaries e f =
@@ -31,37 +33,13 @@ pairs-le n h = le_trans (div-le_self (n * (n - 1)) 2) (mul-le-mul h (le_trans (o
 
 -- ---- the verdict
 
--- by its four checks
-abbrev by : Bool → Bool → Option ℕ → Bool → ℕ → Answer
-by a b c d n = first_refusal (refusal 1 (unless a) ∷ refusal 3 (unless b) ∷ refusal 7 c ∷ refusal 10 (unless d) ∷ []) n
+-- a check that refuses, whatever comes behind it
+pub stopped : {a : Option Refusal} (l : List (Option Refusal)) (n : ℕ) (r : refusals.Refusal) → a ≡ Some (refusal_of r) → answer_of (Err r) ≡ first_refusal (a ∷ l) n
+stopped l n r p = sym (ap (λ o. first_refusal (o ∷ l) n) p)
 
-abbrev answer : ℕ → ℕ → Answer
-answer number value = record { number = number; value = value }
-
-module _ (w h : ℕ) (boundaries : List ℕ) (room : ℕ) where
-  abbrev count : ℕ
-  count = pair_count (boundary_count boundaries)
-
-  abbrev fits : Bool
-  fits = leb (numbers_per_separation * count) room
-
-  is_by : by (is_side w && is_side h) (is_whole numbers_per_boundary boundaries) (boundaries_fault w h boundaries) fits count ≡ list_verdict w h boundaries room
-  unfolding list_verdict
-  is_by = refl
-
-  pub sides-refused : {a : Bool} → a ≡ (is_side w && is_side h) → a ≡ false → answer 1 0 ≡ list_verdict w h boundaries room
-  sides-refused e f = (λ i. by ((sym f ∙ e) i) (is_whole numbers_per_boundary boundaries) (boundaries_fault w h boundaries) fits count) ∙ is_by
-
-  module _ {a : Bool} (e : a ≡ (is_side w && is_side h)) (f : a ≡ true) {b : Bool} (g : b ≡ is_whole numbers_per_boundary boundaries) where
-    pub sizes-refused : b ≡ false → answer 3 0 ≡ list_verdict w h boundaries room
-    sizes-refused k = (λ i. by ((sym f ∙ e) i) ((sym k ∙ g) i) (boundaries_fault w h boundaries) fits count) ∙ is_by
-
-    pub boundary-refused : b ≡ true → {p : ℕ} → Some p ≡ boundaries_fault w h boundaries → answer 7 p ≡ list_verdict w h boundaries room
-    boundary-refused k l = (λ i. by ((sym f ∙ e) i) ((sym k ∙ g) i) (l i) fits count) ∙ is_by
-
-    pub room-answered : b ≡ true → {n : ℕ} → None ≡ boundaries_fault w h boundaries → n ≡ count
-        → first_refusal (refusal 10 (unless (leb (numbers_per_separation * n) room)) ∷ []) n ≡ list_verdict w h boundaries room
-    room-answered k l m = (λ i. by ((sym f ∙ e) i) ((sym k ∙ g) i) (l i) (leb (numbers_per_separation * m i) room) (m i)) ∙ is_by
+-- a check that does not leaves the answer to those behind it
+pub passed : {a : Option Refusal} (l : List (Option Refusal)) (n : ℕ) {x : Answer} → a ≡ None → x ≡ first_refusal l n → x ≡ first_refusal (a ∷ l) n
+passed l n p q = q ∙ sym (ap (λ o. first_refusal (o ∷ l) n) p)
 
 -- ---- the output at exit
 

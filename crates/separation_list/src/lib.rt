@@ -3,14 +3,12 @@
 
 #![tactic(auto)]
 
-ghost use Rattle.std.specs.Prelude.{◌≡◌, [], ◌∷◌, ◌+◌, ◌*◌, ◌≤◌, ◌<◌, leb, length};
+ghost use Rattle.std.specs.Prelude.{◌≡◌, [], ◌∷◌, ◌+◌, ◌*◌, ◌≤◌, ◌<◌, length};
 ghost use Rattle.std.proofs.lemmas.List.Edits.{sets};
 ghost use Rattle.definitions.specs.Limits.{max_entries};
-ghost use Rattle.definitions.specs.Refusals.{unless};
-ghost use Rattle.definitions.specs.Verdict.{refusal, first_refusal};
 ghost use Rattle.geometry.specs.Forms.{segment_form};
-ghost use Rattle.separations.specs.Listing.{numbers_per_separation, boundary_count, ends_of_lem, separation_row, column, separation_rows, pair_count, list_verdict, Lists};
-ghost use Rattle.separation_list.specs.Contract.{answer_in, PairFits, ColumnFits, RowsFit, max_pairs};
+ghost use Rattle.separations.specs.Listing.{boundary_count, ends_of_lem, separation_row, column, separation_rows, pair_count, list_verdict, Lists};
+ghost use Rattle.separation_list.specs.Contract.{answer_in, answer_of, PairFits, ColumnFits, RowsFit, max_pairs};
 
 use checks::boundaries::boundaries_fault;
 use checks::limits::NUMBERS_PER_BOUNDARY;
@@ -19,6 +17,7 @@ use exact_squares::exact_square;
 use geometry::Segment;
 use geometry::boundaries::segment_of;
 use geometry::ramp_geometry::segment_distance;
+use refusals::{Cause, Refusal, ensure, no_fault};
 
 const NUMBERS_PER_SEPARATION: usize = 5;
 
@@ -78,14 +77,6 @@ fn put_rows(boundaries: &[u64], output: &mut [u64], n: usize)
     }
 }
 
-// Number 0 and the count of rows, or a refusal's number and place.
-#[repr(C)]
-#[derive(Clone, Copy)]
-pub struct Answer {
-    pub number: u64,
-    pub value: u64,
-}
-
 // How many pairs n boundaries have.
 fn pair_count(n: usize) -> usize
     requires { n ≤ max_entries }
@@ -94,52 +85,44 @@ fn pair_count(n: usize) -> usize
     if n == 0 { 0 } else { n * (n - 1) / 2 }
 }
 
-// 10: the output is too short for so many rows.
-fn room_answer(count: usize, room: usize) -> Answer
-    requires { count ≤ max_pairs }
-    ensures { answer_in result ≡ first_refusal (refusal 10 (unless (leb (numbers_per_separation * count) room)) ∷ []) count }
+// The count of rows, unless a check refuses the call: 1, 3, 7, or 10 for an output of so few numbers.
+fn verdict(width: u64, height: u64, boundaries: &[u64], room: usize) -> Result<usize, Refusal>
+    ensures { answer_of result ≡ list_verdict width height boundaries.now room }
 {
-    if NUMBERS_PER_SEPARATION * count <= room {
-        Answer {
-            number: 0,
-            value: count as u64,
-        }
-    } else {
-        Answer {
-            number: 10,
-            value: 0,
-        }
-    }
-}
-
-// What the call answers, with an output of so many numbers.
-fn verdict(width: u64, height: u64, boundaries: &[u64], room: usize) -> Answer
-    ensures { answer_in result ≡ list_verdict width height boundaries.now room }
-{
-    if !sides_fit(width, height) {
-        return Answer {
-            number: 1,
-            value: 0,
-        };
-    }
-    if !is_whole(NUMBERS_PER_BOUNDARY, boundaries.len()) {
-        return Answer {
-            number: 3,
-            value: 0,
-        };
-    }
-    let fault = boundaries_fault(width, height, boundaries);
+    ensure(sides_fit(width, height), Cause::Sides)?;
+    ensure(
+        is_whole(NUMBERS_PER_BOUNDARY, boundaries.len()),
+        Cause::Entries,
+    )?;
+    no_fault(boundaries_fault(width, height, boundaries), Cause::Boundary)?;
     let count = pair_count(boundaries.len() / NUMBERS_PER_BOUNDARY);
-    match fault {
-        Some(i) => Answer {
-            number: 7,
-            value: i as u64,
-        },
-        None => room_answer(count, room),
-    }
+    ensure(NUMBERS_PER_SEPARATION * count <= room, Cause::Room)?;
+    Ok(count)
 }
 
-// The separations of each two of these boundaries, on a map of these sides. For other languages too: include/jenwyllt.h declares it as jenwyllt_separations.
+// The separations of each two of these boundaries, on a map of these sides. Gives how many rows there are.
+pub fn list_separations(
+    width: u64,
+    height: u64,
+    boundaries: &[u64],
+    output: &mut [u64],
+) -> Result<usize, Refusal>
+    ensures { Lists width height boundaries.now output.old (answer_of result) output.new }
+{
+    let count = verdict(width, height, boundaries, output.len())?;
+    put_rows(boundaries, output, boundaries.len() / NUMBERS_PER_BOUNDARY);
+    Ok(count)
+}
+
+// Number 0 and the count of rows, or a refusal's number and place.
+#[repr(C)]
+#[derive(Clone, Copy)]
+pub struct Answer {
+    pub number: u64,
+    pub value: u64,
+}
+
+// The same, for other languages: include/jenwyllt.h declares it as jenwyllt_separations.
 pub fn separation_list_separations(
     width: u64,
     height: u64,
@@ -148,10 +131,14 @@ pub fn separation_list_separations(
 ) -> Answer
     ensures { Lists width height boundaries.now output.old (answer_in result) output.new }
 {
-    let answer = verdict(width, height, boundaries, output.len());
-    if answer.number != 0 {
-        return answer;
+    match list_separations(width, height, boundaries, output) {
+        Ok(count) => Answer {
+            number: 0,
+            value: count as u64,
+        },
+        Err(refusal) => Answer {
+            number: refusal.cause.number(),
+            value: refusal.place as u64,
+        },
     }
-    put_rows(boundaries, output, boundaries.len() / NUMBERS_PER_BOUNDARY);
-    answer
 }

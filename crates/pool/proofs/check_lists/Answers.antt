@@ -1,19 +1,23 @@
 -- `pool::check_lists` meets its contract: 3, then 17, then the terms. Assumes nothing.
-use mathlib.Core.Path.{sym, ◌∙◌}
-use Rattle.pool.proofs.Verdicts.{terms_unfinished, records-unfinished, record_broken, records-fine}
-use Rattle.pool.proofs.check_lists.Goals.{then-terms-ne0-via-then-terms-ne0, then-terms-ne0-via-else-terms-ne0+then-records-ne0}
+use Rattle.std.proofs.Common.{rules, refl, ◌≡◌, ◌∙◌}
+use Rattle.std.specs.Prelude.{Some}
+use Rattle.refusals.specs.Refusals.{refusal_in, refusal_of}
+use Rattle.refusals.proofs.Steps.{here, next, ensured, searched}
+use Rattle.pool.specs.Contract.{lists_refusal}
 use Rattle.pool.proofs.check_lists.Goals as goal
 
-pub returns-then-terms-ne0 : goal.returns-then-terms-ne0
-returns-then-terms-ne0 c =
-    elim c.then-terms-ne0.branch [
-      | then-terms-ne0-via-then-terms-ne0 w ↦ terms_unfinished _ _ w.if-terms-ne0.true
-      | then-terms-ne0-via-else-terms-ne0+then-records-ne0 w ↦ records-unfinished _ _ w.if-terms-ne0.false w.if-records-ne0.true
-    ]
+pub returns-in_err-ensure : goal.returns-in_err-ensure
+unfolding lists_refusal
+returns-in_err-ensure c =
+    let r : refusal_in c.from_residual.result ≡ Some (refusal_of c.in_err-ensure.field-0.0) = search rules in
+    r ∙ here _ (ensured 3 refl c.in_err-ensure.ensures)
 
-pub returns-in-None : goal.returns-in-None
-returns-in-None c =
-    c.terms_fault.ensures ∙ records-fine _ _ c.if-terms-ne0.false c.if-records-ne0.false (sym c.in-None.is ∙ c.first_broken.ensures)
+pub returns-in_err-no_fault : goal.returns-in_err-no_fault
+unfolding lists_refusal
+returns-in_err-no_fault c =
+    let r : refusal_in c.from_residual-in_err-no_fault.result ≡ Some (refusal_of c.in_err-no_fault.field-0.0) = search rules in
+    r ∙ next (ensured 3 refl c.in_ok-ensure.ensures) (here _ (searched 17 c.first_broken.ensures c.in_err-no_fault.ensures))
 
-pub returns-in-Some : goal.returns-in-Some
-returns-in-Some c = record_broken _ _ c.if-terms-ne0.false c.if-records-ne0.false (sym c.in-Some.is ∙ c.first_broken.ensures)
+pub returns : goal.returns
+unfolding lists_refusal
+returns c = next (ensured 3 refl c.in_ok-ensure.ensures) (next (searched 17 c.first_broken.ensures c.in_ok-no_fault.ensures) c.terms_fault.ensures)

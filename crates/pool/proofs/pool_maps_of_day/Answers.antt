@@ -2,7 +2,7 @@
 use mathlib.Core.Path.{sym, ap, ◌∙◌}
 use Rattle.catalogue.specs.Pool.{pool_at_exit}
 use Rattle.accession.specs.Contract.{answer_of}
-use Rattle.pool.specs.Contract.{date}
+use Rattle.pool_terms.specs.Contract.{date}
 use Rattle.pool.proofs.pool_maps_of_day.Goals as goal
 
 pub returns-in-Ok : goal.returns-in-Ok

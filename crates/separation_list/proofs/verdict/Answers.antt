@@ -1,40 +1,54 @@
 -- `verdict` meets its contract: the four checks, in the definition's order. Assumes nothing.
-use mathlib.Core.Path.{sym, ◌∙◌}
-use borrow.Author.Tests.{not-true, not-false}
-use Rattle.separation_list.proofs.Answering.{entries-le, sides-refused, sizes-refused, boundary-refused, room-answered}
+use Rattle.std.proofs.Common.{rules, ap, ◌≡◌, ◌∙◌, ◌*◌}
+use Rattle.std.specs.Prelude.{Err, leb}
 use Rattle.laws.specs.SheetReading.SheetSizes.{sides_most}
+use Rattle.refusals.proofs.Steps.{ensured, searched, holds}
+use Rattle.separations.specs.Listing.{numbers_per_separation, list_verdict}
+use Rattle.separation_list.specs.Contract.{answer_of}
+use Rattle.separation_list.proofs.Answering.{entries-le, stopped, passed}
 use Rattle.separation_list.proofs.verdict.Goals as goal
 
-pub returns-then-not-sides_fit : goal.returns-then-not-sides_fit
-returns-then-not-sides_fit c =
-    let given = c.args in
-    sides-refused given.width given.height given.boundaries.now given.room c.sides_fit.ensures (not-true _ c.if-not-sides_fit.true-raw)
+pub returns-in_err-ensure : goal.returns-in_err-ensure
+unfolding list_verdict
+returns-in_err-ensure c =
+    let given : c.from_residual.result ≡ Err c.in_err-ensure.field-0.0 = search rules in
+    ap answer_of given ∙ stopped _ _ _ (ensured 1 c.sides_fit.ensures c.in_err-ensure.ensures)
 
-pub returns-then-not-is_whole : goal.returns-then-not-is_whole
-returns-then-not-is_whole c =
-    let given = c.args in
-    sizes-refused given.width given.height given.boundaries.now given.room c.sides_fit.ensures (not-false _ c.if-not-sides_fit.false-raw) c.is_whole.ensures
-    (not-true _ c.if-not-is_whole.true-raw)
+pub returns-in_err-ensure-2 : goal.returns-in_err-ensure-2
+unfolding list_verdict
+returns-in_err-ensure-2 c =
+    let given : c.from_residual-in_err-ensure-2.result ≡ Err c.in_err-ensure-2.field-0.0 = search rules in
+    ap answer_of given ∙ passed _ _ (ensured 1 c.sides_fit.ensures c.in_ok-ensure.ensures) (stopped _ _ _ (ensured 3 c.is_whole.ensures c.in_err-ensure-2.ensures))
 
-pub boundaries_fault-fault-requires : goal.boundaries_fault-fault-requires
-boundaries_fault-fault-requires c =
-    sides_most _ _ c.sides_fit.ensures (not-false _ c.if-not-sides_fit.false-raw)
+pub boundaries_fault-requires : goal.boundaries_fault-requires
+boundaries_fault-requires c = sides_most _ _ c.sides_fit.ensures (holds 1 c.sides_fit.result c.in_ok-ensure.ensures)
+
+pub returns-in_err-no_fault : goal.returns-in_err-no_fault
+unfolding list_verdict
+returns-in_err-no_fault c =
+    let given : c.from_residual-in_err-no_fault.result ≡ Err c.in_err-no_fault.field-0.0 = search rules in
+    ap answer_of given
+    ∙ passed _ _ (ensured 1 c.sides_fit.ensures c.in_ok-ensure.ensures)
+    (passed _ _ (ensured 3 c.is_whole.ensures c.in_ok-ensure-2.ensures) (stopped _ _ _ (searched 7 c.boundaries_fault.ensures c.in_err-no_fault.ensures)))
 
 pub pair_count-count-requires : goal.pair_count-count-requires
-pair_count-count-requires c =
-    let given = c.args in
-    entries-le given.boundaries.now c.is_whole.ensures (not-false _ c.if-not-is_whole.false-raw)
+pair_count-count-requires c = entries-le c.args.boundaries.now c.is_whole.ensures (holds 3 c.is_whole.result c.in_ok-ensure-2.ensures)
 
-pub returns-in-Some : goal.returns-in-Some
-returns-in-Some c =
-    let given = c.args in
-    boundary-refused given.width given.height given.boundaries.now given.room c.sides_fit.ensures (not-false _ c.if-not-sides_fit.false-raw)
-    c.is_whole.ensures (not-false _ c.if-not-is_whole.false-raw) (sym c.in-Some.is ∙ c.boundaries_fault-fault.ensures)
+pub returns-in_err-ensure-3 : goal.returns-in_err-ensure-3
+unfolding list_verdict
+returns-in_err-ensure-3 c =
+    let given : c.from_residual-in_err-ensure-3.result ≡ Err c.in_err-ensure-3.field-0.0 = search rules in
+    let fits = ap (λ n. leb (numbers_per_separation * n) c.args.room) c.pair_count-count.ensures.0 in
+    ap answer_of given
+    ∙ passed _ _ (ensured 1 c.sides_fit.ensures c.in_ok-ensure.ensures)
+    (passed _ _ (ensured 3 c.is_whole.ensures c.in_ok-ensure-2.ensures)
+    (passed _ _ (searched 7 c.boundaries_fault.ensures c.in_ok-no_fault.ensures) (stopped _ _ _ (ensured 10 fits c.in_err-ensure-3.ensures))))
 
-pub returns-in-None : goal.returns-in-None
-returns-in-None c =
-    let given = c.args in
-    c.room_answer.ensures
-    ∙ room-answered given.width given.height given.boundaries.now given.room c.sides_fit.ensures (not-false _ c.if-not-sides_fit.false-raw)
-    c.is_whole.ensures (not-false _ c.if-not-is_whole.false-raw) (sym c.in-None.is ∙ c.boundaries_fault-fault.ensures)
-    c.pair_count-count.ensures.0
+pub returns : goal.returns
+unfolding list_verdict
+returns c =
+    let fits = ap (λ n. leb (numbers_per_separation * n) c.args.room) c.pair_count-count.ensures.0 in
+    passed _ _ (ensured 1 c.sides_fit.ensures c.in_ok-ensure.ensures)
+    (passed _ _ (ensured 3 c.is_whole.ensures c.in_ok-ensure-2.ensures)
+    (passed _ _ (searched 7 c.boundaries_fault.ensures c.in_ok-no_fault.ensures)
+    (passed _ _ (ensured 10 fits c.in_ok-ensure-3.ensures) (ap (λ n. record { number = 0; value = n }) c.pair_count-count.ensures.0))))

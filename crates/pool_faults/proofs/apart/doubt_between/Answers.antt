@@ -2,11 +2,7 @@
 use mathlib.Core.Path.{sym}
 use lib.Seq.{length-take-le}
 use Rattle.pool_faults.proofs.Taking.{keys-known, keys-stop, nothing_known, keys_positions, keys-apart}
-use borrow.Author.Rules.{rules}
 use Rattle.pool_faults.proofs.apart.doubt_between.Goals as goal
-
-pub slice_bounds-sort_numbers-end-2 : goal.slice_bounds-sort_numbers-end-2
-slice_bounds-sort_numbers-end-2 c = sym (length-take-le _ _ (search rules))
 
 pub slice_bounds-least_doubtful-end : goal.slice_bounds-least_doubtful-end
 slice_bounds-least_doubtful-end c =
@@ -18,7 +14,7 @@ slice_bounds-least_doubtful-end-in-Ok c =
 
 pub least_doubtful-requires : goal.least_doubtful-requires
 least_doubtful-requires c =
-    (c.requires.room.0, keys_positions _ _ _ (keys-known _ _ _ _ _ c.take_keys.ensures c.in-Ok.is))
+    (c.requires.room, keys_positions _ _ _ (keys-known _ _ _ _ _ c.take_keys.ensures c.in-Ok.is))
 
 pub returns-in-Err : goal.returns-in-Err
 returns-in-Err c =

@@ -1,4 +1,4 @@
--- `apart::doubt_of_all` meets its contract. The invariant: where no position was found, the terms of the maps below `low` are apart. The measure: each turn goes on to higher maps, or
+-- `apart::doubt_of_all` meets its contract. The invariant: where no position was found, the terms of the maps below the part are apart. The measure: each turn goes on to higher maps, or
 -- to fewer of them. Assumes nothing.
 use Prim.Native.Nat.{◌+◌, ◌*◌, ◌-◌, ◌≤◌}
 use mathlib.Core.Path.{◌≡◌}
@@ -6,9 +6,9 @@ use lib.ListN.{length}
 use Rattle.pool_faults.proofs.Taking.{ApartBelow}
 use Rattle.pool_faults.proofs.apart.doubt_of_all.Given as goal
 
-abbrev pub invariant-loop-low : goal.invariant-loop-low
-invariant-loop-low l =
-    (l.low ≤ l.high) × (l.high ≤ 18446744073709551615) × (l.doubt ≤ l.until) × (length l.maps ≡ length l.initial.maps) × (length l.keys ≡ length l.initial.keys) × (l.doubt ≡ l.until → ApartBelow l.terms l.low l.until)
+abbrev pub invariant-parts : goal.invariant-parts
+invariant-parts l =
+    (l.part.low ≤ l.part.high) × (l.part.high ≤ 18446744073709551615) × (l.doubt ≤ l.until) × (length l.maps ≡ length l.initial.maps) × (length l.keys ≡ length l.initial.keys) × (l.doubt ≡ l.until → ApartBelow l.terms l.part.low l.until)
 
-abbrev pub decreases-loop-low : goal.decreases-loop-low
-decreases-loop-low l = 18446744073709551616 * (18446744073709551616 - l.low) + (l.high - l.low)
+abbrev pub decreases-parts : goal.decreases-parts
+decreases-parts l = 18446744073709551616 * (18446744073709551616 - l.part.low) + (l.part.high - l.part.low)

@@ -1,5 +1,4 @@
--- `apart::least_astray` meets its contract. The invariant: where no position below `until` was found, each term precedes the next along the first k keys. The measure is what is
--- left of the keys. Assumes nothing.
+-- `apart::least_astray` meets its contract. The invariant: where no position below `until` was found, each term precedes the next along the first k keys. Assumes nothing.
 use native.Mathlib.Omega.{arith}
 use Prim.Native.Nat.{◌-◌}
 use Rattle.pool_faults.proofs.Neighbours.{following_starts, following_more, position-below, position-inside}

@@ -3,11 +3,11 @@ use Rattle.catalogue.specs.Terms.{term_at}
 use Rattle.pool_faults.proofs.Taking.{keys-stored, keys-passed}
 use Rattle.pool_faults.proofs.apart.take_key.Goals as goal
 
-pub returns-then-is_between : goal.returns-then-is_between
-returns-then-is_between c =
-    keys-stored _ _ _ c.requires.keys _ c.requires.room.2 c.key_of.ensures
+pub returns-then-has : goal.returns-then-has
+returns-then-has c =
+    keys-stored _ _ _ c.requires.keys _ c.requires.room.1 c.key_of.ensures
 
 pub returns : goal.returns
 unfolding term_at
 returns c =
-    keys-passed _ _ _ c.requires.keys (c.is_between.ensures c.if-is_between.false)
+    keys-passed _ _ _ c.requires.keys (c.has.ensures c.if-has.false)

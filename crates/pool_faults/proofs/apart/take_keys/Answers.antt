@@ -1,4 +1,4 @@
--- `apart::take_keys` meets its contract. The invariant: the keys are those of the terms below i. The measure is what is left of the terms. Assumes nothing.
+-- `apart::take_keys` meets its contract. The invariant: the keys are those of the terms below i. Assumes nothing.
 use native.Mathlib.Omega.{arith}
 use mathlib.Core.Path.{refl}
 use Rattle.pool_faults.proofs.Taking.{keys-start, keys-all}
@@ -11,7 +11,7 @@ loop-i-init c = (search rules, keys-start _ _ _ _, refl)
 pub take_key-taken-requires : goal.take_key-taken-requires
 take_key-taken-requires c =
     record {
-      room = (search rules, search rules, omega (arith, c.loop-i.invariant.1.within, c.if-taken-keys.false));
+      room = (search rules, omega (arith, c.loop-i.invariant.1.within, c.if-taken-keys.false));
       sizes = search rules;
       keys = c.loop-i.invariant.1;
     }

@@ -1,12 +1,9 @@
--- `apart::take_keys` meets its contract. The invariant: the keys are those of the terms below i. The measure is what is left of the terms. Assumes nothing.
-use Prim.Native.Nat.{◌-◌, ◌≤◌}
+-- `apart::take_keys` meets its contract. The invariant: the keys are those of the terms below i. Assumes nothing.
+use Prim.Native.Nat.{◌≤◌}
 use mathlib.Core.Path.{◌≡◌}
 use lib.ListN.{length}
 use Rattle.pool_faults.specs.Apart.{Keys}
 use Rattle.pool_faults.proofs.apart.take_keys.Given as goal
 
 abbrev pub invariant-loop-i : goal.invariant-loop-i
-invariant-loop-i l = (l.i ≤ l.until) × Keys l.terms l.i l.low l.high l.keys l.taken × (length l.keys ≡ length l.initial.keys)
-
-abbrev pub decreases-loop-i : goal.decreases-loop-i
-decreases-loop-i l = l.until - l.i
+invariant-loop-i l = (l.i ≤ l.until) × Keys l.terms l.i l.part.low l.part.high l.keys l.taken × (length l.keys ≡ length l.initial.keys)

@@ -1,11 +1,8 @@
--- `apart::take_maps` meets its contract. The invariant: there was room for those that were taken. The measure is what is left of the terms. Assumes nothing.
-use Prim.Native.Nat.{◌-◌, ◌≤◌}
+-- `apart::take_maps` meets its contract. The invariant: there was room for those that were taken. Assumes nothing.
+use Prim.Native.Nat.{◌≤◌}
 use mathlib.Core.Path.{◌≡◌}
 use lib.ListN.{length}
 use Rattle.pool_faults.proofs.apart.take_maps.Given as goal
 
 abbrev pub invariant-loop-i : goal.invariant-loop-i
 invariant-loop-i l = (l.i ≤ l.until) × (l.taken ≤ length l.initial.maps) × (length l.maps ≡ length l.initial.maps)
-
-abbrev pub decreases-loop-i : goal.decreases-loop-i
-decreases-loop-i l = l.until - l.i
