@@ -37,8 +37,8 @@ fn in_turn(regions: u64, labels: &[u64]) -> bool
     ensures { labels_fault regions 0 (turns regions 0 (entries_in 1 labels.now)) ≡ unless result }
 {
     let mut started: u64 = 0;
-    for i in 0..labels.len() {
-        let Some(n) = after_label(regions, started, labels[i]) else {
+    for &label in labels {
+        let Some(n) = after_label(regions, started, label) else {
             return false;
         };
         started = n;
@@ -155,8 +155,8 @@ fn spend_numbers(room: Option<usize>, numbers: &[u64]) -> Option<usize>
     ensures { result ≡ spent room (length (concat_map shortest numbers.now)) }
 {
     let mut left = room?;
-    for i in 0..numbers.len() {
-        left = left.checked_sub(group_count(numbers[i]))?;
+    for &n in numbers {
+        left = left.checked_sub(group_count(n))?;
     }
     Some(left)
 }
@@ -202,8 +202,8 @@ fn put_numbers(out: &mut [u8], at: usize, numbers: &[u64]) -> usize
     ensures { Put out.old at (concat_map shortest numbers.now) out.new result }
 {
     let mut next = at;
-    for i in 0..numbers.len() {
-        next = put_shortest(&mut *out, next, numbers[i]);
+    for &n in numbers {
+        next = put_shortest(&mut *out, next, n);
     }
     next
 }
