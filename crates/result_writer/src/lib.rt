@@ -71,13 +71,7 @@ fn pair_ascends(pairs: &[u64], i: usize) -> bool
 fn pairs_ascend(pairs: &[u64]) -> bool
     ensures { ascent_fault pair_key (entries_in numbers_per_pair pairs.now) ≡ unless result }
 {
-    let count = pairs.len() / PAIR_SIZE;
-    for i in 1..count {
-        if !pair_ascends(pairs, i) {
-            return false;
-        }
-    }
-    true
+    (1..pairs.len() / PAIR_SIZE).all(|i| pair_ascends(pairs, i))
 }
 
 const ROW_SIZE: usize = 5;
@@ -100,13 +94,7 @@ fn row_ascends(rows: &[u64], i: usize) -> bool
 fn rows_ascend(rows: &[u64]) -> bool
     ensures { ascent_fault row_key (entries_in numbers_per_row rows.now) ≡ unless result }
 {
-    let count = rows.len() / ROW_SIZE;
-    for i in 1..count {
-        if !row_ascends(rows, i) {
-            return false;
-        }
-    }
-    true
+    (1..rows.len() / ROW_SIZE).all(|i| row_ascends(rows, i))
 }
 
 // Pairs and rows ascend, and the labels are in turn.
