@@ -92,7 +92,7 @@ fn pair(bytes: &[u8], at: usize) -> Result<Found<Key>, Refusal>
     requires { at ≤ length bytes.now }
     ensures { times numbers_per_pair number at (drop at bytes.now) ≡ key_of false bytes.now result }
 {
-    let read = numbers_at::<3>(bytes, at)?;
+    let read = numbers_at::<PAIR_SIZE>(bytes, at)?;
     Ok(Found {
         value: Key {
             a: read.value[0],
@@ -109,7 +109,7 @@ fn row(bytes: &[u8], at: usize) -> Result<Found<Key>, Refusal>
     requires { at ≤ length bytes.now }
     ensures { times numbers_per_row number at (drop at bytes.now) ≡ key_of true bytes.now result }
 {
-    let read = numbers_at::<5>(bytes, at)?;
+    let read = numbers_at::<ROW_SIZE>(bytes, at)?;
     Ok(Found {
         value: Key {
             a: read.value[1],
