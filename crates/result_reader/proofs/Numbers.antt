@@ -10,7 +10,7 @@ use lib.Seq.{take-suc-set, take_all}
 use Rattle.definitions.specs.Limits.{numbers_per_pair, numbers_per_row}
 use Rattle.definitions.specs.SheetNumber.{found, failed, number}
 use Rattle.definitions.specs.Sheet.{give, and_then, times}
-use Rattle.laws.specs.SheetReading.SheetLaws.{keeps-number, keeps-times, ends-inside, times-found, times-failed, times-length, then_found, then-failed}
+use Rattle.laws.specs.SheetReading.SheetLaws.{keeps-number, keeps-times, ends-inside, times-failed, times-length, then_found, then-failed}
 use Rattle.sheet.specs.Numbers.{up_to, items_at, Told}
 use Rattle.std.specs.Prelude.{Result, Ok, Err}
 use Rattle.refusals.specs.declared.Refusal.{Refusal}
@@ -35,17 +35,6 @@ module _ (at : ℕ) (bytes : List ℕ) where
 
   pub one_fails : {refusal place : ℕ} → number at bytes ≡ failed refusal place → times 1 number at bytes ≡ failed refusal place
   one_fails h = times-failed number 0 at bytes h
-
-  -- a number and then n more
-  pub more_found : (n : ℕ) {a o next : ℕ} {r rest l : List ℕ} → number at bytes ≡ found a o r → times n number o r ≡ found l next rest → times (1 + n) number at bytes ≡ found (a ∷ l) next rest
-  more_found n {a} h k =
-      let e : 1 + n ≡ suc n = omega arith in
-      ap (λ m. times m number at bytes) e ∙ times-found number n at bytes h ∙ then_found (λ values. give (a ∷ values)) k
-
-  pub more_fails : (n : ℕ) {a o refusal place : ℕ} {r : List ℕ} → number at bytes ≡ found a o r → times n number o r ≡ failed refusal place → times (1 + n) number at bytes ≡ failed refusal place
-  more_fails n {a} h k =
-      let e : 1 + n ≡ suc n = omega arith in
-      ap (λ m. times m number at bytes) e ∙ times-found number n at bytes h ∙ then-failed (λ values. give (a ∷ values)) k
 
   pub first_fails : (n : ℕ) {refusal place : ℕ} → number at bytes ≡ failed refusal place → times (1 + n) number at bytes ≡ failed refusal place
   first_fails n h =
