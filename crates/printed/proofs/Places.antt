@@ -1,11 +1,11 @@
 -- Bytes put one behind the other (`Put`). Assumes nothing.
-use Prim.Native.Nat.{ℕ, ◌+◌, ◌≤◌, ◌<◌}
+use Prim.Native.Nat.{ℕ, ◌+◌, ◌-◌, ◌≤◌}
 use native.Mathlib.Omega.{arith}
-use native.Mathlib.Numerals.{add-one}
-use mathlib.Core.Path.{◌≡◌, refl, sym, ap, ◌∙◌}
+use mathlib.Core.Path.{◌≡◌, refl, sym, ap, ap₂, ◌∙◌}
 use mathlib.Core.List.{List, [], ◌∷◌, ◌++◌, append_assoc}
-use lib.ListN.{length, get_or, drop, set, length-append, length-set, drop_of_length-le}
-use lib.Seq.{sets, drop-cons}
+use lib.ListN.{length, take, drop, set, length-append}
+use lib.Seq.{sets, sets-eq, drop-drop}
+use borrow.Rule.Slice.PartMut.{put_mid}
 use Rattle.definitions.specs.Rows.{Row}
 use Rattle.definitions.specs.Printed.{text, decimal, row_line}
 use Rattle.laws.specs.ListLaws.Overwritten.{sets_append, sets_overwrite}
@@ -31,32 +31,15 @@ printed {old} {bytes} h P =
     let e : length bytes ≤ length old = omega (arith, P.next_is) in
     record { stored = P.stored ∙ sets_overwrite old bytes e; length_is = omega (arith, P.next_is) }
 
--- ---- a loop that copies bytes: putting the rest makes the list that is wanted
-
-pub record Copying (old : List ℕ) (at : ℕ) (bytes new : List ℕ) (next i : ℕ) : Type 0 where
-  pub few : i ≤ length bytes
-  pub next_is : next ≡ at + i
-  pub room : at + length bytes ≤ length old
-  pub long : length new ≡ length old
-  pub same : sets new next (drop i bytes) ≡ sets old at bytes
-
-module _ {old bytes : List ℕ} {at : ℕ} where
-  pub copying_starts : at + length bytes ≤ length old → Copying old at bytes old at 0
-  copying_starts h = record { few = omega arith; next_is = omega arith; room = h; long = refl; same = refl }
-
-  module _ {new : List ℕ} {next i : ℕ} (C : Copying old at bytes new next i) where
-    pub copying_goes_on : i < length bytes → Copying old at bytes (set new next (get_or bytes i 0)) (next + 1) (i + 1)
-    copying_goes_on h =
-        record {
-          few = omega arith;
-          next_is = omega (arith, C.next_is);
-          room = C.room;
-          long = length-set new next (get_or bytes i 0) ∙ C.long;
-          same = rw (add-one next, add-one i) (ap (sets new next) (sym (drop-cons bytes i 0 h)) ∙ C.same);
-        }
-
-    pub copying_ends : length bytes ≤ i → Put old at bytes new next
-    copying_ends h = record { stored = ap (sets new next) (sym (drop_of_length-le bytes h)) ∙ C.same; next_is = omega (arith, C.next_is, C.few) }
+-- bytes in the place of as many
+pub put_copied : (old bytes : List ℕ) (at : ℕ) {part : List ℕ} → at + length bytes ≤ length old → part ≡ bytes
+    → Put old at bytes (put_mid at (at + length bytes - at) old part) (at + length bytes)
+put_copied old bytes at {part} h e =
+    let behind : drop (at + length bytes - at) (drop at old) ≡ drop (at + length bytes) old = drop-drop _ at old ∙ ap (λ n. drop n old) (omega arith) in
+    record {
+      stored = ap₂ (λ l r. take at old ++ (l ++ r)) e behind ∙ sym (sets-eq bytes old at h ∙ append_assoc (take at old) bytes (drop (at + length bytes) old));
+      next_is = refl;
+    }
 
 -- ---- lines
 

@@ -1,14 +1,16 @@
--- One, two, three and five numbers one behind the other, and as many numbers twice. Assumes nothing.
-use Prim.Native.Nat.{ℕ, suc, ◌+◌, ◌*◌, ◌≤◌}
+-- Numbers one behind the other, those of a pair row and of a row, and as many numbers twice. Assumes nothing.
+use Prim.Native.Nat.{ℕ, suc, ◌+◌, ◌-◌, ◌*◌, ◌≤◌, ◌<◌}
+use native.Mathlib.Numerals.{add-one}
 use native.Mathlib.Omega.{arith}
 use mathlib.Core.Path.{◌≡◌, refl, sym, ap, ◌∙◌}
 use mathlib.Core.Bool.{Bool, true, false}
 use mathlib.Core.List.{List, [], ◌∷◌, ◌++◌}
-use lib.ListN.{length, drop, get_or}
+use lib.ListN.{length, take, drop, get_or, set, length-set}
+use lib.Seq.{take-suc-set, take_all}
 use Rattle.definitions.specs.Limits.{numbers_per_pair, numbers_per_row}
 use Rattle.definitions.specs.SheetNumber.{found, failed, number}
 use Rattle.definitions.specs.Sheet.{give, and_then, times}
-use Rattle.laws.specs.SheetReading.SheetLaws.{keeps-number, keeps-times, ends-inside, times-found, times-failed, times-length, then_found, then-failed}
+use Rattle.laws.specs.SheetReading.SheetLaws.{keeps-number, keeps-times, ends-inside, times-failed, times-length, then_found, then-failed}
 use Rattle.sheet.specs.Numbers.{up_to, items_at, Told}
 use Rattle.std.specs.Prelude.{Result, Ok, Err}
 use Rattle.refusals.specs.declared.Refusal.{Refusal}
@@ -34,17 +36,6 @@ module _ (at : ℕ) (bytes : List ℕ) where
   pub one_fails : {refusal place : ℕ} → number at bytes ≡ failed refusal place → times 1 number at bytes ≡ failed refusal place
   one_fails h = times-failed number 0 at bytes h
 
-  -- a number and then n more
-  pub more_found : (n : ℕ) {a o next : ℕ} {r rest l : List ℕ} → number at bytes ≡ found a o r → times n number o r ≡ found l next rest → times (1 + n) number at bytes ≡ found (a ∷ l) next rest
-  more_found n {a} h k =
-      let e : 1 + n ≡ suc n = omega arith in
-      ap (λ m. times m number at bytes) e ∙ times-found number n at bytes h ∙ then_found (λ values. give (a ∷ values)) k
-
-  pub more_fails : (n : ℕ) {a o refusal place : ℕ} {r : List ℕ} → number at bytes ≡ found a o r → times n number o r ≡ failed refusal place → times (1 + n) number at bytes ≡ failed refusal place
-  more_fails n {a} h k =
-      let e : 1 + n ≡ suc n = omega arith in
-      ap (λ m. times m number at bytes) e ∙ times-found number n at bytes h ∙ then-failed (λ values. give (a ∷ values)) k
-
   pub first_fails : (n : ℕ) {refusal place : ℕ} → number at bytes ≡ failed refusal place → times (1 + n) number at bytes ≡ failed refusal place
   first_fails n h =
       let e : 1 + n ≡ suc n = omega arith in
@@ -61,25 +52,73 @@ module _ (at : ℕ) (bytes : List ℕ) where
     pub former_fails : {refusal place : ℕ} → times m number at bytes ≡ failed refusal place → times (m + n) number at bytes ≡ failed refusal place
     former_fails g = times-add number m n at bytes ∙ then-failed (λ l o r. and_then (times n number o r) (λ k. give (l ++ k))) g
 
--- two numbers by themselves
-two_are : (l : List ℕ) → length l ≡ 2 → l ≡ get_or l 0 0 ∷ get_or l 1 0 ∷ []
-two_are [] h = absurd (omega arith)
-two_are (a ∷ []) h = absurd (omega arith)
-two_are (a ∷ b ∷ []) h = refl
-two_are (a ∷ b ∷ c ∷ l) h = absurd (omega arith)
+-- three numbers by themselves, and five
+three_are : (l : List ℕ) → length l ≡ 3 → l ≡ get_or l 0 0 ∷ get_or l 1 0 ∷ get_or l 2 0 ∷ []
+three_are [] h = absurd (omega arith)
+three_are (a ∷ []) h = absurd (omega arith)
+three_are (a ∷ b ∷ []) h = absurd (omega arith)
+three_are (a ∷ b ∷ c ∷ []) h = refl
+three_are (a ∷ b ∷ c ∷ d ∷ l) h = absurd (omega arith)
 
-module _ (at : ℕ) (bytes : List ℕ) {a o : ℕ} {r : List ℕ} (h : number at bytes ≡ found a o r) {l m : List ℕ} {next : ℕ} (k : times 2 number o r ≡ found l next m) where
-  pub pair-found : times numbers_per_pair number at bytes ≡ found (a ∷ get_or l 0 0 ∷ get_or l 1 0 ∷ []) next m
-  pair-found = more_found at bytes 2 h k ∙ ap (λ x. found (a ∷ x) next m) (two_are l (times-length number 2 o r k))
+five_are : (l : List ℕ) → length l ≡ 5 → l ≡ get_or l 0 0 ∷ get_or l 1 0 ∷ get_or l 2 0 ∷ get_or l 3 0 ∷ get_or l 4 0 ∷ []
+five_are [] h = absurd (omega arith)
+five_are (a ∷ []) h = absurd (omega arith)
+five_are (a ∷ b ∷ []) h = absurd (omega arith)
+five_are (a ∷ b ∷ c ∷ []) h = absurd (omega arith)
+five_are (a ∷ b ∷ c ∷ d ∷ []) h = absurd (omega arith)
+five_are (a ∷ b ∷ c ∷ d ∷ e ∷ []) h = refl
+five_are (a ∷ b ∷ c ∷ d ∷ e ∷ f ∷ l) h = absurd (omega arith)
 
-  pub row-found : {n rest : List ℕ} {behind : ℕ} → times 2 number next m ≡ found n behind rest
-      → times numbers_per_row number at bytes ≡ found (a ∷ get_or l 0 0 ∷ get_or l 1 0 ∷ get_or n 0 0 ∷ get_or n 1 0 ∷ []) behind rest
-  row-found {n} {rest} {behind} j =
-      more_found at bytes 4 h (both_found o r 2 2 k j)
-      ∙ (λ i. found (a ∷ (two_are l (times-length number 2 o r k) i ++ two_are n (times-length number 2 next m j) i)) behind rest)
+module _ (at : ℕ) (bytes : List ℕ) {l m : List ℕ} {next : ℕ} where
+  pub pair-found : times 3 number at bytes ≡ found l next m → times numbers_per_pair number at bytes ≡ found (get_or l 0 0 ∷ get_or l 1 0 ∷ get_or l 2 0 ∷ []) next m
+  pair-found k = k ∙ ap (λ x. found x next m) (three_are l (times-length number 3 at bytes k))
+
+  pub row-found : times 5 number at bytes ≡ found l next m
+      → times numbers_per_row number at bytes ≡ found (get_or l 0 0 ∷ get_or l 1 0 ∷ get_or l 2 0 ∷ get_or l 3 0 ∷ get_or l 4 0 ∷ []) next m
+  row-found k = k ∙ ap (λ x. found x next m) (five_are l (times-length number 5 at bytes k))
 
 pub times-inside : (n : ℕ) (bytes : List ℕ) (at : ℕ) {l : List ℕ} {next : ℕ} → at ≤ length bytes → times n number at (drop at bytes) ≡ found l next (drop next bytes) → next ≤ length bytes
 times-inside n bytes at h e = ends-inside (keeps-times number keeps-number n) bytes at h e
+
+-- ---- the first i of n numbers, while they are read into an array
+
+pub record Reading (n at : ℕ) (bytes values : List ℕ) (next i : ℕ) : Type 0 where
+  pub few : i ≤ n
+  pub long : length values ≡ n
+  pub inside : next ≤ length bytes
+  pub read : times i number at (drop at bytes) ≡ found (take i values) next (drop next bytes)
+
+pub reading_starts : (n at : ℕ) (bytes values : List ℕ) → length values ≡ n → at ≤ length bytes → Reading n at bytes values at 0
+unfolding times
+reading_starts n at bytes values l h = record { few = omega arith; long = l; inside = h; read = refl }
+
+module _ {n at : ℕ} {bytes values : List ℕ} {next i : ℕ} (R : Reading n at bytes values next i) (h : i < n) where
+  pub reading_goes_on : {value behind : ℕ} → up_to 0xffff_ffff_ffff_ffff next (drop next bytes) ≡ found value behind (drop behind bytes) → Reading n at bytes (set values i value) behind (i + 1)
+  reading_goes_on {value} {behind} e =
+      let within : i < length values = omega (arith, R.long) in
+      let one = one_found next (drop next bytes) (as_number next (drop next bytes) e) in
+      let both = both_found at (drop at bytes) i 1 R.read one in
+      let here = set-take values i value within in
+      record {
+        few = omega arith;
+        long = length-set values i value ∙ R.long;
+        inside = item-inside bytes next R.inside e;
+        read = both ∙ ap (λ l. found l behind (drop behind bytes)) here;
+      }
+    where
+      set-take : (l : List ℕ) (i v : ℕ) → i < length l → take i l ++ (v ∷ []) ≡ take (i + 1) (set l i v)
+      set-take l i v k = rw (add-one i) (sym (take-suc-set l i v k))
+
+  pub reading_fails : {refusal place : ℕ} → up_to 0xffff_ffff_ffff_ffff next (drop next bytes) ≡ failed refusal place → times n number at (drop at bytes) ≡ failed refusal place
+  reading_fails {refusal} {place} e =
+      let rest : i + (1 + (n - (i + 1))) ≡ n = omega arith in
+      sym (ap (λ k. times k number at (drop at bytes)) rest)
+      ∙ both-fails at (drop at bytes) i (1 + (n - (i + 1))) R.read (first_fails next (drop next bytes) (n - (i + 1)) (as_number next (drop next bytes) e))
+
+pub reading_ends : {n at : ℕ} {bytes values : List ℕ} {next i : ℕ} → Reading n at bytes values next i → n ≤ i → times n number at (drop at bytes) ≡ found values next (drop next bytes)
+reading_ends {n} {at} {bytes} {values} {next} {i} R h =
+    let all : i ≡ n = omega (arith, R.few) in
+    sym (ap (λ k. times k number at (drop at bytes)) all) ∙ R.read ∙ ap (λ l. found l next (drop next bytes)) (take_all i values (omega (arith, R.long)))
 
 -- ---- as many twice
 

@@ -73,33 +73,35 @@ pub struct Key {
     e: u64,
 }
 
-fn two(bytes: &[u8], at: usize) -> Result<Found<[u64; 2]>, Refusal>
+// The next N numbers.
+fn numbers_at<const N: usize>(bytes: &[u8], at: usize) -> Result<Found<[u64; N]>, Refusal>
     requires { at ≤ length bytes.now }
-    ensures { times 2 number at (drop at bytes.now) ≡ read_of bytes.now result }
+    ensures { times N number at (drop at bytes.now) ≡ read_of bytes.now result }
 {
-    let a = item(bytes, at, MOST)?;
-    let b = item(bytes, a.next, MOST)?;
-    Ok(Found {
-        value: [a.value, b.value],
-        next: b.next,
-    })
+    let mut value = [0u64; N];
+    let mut next = at;
+    for i in 0..N {
+        let read = item(bytes, next, MOST)?;
+        value[i] = read.value;
+        next = read.next;
+    }
+    Ok(Found { value, next })
 }
 
 fn pair(bytes: &[u8], at: usize) -> Result<Found<Key>, Refusal>
     requires { at ≤ length bytes.now }
     ensures { times numbers_per_pair number at (drop at bytes.now) ≡ key_of false bytes.now result }
 {
-    let front = item(bytes, at, MOST)?;
-    let back = two(bytes, front.next)?;
+    let read = numbers_at::<PAIR_SIZE>(bytes, at)?;
     Ok(Found {
         value: Key {
-            a: front.value,
-            b: back.value[0],
-            c: back.value[1],
+            a: read.value[0],
+            b: read.value[1],
+            c: read.value[2],
             d: 0,
             e: 0,
         },
-        next: back.next,
+        next: read.next,
     })
 }
 
@@ -107,18 +109,16 @@ fn row(bytes: &[u8], at: usize) -> Result<Found<Key>, Refusal>
     requires { at ≤ length bytes.now }
     ensures { times numbers_per_row number at (drop at bytes.now) ≡ key_of true bytes.now result }
 {
-    let front = item(bytes, at, MOST)?;
-    let middle = two(bytes, front.next)?;
-    let back = two(bytes, middle.next)?;
+    let read = numbers_at::<ROW_SIZE>(bytes, at)?;
     Ok(Found {
         value: Key {
-            a: middle.value[0],
-            b: middle.value[1],
-            c: back.value[0],
-            d: back.value[1],
-            e: front.value,
+            a: read.value[1],
+            b: read.value[2],
+            c: read.value[3],
+            d: read.value[4],
+            e: read.value[0],
         },
-        next: back.next,
+        next: read.next,
     })
 }
 

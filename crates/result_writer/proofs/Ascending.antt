@@ -6,7 +6,8 @@ use native.Mathlib.Nat.{add-zero}
 use mathlib.Core.Path.{◌≡◌, refl, sym, ap, ap₂, ◌∙◌}
 use mathlib.Core.Bool.{Bool, true, false, ◌&&◌, ◌||◌}
 use lib.Dec.{ltb, eqb}
-use Rattle.std.specs.Prelude.{None, Some}
+use Rattle.std.specs.Prelude.{None, Some, MatchBool}
+use Rattle.definitions.specs.Refusals.{unless}
 use mathlib.Core.List.{List, [], ◌∷◌, map}
 use lib.ListN.{length, take, drop, get_or, length-drop}
 use lib.Seq.{drop-drop, get_or-drop}
@@ -140,6 +141,34 @@ module _ (size : ℕ) (key : List ℕ → List ℕ) where
   ascending_ends {l} {i} A h =
       let z : length l / size - i ≡ 0 = omega arith in
       sym A.same ∙ ap (λ j. ascent_fault key (unplaced (chunks (suc j) size (drop (size * (i - 1)) l)))) z ∙ alone (drop (size * (i - 1)) l)
+
+  -- entry i is above the one before it
+  abbrev pub is_above : List ℕ → ℕ → Bool
+  is_above l i = list_lt (key (take size (drop (size * (i - 1)) l))) (key (take size (drop (size * i) l)))
+
+  -- what `all` gives, by its cases over the entries behind the first
+  module _ (l : List ℕ) (back : (i : ℕ) → 1 ≤ i → size * (i - 1) + size ≡ size * i) where
+    rise : (f i : ℕ) → Ascending l i → length l / size - i ≡ f → ((k : ℕ) → 1 ≤ k → k < length l / size → is_above l k ≡ true) → ascent_fault key (entries_in size l) ≡ None
+    rise zero i A e h = ascending_ends A (omega arith)
+    rise (suc f) i A e h =
+        let inside : i < length l / size = omega arith in
+        rise f (i + 1) (ascending_goes_on A inside (back i A.later) (h i A.later inside)) (omega arith) h
+
+    fall : (f i k : ℕ) → Ascending l i → i + f ≡ k → k < length l / size → is_above l k ≡ false → ascent_fault key (entries_in size l) ≡ Some 0
+    fall zero i k A e m h =
+        let same : i ≡ k = omega arith in
+        ascending_stops A (omega arith) (back i A.later) (ap (is_above l) same ∙ h)
+    fall (suc f) i k A e m h = by (is_above l i) refl (λ x. fall f (i + 1) k (ascending_goes_on A (omega arith) (back i A.later) x) (omega arith) m h)
+      where
+        by : (t : Bool) → is_above l i ≡ t → (is_above l i ≡ true → ascent_fault key (entries_in size l) ≡ Some 0) → ascent_fault key (entries_in size l) ≡ Some 0
+        by true x more = more x
+        by false x more = ascending_stops A (omega arith) (back i A.later) x
+
+    pub all_above : size * (1 - 1) ≡ 0 → (test : ℕ → Bool) → ((i : ℕ) → 1 ≤ i → i < length l / size → is_above l i ≡ test i) → (r : Bool)
+        → MatchBool r ((k : ℕ) → 1 ≤ k → k < length l / size → test k ≡ true) ((k : ℕ) × (1 ≤ k) × (k < length l / size) × (test k ≡ false))
+        → ascent_fault key (entries_in size l) ≡ unless r
+    all_above z test same true h = rise (length l / size - 1) 1 (ascending_starts l z) refl (λ k a b. same k a b ∙ h k a b)
+    all_above z test same false (k, a, b, h) = fall (k - 1) 1 k (ascending_starts l z) (omega arith) b (same k a b ∙ h)
 
 -- ---- pairs and rows
 

@@ -37,8 +37,8 @@ fn in_turn(regions: u64, labels: &[u64]) -> bool
     ensures { labels_fault regions 0 (turns regions 0 (entries_in 1 labels.now)) ≡ unless result }
 {
     let mut started: u64 = 0;
-    for i in 0..labels.len() {
-        let Some(n) = after_label(regions, started, labels[i]) else {
+    for &label in labels {
+        let Some(n) = after_label(regions, started, label) else {
             return false;
         };
         started = n;
@@ -71,13 +71,7 @@ fn pair_ascends(pairs: &[u64], i: usize) -> bool
 fn pairs_ascend(pairs: &[u64]) -> bool
     ensures { ascent_fault pair_key (entries_in numbers_per_pair pairs.now) ≡ unless result }
 {
-    let count = pairs.len() / PAIR_SIZE;
-    for i in 1..count {
-        if !pair_ascends(pairs, i) {
-            return false;
-        }
-    }
-    true
+    (1..pairs.len() / PAIR_SIZE).all(|i| pair_ascends(pairs, i))
 }
 
 const ROW_SIZE: usize = 5;
@@ -100,13 +94,7 @@ fn row_ascends(rows: &[u64], i: usize) -> bool
 fn rows_ascend(rows: &[u64]) -> bool
     ensures { ascent_fault row_key (entries_in numbers_per_row rows.now) ≡ unless result }
 {
-    let count = rows.len() / ROW_SIZE;
-    for i in 1..count {
-        if !row_ascends(rows, i) {
-            return false;
-        }
-    }
-    true
+    (1..rows.len() / ROW_SIZE).all(|i| row_ascends(rows, i))
 }
 
 // Pairs and rows ascend, and the labels are in turn.
@@ -155,8 +143,8 @@ fn spend_numbers(room: Option<usize>, numbers: &[u64]) -> Option<usize>
     ensures { result ≡ spent room (length (concat_map shortest numbers.now)) }
 {
     let mut left = room?;
-    for i in 0..numbers.len() {
-        left = left.checked_sub(group_count(numbers[i]))?;
+    for &n in numbers {
+        left = left.checked_sub(group_count(n))?;
     }
     Some(left)
 }
@@ -202,8 +190,8 @@ fn put_numbers(out: &mut [u8], at: usize, numbers: &[u64]) -> usize
     ensures { Put out.old at (concat_map shortest numbers.now) out.new result }
 {
     let mut next = at;
-    for i in 0..numbers.len() {
-        next = put_shortest(&mut *out, next, numbers[i]);
+    for &n in numbers {
+        next = put_shortest(&mut *out, next, n);
     }
     next
 }

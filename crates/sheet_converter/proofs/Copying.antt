@@ -1,23 +1,19 @@
--- Bytes that are copied one by one: those from i on, stored from there on, make the whole. Assumes nothing.
-use Prim.Native.Nat.{ℕ, suc, ◌+◌, ◌-◌, ◌≤◌, ◌<◌}
+-- Bytes that are copied to a place, and parts of a list that are put. Assumes nothing.
+use Prim.Native.Nat.{ℕ, ◌+◌, ◌-◌, ◌≤◌}
 use native.Mathlib.Omega.{arith}
-use native.Mathlib.Numerals.{add-one}
-use mathlib.Core.Path.{◌≡◌, sym, ap, ap₂, subst, ◌∙◌}
-use mathlib.Core.List.{List}
-use lib.ListN.{length, take, drop, get_or, set, length-drop, drop_of_length-le}
-use lib.Seq.{sets, take_all, drop-cons, length-take-le}
+use mathlib.Core.Path.{◌≡◌, refl, sym, ap, ap₂, subst, ◌∙◌}
+use mathlib.Core.List.{List, ◌++◌, append_assoc}
+use lib.ListN.{length, take, drop, length-drop}
+use lib.Seq.{sets-eq, take_all, length-take-le, drop-drop}
+use borrow.Rule.Slice.PartMut.{put_mid}
 use Rattle.put_shortest.specs.Contract.{Put}
 
-pub copied_more : (bytes out : List ℕ) (at i : ℕ) → i < length bytes
-    → sets (set out (at + i) (get_or bytes i 0)) (at + (i + 1)) (drop (i + 1) bytes) ≡ sets out (at + i) (drop i bytes)
-copied_more bytes out at i h =
-    let e : at + (i + 1) ≡ suc (at + i) = omega arith in
-    ap₂ (sets (set out (at + i) (get_or bytes i 0))) e (ap (λ n. drop n bytes) (add-one i)) ∙ ap (sets out (at + i)) (sym (drop-cons bytes i 0 h))
-
-pub copied_all : (bytes old out : List ℕ) (at i : ℕ) → i ≤ length bytes → length bytes ≤ i → sets out (at + i) (drop i bytes) ≡ sets old at bytes
-    → Put old at bytes out (at + i)
-copied_all bytes old out at i h k e =
-    record { stored = sym (ap (sets out (at + i)) (drop_of_length-le bytes k)) ∙ e; next_is = omega arith }
+-- the bytes stand in the place of as many
+pub copied : (bytes old : List ℕ) (at : ℕ) {part : List ℕ} → at + length bytes ≤ length old → part ≡ bytes
+    → Put old at bytes (put_mid at (at + length bytes - at) old part) (at + length bytes)
+copied bytes old at {part} h e =
+    let behind : drop (at + length bytes - at) (drop at old) ≡ drop (at + length bytes) old = drop-drop _ at old ∙ ap (λ n. drop n old) (omega arith) in
+    record { stored = ap₂ (λ l r. take at old ++ (l ++ r)) e behind ∙ sym (sets-eq bytes old at h ∙ append_assoc (take at old) bytes (drop (at + length bytes) old)); next_is = refl }
 
 -- a part that goes to the end
 pub put_whole : (bytes : List ℕ) (back : ℕ) {old new : List ℕ} {at next : ℕ} → Put old at (take (length bytes - back) (drop back bytes)) new next

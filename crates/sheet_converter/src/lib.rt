@@ -77,21 +77,6 @@ fn cells_fault(bytes: &[u8], at: usize, count: usize) -> Option<usize>
     None
 }
 
-// Equally many numbers, and the same.
-fn same_numbers(a: &[u64], b: &[u64]) -> bool
-    ensures { result ≡ same_numbers a.now b.now }
-{
-    if a.len() != b.len() {
-        return false;
-    }
-    for i in 0..a.len() {
-        if a[i] != b[i] {
-            return false;
-        }
-    }
-    true
-}
-
 // The spans are the endpoints of the boundaries, as written.
 fn is_one_list(spans: &[u64], boundaries: &[u64]) -> bool
     requires { length boundaries.now ≤ 2304 }
@@ -101,7 +86,7 @@ fn is_one_list(spans: &[u64], boundaries: &[u64]) -> bool
     let count = boundaries.len() / NUMBERS_PER_BOUNDARY;
     fill_endpoints(boundaries, count, &mut ends);
     let end = NUMBERS_PER_SPAN * count;
-    same_numbers(spans, &ends[..end])
+    spans == &ends[..end]
 }
 
 // Checks 4 to 9, and then 22, of a sheet whose cells stand in the bytes.
@@ -167,10 +152,9 @@ fn put_bytes(out: &mut [u8], at: usize, bytes: &[u8]) -> usize
     requires { at + length bytes.now ≤ length out.old }
     ensures { Put out.old at bytes.now out.new result }
 {
-    for i in 0..bytes.len() {
-        out[at + i] = bytes[i];
-    }
-    at + bytes.len()
+    let end = at + bytes.len();
+    out[at..end].copy_from_slice(bytes);
+    end
 }
 
 const KIND: u64 = 3;

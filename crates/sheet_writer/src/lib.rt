@@ -35,8 +35,8 @@ fn spend_cells(room: Option<usize>, cells: &[u8]) -> Option<usize>
     ensures { result ≡ spent room (length (concat_map shortest cells.now)) }
 {
     let mut left = room?;
-    for i in 0..cells.len() {
-        left = left.checked_sub(group_count(u64::from(cells[i])))?;
+    for &cell in cells {
+        left = left.checked_sub(group_count(u64::from(cell)))?;
     }
     Some(left)
 }
@@ -73,8 +73,8 @@ fn put_cells(out: &mut [u8], at: usize, cells: &[u8]) -> usize
     ensures { Put out.old at (concat_map shortest cells.now) out.new result }
 {
     let mut next = at;
-    for i in 0..cells.len() {
-        next = put_shortest(&mut *out, next, u64::from(cells[i]));
+    for &cell in cells {
+        next = put_shortest(&mut *out, next, u64::from(cell));
     }
     next
 }

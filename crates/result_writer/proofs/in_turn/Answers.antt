@@ -4,14 +4,14 @@ use Rattle.std.proofs.Common.{sym, ◌∙◌}
 use Rattle.result_writer.proofs.Turning.{turning-starts, turning-goes_on, turning-stops, turning-ends}
 use Rattle.result_writer.proofs.in_turn.Goals as goal
 
-pub loop-i-init : goal.loop-i-init
-loop-i-init c = turning-starts
+pub loop-label-init : goal.loop-label-init
+loop-label-init c = turning-starts
 
-pub loop-i-preserved : goal.loop-i-preserved
-loop-i-preserved c = turning-goes_on c.loop-i.invariant c.loop-i-test.true (sym c.after_label.ensures ∙ c.in-Some.is)
+pub loop-label-preserved : goal.loop-label-preserved
+loop-label-preserved c = turning-goes_on c.loop-label.invariant c.loop-label-test.true (sym c.after_label.ensures ∙ c.in-Some.is)
 
 pub returns-in_default : goal.returns-in_default
-returns-in_default c = turning-stops c.loop-i.invariant c.loop-i-test.true (sym c.after_label.ensures ∙ c.in_default.is)
+returns-in_default c = turning-stops c.loop-label.invariant c.loop-label-test.true (sym c.after_label.ensures ∙ c.in_default.is)
 
 pub returns : goal.returns
-returns c = turning-ends c.loop-i.invariant c.loop-i-test.false
+returns c = turning-ends c.loop-label.invariant c.loop-label-test.false

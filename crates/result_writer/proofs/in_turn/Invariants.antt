@@ -2,5 +2,5 @@
 use Rattle.result_writer.proofs.Turning.{Turning}
 use Rattle.result_writer.proofs.in_turn.Given as goal
 
-abbrev pub invariant-loop-i : goal.invariant-loop-i
-invariant-loop-i l = Turning l.regions l.labels l.started l.i
+abbrev pub invariant-loop-label : goal.invariant-loop-label
+invariant-loop-label l = Turning l.regions l.labels l.started l.label-index

@@ -2,5 +2,5 @@
 use Rattle.result_writer.proofs.Placing.{Placing}
 use Rattle.result_writer.proofs.put_numbers.Given as goal
 
-abbrev pub invariant-loop-i : goal.invariant-loop-i
-invariant-loop-i l = Placing l.initial.out l.at l.numbers l.out l.next l.i
+abbrev pub invariant-loop-n : goal.invariant-loop-n
+invariant-loop-n l = Placing l.initial.out l.at l.numbers l.out l.next l.n-index

@@ -2,5 +2,5 @@
 use Rattle.result_writer.proofs.Spending.{Spending}
 use Rattle.result_writer.proofs.spend_numbers.Given as goal
 
-abbrev pub invariant-loop-i : goal.invariant-loop-i
-invariant-loop-i l = Spending l.numbers l.initial.left l.left l.i
+abbrev pub invariant-loop-n : goal.invariant-loop-n
+invariant-loop-n l = Spending l.numbers l.initial.left l.left l.n-index

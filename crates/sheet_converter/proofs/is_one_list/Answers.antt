@@ -4,6 +4,7 @@ use mathlib.Core.Path.{sym, ap, ◌∙◌}
 use lib.Seq.{length-take-le}
 use Rattle.map_sheets.specs.Converting.{same_numbers}
 use Rattle.sheet_converter.proofs.Lists.{ends-taken}
+use Rattle.sheet_converter.proofs.Same.{compared}
 use borrow.Author.Rules.{rules}
 use Rattle.sheet_converter.proofs.is_one_list.Goals as goal
 
@@ -11,10 +12,10 @@ pub fill_endpoints-requires : goal.fill_endpoints-requires
 fill_endpoints-requires c =
     (omega arith, omega (arith, c.requires))
 
-pub slice_bounds-same_numbers-end : goal.slice_bounds-same_numbers-end
-slice_bounds-same_numbers-end c = sym (length-take-le _ _ (search rules))
+pub slice_bounds-eq-end : goal.slice_bounds-eq-end
+slice_bounds-eq-end c = sym (length-take-le _ _ (search rules))
 
 pub returns : goal.returns
 returns c =
     let given = c.args in
-    c.same_numbers.ensures ∙ ap (same_numbers given.spans.now) (ends-taken given.boundaries.now _ c.fill_endpoints.ensures)
+    c.eq.ensures ∙ compared given.spans.now _ ∙ ap (same_numbers given.spans.now) (ends-taken given.boundaries.now _ c.fill_endpoints.ensures)

@@ -3,5 +3,5 @@
 use Rattle.result_writer.proofs.Placing.{Placing}
 use Rattle.sheet_writer.proofs.put_cells.Given as goal
 
-abbrev pub invariant-loop-i : goal.invariant-loop-i
-invariant-loop-i l = Placing l.initial.out l.at l.cells l.out l.next l.i
+abbrev pub invariant-loop-cell : goal.invariant-loop-cell
+invariant-loop-cell l = Placing l.initial.out l.at l.cells l.out l.next l.cell-index

@@ -7,19 +7,19 @@ use Rattle.sheet_writer.proofs.spend_cells.Goals as goal
 pub returns-in_err-left : goal.returns-in_err-left
 returns-in_err-left c = rw c.from_residual.ensures (spent_none _ c.in_err-left.was)
 
-pub loop-i-init : goal.loop-i-init
-loop-i-init c = spending_starts
+pub loop-cell-init : goal.loop-cell-init
+loop-cell-init c = spending_starts
 
 pub returns-in_err-left-2 : goal.returns-in_err-left-2
 returns-in_err-left-2 c =
-    let short : c.loop-i.left < c.group_count.result = omega (arith, c.in_err-left-2.ensures) in
+    let short : c.loop-cell.left < c.group_count.result = omega (arith, c.in_err-left-2.ensures) in
     rw c.from_residual-in_err-left-2.ensures
-    (spending_stops c.loop-i.invariant c.loop-i-test.true (cell-size c.args.cells.now c.loop-i.i c.from.ensures c.group_count.ensures) short c.in_ok-left.was)
+    (spending_stops c.loop-cell.invariant c.loop-cell-test.true (cell-size c.args.cells.now c.loop-cell.cell-index c.from.ensures c.group_count.ensures) short c.in_ok-left.was)
 
-pub loop-i-preserved : goal.loop-i-preserved
-loop-i-preserved c =
+pub loop-cell-preserved : goal.loop-cell-preserved
+loop-cell-preserved c =
     let (fits, rest) = c.in_ok-left-2.ensures in
-    rw rest (spending_goes_on c.loop-i.invariant c.loop-i-test.true (cell-size c.args.cells.now c.loop-i.i c.from.ensures c.group_count.ensures) fits)
+    rw rest (spending_goes_on c.loop-cell.invariant c.loop-cell-test.true (cell-size c.args.cells.now c.loop-cell.cell-index c.from.ensures c.group_count.ensures) fits)
 
 pub returns : goal.returns
-returns c = spending_ends c.loop-i.invariant c.loop-i-test.false c.in_ok-left.was
+returns c = spending_ends c.loop-cell.invariant c.loop-cell-test.false c.in_ok-left.was

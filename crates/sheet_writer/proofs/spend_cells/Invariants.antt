@@ -2,5 +2,5 @@
 use Rattle.result_writer.proofs.Spending.{Spending}
 use Rattle.sheet_writer.proofs.spend_cells.Given as goal
 
-abbrev pub invariant-loop-i : goal.invariant-loop-i
-invariant-loop-i l = Spending l.cells l.initial.left l.left l.i
+abbrev pub invariant-loop-cell : goal.invariant-loop-cell
+invariant-loop-cell l = Spending l.cells l.initial.left l.left l.cell-index
