@@ -5,7 +5,6 @@
 
 ghost use Rattle.std.specs.Prelude.{◌≤◌, length};
 
-use plain_numbers::{least, wide_byte};
 use sheet_answer::{input_room, keptlist, output_room};
 use std::io;
 use std::io::{Read, Write};
@@ -20,10 +19,10 @@ const BYTES: usize = 65537;
 fn length_of(opening: &[u8; 3]) -> usize
     ensures { result ≤ 65537 }
 {
-    let length = wide_byte(opening[0])
-        + 256 * wide_byte(opening[1])
-        + 65536 * wide_byte(opening[2]);
-    least(length, BYTES)
+    let length = usize::from(opening[0])
+        + 256 * usize::from(opening[1])
+        + 65536 * usize::from(opening[2]);
+    length.min(BYTES)
 }
 
 // Reads a sheet as long as the list, and writes what is printed for it.

@@ -168,6 +168,7 @@ pub fn replace_ramp_mouths(
     let mut fresh = [false; 256];
     let mut known = 0usize;
     let mut a = 0;
+    // Kept: each turn says which ramp is next, one from before too, so no range or chain has these turns as its items.
     while a < count {
         known = known.max(a + 1);
         a = next_ramp(

@@ -7,7 +7,6 @@ ghost use Rattle.context.specs.Records.{record_of};
 ghost use Rattle.topology.specs.Numbers.{record_numbers, with_records};
 
 use context::Region;
-use plain_numbers::least;
 
 const NUMBERS_PER_RECORD: usize = 11;
 
@@ -62,8 +61,8 @@ fn put_numbers(numbers: &mut [u64], at: usize, r: Region)
 pub fn put_records(records: [Region; RECORDS_HERE], first: usize, numbers: &mut [u64])
     ensures { numbers.new ≡ with_records (map record_of (take first records)) numbers.old }
 {
-    let lent = least(first, RECORDS_HERE);
-    let count = least(lent, numbers.len() / NUMBERS_PER_RECORD);
+    let lent = first.min(RECORDS_HERE);
+    let count = lent.min(numbers.len() / NUMBERS_PER_RECORD);
     for i in 0..count {
         let r = records[i];
         put_numbers(numbers, NUMBERS_PER_RECORD * i, r);

@@ -7,7 +7,6 @@ ghost use Rattle.topology.specs.Contract.{answer_of, records_here, RanHere};
 use crate::numbers::{RECORDS_HERE, put_records};
 use crate::{Refused, answer_of, topology_kept_boundaries};
 use context::Region;
-use plain_numbers::least;
 
 fn empty_records() -> [Region; RECORDS_HERE]
     ensures { map record_of result ≡ replicate records_here empty_region }
@@ -62,7 +61,7 @@ pub fn kept_boundaries_here(
           numbers = numbers.new;
         }) }
 {
-    let lent = least(room, RECORDS_HERE);
+    let lent = room.min(RECORDS_HERE);
     let mut records: [Region; RECORDS_HERE] = empty_records();
     let answer = topology_kept_boundaries(
         pass,

@@ -250,6 +250,7 @@ pub fn run_turns(
 {
     let mut standing = first;
     let mut turn = first_turn();
+    // Kept: what a pass removes decides whether another follows, so no range or chain has these turns as its items.
     while turn.quiet < 3 {
         let next = turn_once(
             turn.pass, width, height, cells, anchors, first, standing, labels, masks, queue,
