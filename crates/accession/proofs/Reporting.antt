@@ -2,8 +2,8 @@
 use Prim.Native.Nat.{ℕ, zero, suc, ◌*◌, ◌/◌, ◌≤◌, ◌<◌}
 use native.Mathlib.Omega.{arith}
 use mathlib.Core.Path.{◌≡◌, refl, sym, ap, ap₂, ◌∙◌}
-use mathlib.Core.Bool.{Bool, true, false}
-use Rattle.std.specs.Prelude.{Option, None, Some}
+use mathlib.Core.Bool.{Bool, true}
+use Rattle.std.specs.Prelude.{Option, None}
 use mathlib.Core.List.{List, [], ◌∷◌}
 use lib.ListN.{length}
 use lib.Dec.{leb}
@@ -52,15 +52,7 @@ module _ (l : List ℕ) (own : ℕ) (out : List ℕ) where
       ∷ [])
       (length (line_of l own))
 
-  pub unfinished : is_finished l ≡ false → answer 3 0 ≡ line_verdict l own (length out)
-  unfolding line_verdict
-  unfinished f = ap (λ a. checks a (accessions_fault l)) (sym f)
-
   module _ (f : is_finished l ≡ true) where
-    pub broken : {i : ℕ} → accessions_fault l ≡ Some i → answer 17 i ≡ line_verdict l own (length out)
-    unfolding line_verdict
-    broken g = ap₂ checks (sym f) (sym g)
-
     module _ (g : accessions_fault l ≡ None) where
       pub ten-left : room_verdict (line_of l own) (length out) ≡ line_verdict l own (length out)
       unfolding line_verdict

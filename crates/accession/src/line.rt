@@ -11,7 +11,7 @@ ghost use Rattle.accession.specs.Contract.{answer_of, Finds, room_verdict, room_
 
 use crate::fields::{NUMBERS_PER_ACCESSION, day_of, map_of, own_of, record_count, superseded_of};
 use crate::rules::first_broken;
-use refusals::{Cause, Refusal};
+use refusals::{Cause, Refusal, ensure, no_fault};
 
 // The position of a record with an own number.
 fn find_own(records: &[u64], own: u64) -> Option<usize>
@@ -96,17 +96,7 @@ pub fn report_line(records: &[u64], own: u64, output: &mut [u64]) -> Result<usiz
     ensures answer { answer_of result ≡ line_verdict records.now own (length output.old) }
     ensures left { output.new ≡ line_at_exit (answer_of result).number records.now own output.old }
 {
-    if records.len() % NUMBERS_PER_ACCESSION != 0 {
-        return Err(Refusal {
-            cause: Cause::Entries,
-            place: 0,
-        });
-    }
-    match first_broken(records) {
-        None => report_kept(records, own, output),
-        Some(place) => Err(Refusal {
-            cause: Cause::Accession,
-            place,
-        }),
-    }
+    ensure(records.len() % NUMBERS_PER_ACCESSION == 0, Cause::Entries)?;
+    no_fault(first_broken(records), Cause::Accession)?;
+    report_kept(records, own, output)
 }

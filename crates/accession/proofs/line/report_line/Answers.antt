@@ -1,31 +1,63 @@
 -- `accession::line::report_line` meets its contract: each check refuses by its number, or those that are left decide. Assumes nothing.
-use Prim.Native.Nat.{◌%◌}
-use mathlib.Core.Path.{◌≡◌, refl, sym, ◌∙◌}
-use mathlib.Core.Bool.{true}
-use lib.ListN.{length}
-use borrow.Author.Tests.{eq-eqb, ne_eqb}
-use Rattle.catalogue.specs.Accession.{numbers_per_accession, is_finished}
-use Rattle.accession.proofs.Reporting.{unfinished, broken}
+use Rattle.std.proofs.Common.{rules, refl, sym, ap, ◌≡◌, ◌∙◌, ℕ, zero, suc, ◌≤◌, List, arith}
+use Rattle.std.specs.Prelude.{Option, None, Some, Err, true, ◌∷◌}
+use Rattle.definitions.specs.Refusals.{Refusal}
+use Rattle.definitions.specs.Verdict.{Answer, refusal, first_refusal}
+use Rattle.refusals.specs.declared.Refusal as refusals
+use Rattle.refusals.specs.Refusals.{number_of, refusal_of}
+use Rattle.refusals.proofs.Steps.{ensured, searched, holds, positive}
+use Rattle.catalogue.specs.Accession.{is_finished}
+use Rattle.catalogue.specs.Line.{line_verdict, line_at_exit}
+use Rattle.accession.specs.Contract.{answer_of}
 use Rattle.accession.proofs.line.report_line.Goals as goal
 
-pub returns-then-records-ne0 : goal.returns-then-records-ne0
-returns-then-records-ne0 c =
-    let l = c.args.records.now in
+-- a check that refuses, whatever comes behind it
+stopped : {a : Option Refusal} (l : List (Option Refusal)) (n : ℕ) (r : refusals.Refusal) → a ≡ Some (refusal_of r) → answer_of (Err r) ≡ first_refusal (a ∷ l) n
+stopped l n r p = sym (ap (λ o. first_refusal (o ∷ l) n) p)
+
+-- a check that does not leaves the answer to those behind it
+passed : {a : Option Refusal} (l : List (Option Refusal)) (n : ℕ) {x : Answer} → a ≡ None → x ≡ first_refusal l n → x ≡ first_refusal (a ∷ l) n
+passed l n p q = q ∙ sym (ap (λ o. first_refusal (o ∷ l) n) p)
+
+-- a search that was gone on behind found nothing
+none_searched : {f place : Option ℕ} → f ≡ place → None ≡ refusal 17 f → place ≡ None
+none_searched {f} e p = sym e ∙ by f p
+  where
+    by : (f : Option ℕ) → None ≡ refusal 17 f → f ≡ None
+    by None q = refl
+    by (Some i) q = absurd (no q)
+      where
+        no : {r : Refusal} → None ≡ Some r → ⊥
+        no z = let w : ◌≡◌ {A = ℕ} 0 1 = cc in omega arith
+
+-- a refusal leaves the output
+left_alone : (number : ℕ) (l : List ℕ) (own : ℕ) (out : List ℕ) → 1 ≤ number → out ≡ line_at_exit number l own out
+left_alone zero l own out h = absurd (omega arith)
+left_alone (suc number) l own out h = refl
+
+pub returns-in_err-ensure : goal.returns-in_err-ensure
+unfolding line_verdict
+returns-in_err-ensure c =
+    let a = c.args in
+    let r = c.in_err-ensure.field-0.0 in
+    let given : c.from_residual.result ≡ Err r = search rules in
     record {
-      answer = unfinished l c.args.own c.args.output.now (ne_eqb (length l % numbers_per_accession) 0 c.if-records-ne0.true);
-      left = refl;
+      answer = ap answer_of given ∙ stopped _ _ _ (ensured 3 refl c.in_err-ensure.ensures);
+      left = left_alone (number_of r.cause) a.records.now a.own a.output.now (positive r.cause) ∙ ap (λ x. line_at_exit (answer_of x).number a.records.now a.own a.output.now) (sym given);
+    }
+
+pub returns-in_err-no_fault : goal.returns-in_err-no_fault
+unfolding line_verdict
+returns-in_err-no_fault c =
+    let a = c.args in
+    let r = c.in_err-no_fault.field-0.0 in
+    let given : c.from_residual-in_err-no_fault.result ≡ Err r = search rules in
+    record {
+      answer = ap answer_of given ∙ passed _ _ (ensured 3 refl c.in_ok-ensure.ensures) (stopped _ _ _ (searched 17 c.first_broken.ensures c.in_err-no_fault.ensures));
+      left = left_alone (number_of r.cause) a.records.now a.own a.output.now (positive r.cause) ∙ ap (λ x. line_at_exit (answer_of x).number a.records.now a.own a.output.now) (sym given);
     }
 
 pub report_kept-requires : goal.report_kept-requires
 report_kept-requires c =
-    let finished : is_finished c.args.records.now ≡ true = eq-eqb (length c.args.records.now % numbers_per_accession) 0 c.if-records-ne0.false in
-    (finished, sym c.first_broken.ensures ∙ c.in-None.is)
-
-pub returns-in-Some : goal.returns-in-Some
-returns-in-Some c =
-    let finished : is_finished c.args.records.now ≡ true = eq-eqb (length c.args.records.now % numbers_per_accession) 0 c.if-records-ne0.false in
-    let fault = sym c.first_broken.ensures ∙ c.in-Some.is in
-    record {
-      answer = broken c.args.records.now c.args.own c.args.output.now finished fault;
-      left = refl;
-    }
+    let finished : is_finished c.args.records.now ≡ true = holds 3 (is_finished c.args.records.now) c.in_ok-ensure.ensures in
+    (finished, none_searched c.first_broken.ensures c.in_ok-no_fault.ensures)
