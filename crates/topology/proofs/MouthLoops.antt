@@ -1,22 +1,17 @@
--- The loops of `corners_near` and `best_near`: what is known when so many places or candidates are passed, one more, and the end. And what the parts of pass 1
--- ask of one another. Assumes nothing.
+-- What `place_near` asks and gives at a place of a mouth, and what the parts of pass 1 ask of one another. Assumes nothing.
 use Rattle.mouth_proposals.specs.Listed.{blank, Listed}
-use Rattle.mouth_proposals.specs.Candidates.{is_broad, broad, proposal_of}
+use Rattle.mouth_proposals.specs.Candidates.{is_broad}
 use Rattle.mouth_proposals.specs.declared.candidates.Candidate.{Candidate}
 use Rattle.mouth_proposals.specs.declared.mouths.MouthKind.{MouthKind}
 use Prim.Native.Nat.{ℕ, ◌+◌, ◌-◌, ◌*◌, ◌/◌, ◌%◌, ◌≤◌, ◌<◌}
 use native.Mathlib.Omega.{arith}
 use mathlib.Core.Path.{◌≡◌, refl, sym, ap, subst, ◌∙◌}
-use mathlib.Core.Bool.{Bool, true, false, not, ◌||◌, cond, not-not, true≢false}
+use mathlib.Core.Bool.{Bool, true, false, cond, true≢false}
 use Rattle.std.specs.Prelude.{None, Some}
 use mathlib.Core.List.{List, []}
 use lib.ListN.{length, get_or}
 use lib.Dec.{eqb}
-use borrow.Author.Tests.{ne_eqb}
-use Rattle.definitions.specs.Scan.{all_below}
 use Rattle.definitions.specs.Context.{Context}
-use Rattle.definitions.specs.RampMouths.{corners_near_lem}
-use Rattle.laws.specs.ListLaws.ScanSteps.{all_more, all-fails}
 use Rattle.laws.specs.FloatLaws.Pixels.{PixelRegion}
 use Rattle.context.specs.declared.Region.{Region}
 use Rattle.context.specs.Records.{record_of}
@@ -28,28 +23,11 @@ use Rattle.mouth_regions.specs.Near.{region_near}
 use Rattle.mouth_proposals.specs.Lent.{Shows}
 use Rattle.mouth_selection.specs.Entries.{SafeKeys, Measured}
 use Rattle.mouth_selection.specs.Selecting.{Lists, Progress}
-use Rattle.mouth_regions.proofs.InnerWalk.{corners-near}
 use Rattle.mouth_selection.proofs.ProposalLists.{fresh-marks, round_first}
 use Rattle.topology.specs.Held.{place_in, record_is}
-use Rattle.topology.specs.Mouths.{Locates, NearAsked, Replaces, NoMarks}
-
-negated : {x t : Bool} → not x ≡ t → x ≡ not t
-negated {x} {t} e = sym (not-not x) ∙ ap not e
+use Rattle.topology.specs.Mouths.{near_at, Locates, NearAsked, Replaces, NoMarks}
 
 -- ---- the places of a mouth
-
-module _ (C : Context) (pairs starts : List ℕ) (m a outer : ℕ) (kind : MouthKind) where
-  -- the region at place k, if it is not the one outside, is near
-  abbrev near_at : ℕ → Bool
-  near_at k = passes (λ r. region_near C m a (is_broad kind) (C.region r)) (inner_at pairs starts m outer k)
-
-  -- those of the places before k are
-  pub record NearBefore (k : ℕ) : Type 0 where
-    pub all : all_below k near_at ≡ true
-
-  pub near-start : NearBefore 0
-  unfolding all_below
-  near-start = record { all = refl }
 
 module _ {C : Context} {records : List Region} {boundaries pairs starts : List ℕ} {m a : ℕ} (outer : ℕ) (kind : MouthKind) (L : Locates C records boundaries pairs starts m a) where
   place-named : (k : ℕ) → k < places_of starts m → {r : ℕ} → Some r ≡ inner_at pairs starts m outer k → (1 ≤ r) × (r ≤ C.regions)
@@ -69,35 +47,21 @@ module _ {C : Context} {records : List Region} {boundaries pairs starts : List �
           let same : r ≡ region_at pairs (get_or starts m 0) k = cc in
           subst (λ x. (1 ≤ x) × (x ≤ C.regions)) (sym same) (side (eqb (k % 2) 0))
 
-  module _ {k count : ℕ} (l : k < count) (n : count ≡ places_of starts m) where
-    pub near-outside : None ≡ inner_at pairs starts m outer k → NearBefore C pairs starts m a outer kind k → NearBefore C pairs starts m a outer kind (k + 1)
-    near-outside e h = record { all = all_more (near_at C pairs starts m a outer kind) k h.all (ap (passes (λ r. region_near C m a (is_broad kind) (C.region r))) (sym e)) }
+  module _ {k : ℕ} (l : k < places_of starts m) {r : ℕ} (e : Some r ≡ inner_at pairs starts m outer k) where
+    pub region_named : (1 ≤ r) × (r ≤ C.regions)
+    region_named = place-named k l e
 
-    module _ {r : ℕ} (e : Some r ≡ inner_at pairs starts m outer k) where
-      pub region_named : (1 ≤ r) × (r ≤ C.regions)
-      region_named = place-named k (omega (arith, l, n)) e
+    pub near-place : r - 1 < length records
+    near-place = place_in L.held refl region_named.0 region_named.1
 
-      pub near-place : r - 1 < length records
-      near-place = place_in L.held refl region_named.0 region_named.1
-
-      module _ {s : Region} (read : (d : Region) → s ≡ get_or records (r - 1) d) {b : Bool} (kind_is : b ≡ is_broad kind) {x : Bool}
-          (answer : (C : Context) → ShownBoundaries C boundaries → m < C.count → a < C.count → PixelRegion (record_of s) → x ≡ region_near C m a b (record_of s)) where
-        is : record_of s ≡ C.region r
-        is = record_is L.held refl region_named.0 region_named.1 read
-
-        judged : near_at C pairs starts m a outer kind k ≡ x
-        judged =
-            ap (passes (λ r. region_near C m a (is_broad kind) (C.region r))) (sym e) ∙ (λ i. region_near C m a (sym kind_is i) (sym is i))
-            ∙ sym (answer C L.bounds L.mouth L.ramp (subst PixelRegion (sym is) (L.pixels.edges r)))
-
-        pub near_more : not x ≡ false → NearBefore C pairs starts m a outer kind k → NearBefore C pairs starts m a outer kind (k + 1)
-        near_more t h = record { all = all_more (near_at C pairs starts m a outer kind) k h.all (judged ∙ negated t) }
-
-        pub near-fails : not x ≡ true → false ≡ corners_near_lem C (proposal_of C m a outer kind)
-        near-fails f = sym (corners-near L.rows m L.mouth outer a kind ∙ all-fails (near_at C pairs starts m a outer kind) (places_of starts m) k (omega (arith, l, n)) (judged ∙ negated f))
-
-  pub near-ends : {k : ℕ} → k ≡ places_of starts m → NearBefore C pairs starts m a outer kind k → true ≡ corners_near_lem C (proposal_of C m a outer kind)
-  near-ends e h = sym (corners-near L.rows m L.mouth outer a kind ∙ ap (λ n. all_below n (near_at C pairs starts m a outer kind)) (sym e) ∙ h.all)
+    pub near-judged : {s : Region} → ((d : Region) → s ≡ get_or records (r - 1) d) → {b : Bool} → b ≡ is_broad kind → {x : Bool}
+        → ((C : Context) → ShownBoundaries C boundaries → m < C.count → a < C.count → PixelRegion (record_of s) → x ≡ region_near C m a b (record_of s))
+        → x ≡ near_at C pairs starts m a outer kind k
+    near-judged {s} read {b} kind_is {x} answer =
+        let is : record_of s ≡ C.region r = record_is L.held refl region_named.0 region_named.1 read in
+        answer C L.bounds L.mouth L.ramp (subst PixelRegion (sym is) (L.pixels.edges r))
+        ∙ (λ i. region_near C m a (kind_is i) (is i))
+        ∙ ap (passes (λ r. region_near C m a (is_broad kind) (C.region r))) e
 
 -- ---- the candidates
 

@@ -1,5 +1,5 @@
 -- The loop of `allow_proposals`: what `is_allowed` asks is at hand, and one mark more. And what the parts of pass 3 ask of one another. Assumes nothing.
-use Prim.Native.Nat.{ℕ, ◌+◌, ◌-◌, ◌*◌, ◌≤◌, ◌<◌}
+use Prim.Native.Nat.{ℕ, ◌+◌, ◌-◌, ◌≤◌, ◌<◌}
 use native.Mathlib.Omega.{arith}
 use mathlib.Core.Path.{◌≡◌, ◌∙◌}
 use mathlib.Core.Logic.{⊎_elim}

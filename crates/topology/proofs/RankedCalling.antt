@@ -18,7 +18,7 @@ use Rattle.definitions.specs.Verdict.{map_in}
 use Rattle.context.specs.declared.Region.{Region}
 use Rattle.context.specs.Records.{record_of}
 use Rattle.laws.specs.NumberLaws.Comparisons.{same_or}
-use Rattle.std.specs.Prelude.{Result, Ok, Err}
+use Rattle.std.specs.Prelude.{Result, Err}
 use Rattle.refusals.specs.declared.Refusal as code
 use Rattle.refusals.specs.Refusals.{number_of}
 use Rattle.call_partition.specs.declared.Ready.{Ready}

@@ -1,4 +1,4 @@
--- The words of the contracts of `corners_near`, `best_near`, `next_ramp` and `replace_ramp_mouths`. Definitions only; assumes nothing.
+-- The words of the contracts of `place_near`, `corners_near`, `best_near`, `next_ramp` and `replace_ramp_mouths`. Definitions only; assumes nothing.
 use Rattle.mouth_proposals.specs.Listed.{blank, max_candidates, Roomy}
 use Rattle.mouth_proposals.specs.declared.candidates.Candidate.{Candidate}
 use Rattle.std.specs.Prelude.{ℕ, ◌-◌, ◌≤◌, ◌<◌, ◌≡◌, Bool, false, List, length, get_or}
@@ -11,6 +11,10 @@ use Rattle.context.specs.declared.Region.{Region}
 use Rattle.context.specs.Shown.{ShownBoundaries, ShownTallies, ShownPairs}
 use Rattle.mouth_proposals.specs.Lent.{Placed, Shows}
 use Rattle.mouth_selection.specs.Selecting.{Room, weight}
+use Rattle.mouth_proposals.specs.Candidates.{is_broad}
+use Rattle.mouth_proposals.specs.declared.mouths.MouthKind.{MouthKind}
+use Rattle.mouth_regions.specs.Inner.{inner_at, passes}
+use Rattle.mouth_regions.specs.Near.{region_near}
 use Rattle.topology.specs.Held.{HoldsRecords}
 
 -- the lists and the records show C, of which m and a are boundaries
@@ -23,6 +27,10 @@ pub record Locates (C : Context) (records : List Region) (boundaries pairs start
   pub ramp : a < C.count
   pub mouth-placed : Placed boundaries m
   pub ramp-placed : Placed boundaries a
+
+-- the region at place k, if it is not the one outside, is near
+abbrev pub near_at : Context → List ℕ → List ℕ → ℕ → ℕ → ℕ → MouthKind → ℕ → Bool
+near_at C pairs starts m a outer kind k = passes (λ r. region_near C m a (is_broad kind) (C.region r)) (inner_at pairs starts m outer k)
 
 -- n candidates name boundaries of C
 pub record NearAsked (C : Context) (records : List Region) (boundaries pairs starts : List ℕ) (entries : List Candidate) (n : ℕ) : Type 0 where

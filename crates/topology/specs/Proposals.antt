@@ -1,5 +1,5 @@
 -- The words of the contracts of `allow_proposals`, `allowed_proposals` and `remove_junction_boundaries`. Definitions only; assumes nothing.
-use Rattle.std.specs.Prelude.{ℕ, ◌*◌, ◌≤◌, ◌<◌, ◌≡◌, Bool, false, List, length, get_or}
+use Rattle.std.specs.Prelude.{ℕ, ◌≤◌, ◌<◌, ◌≡◌, Bool, false, List, length, get_or}
 use Rattle.definitions.specs.Scan.{member, filter}
 use Rattle.definitions.specs.Context.{Context}
 use Rattle.definitions.specs.Junctions.{proposals, removed}

@@ -3,10 +3,11 @@ ghost use Rattle.std.specs.Prelude.{◌≡◌, List, ℕ, ◌≤◌, ◌<◌};
 ghost use Rattle.definitions.specs.Context.{Context};
 ghost use Rattle.definitions.specs.RampMouths.{corners_near_lem};
 ghost use Rattle.mouth_proposals.specs.Candidates.{proposal_of};
+ghost use Rattle.mouth_regions.specs.Inner.{places_of};
 ghost use Rattle.mouth_selection.specs.Entries.{Measured, entry_if};
 ghost use Rattle.mouth_selection.specs.Rounds.{near_least};
 ghost use Rattle.mouth_selection.specs.Selecting.{Progress, Ended};
-ghost use Rattle.topology.specs.Mouths.{Locates, NearAsked, Ready, Stepped, Replaces, NoMarks, Replaced};
+ghost use Rattle.topology.specs.Mouths.{near_at, Locates, NearAsked, Ready, Stepped, Replaces, NoMarks, Replaced};
 
 use crate::entries::candidate_at;
 use crate::slice::record_at;
@@ -17,6 +18,33 @@ use mouth_regions::inner::{inner_region, places};
 use mouth_regions::near::region_near;
 use mouth_selection::bests::{list_ramp, proceed};
 use mouth_selection::selection::better_marked;
+
+// Whether the region at place k of the rows of mouth m is near, or is the one outside.
+fn place_near(
+    records: &[Region],
+    boundaries: &[u64],
+    pairs: &[u32],
+    starts: &[usize; 257],
+    m: usize,
+    a: usize,
+    outer: u32,
+    kind: MouthKind,
+    k: usize,
+) -> bool
+    requires located { (C : Context) × Locates C records.now boundaries.now pairs.now starts.now m a }
+    requires k_within { k < places_of starts.now m }
+    ensures { (C : Context) →
+        Locates C records.now boundaries.now pairs.now starts.now m a →
+        result ≡ near_at C pairs.now starts.now m a outer kind k }
+{
+    match inner_region(pairs, starts, m, outer, k) {
+        Some(r) => {
+            let region = record_at(records, r as usize - 1);
+            region_near(region, boundaries, m, a, kind.is_broad())
+        }
+        None => true,
+    }
+}
 
 // Whether each corner of each inner region of a proposal of pass 1 is near.
 pub fn corners_near(
@@ -34,16 +62,9 @@ pub fn corners_near(
         Locates C records.now boundaries.now pairs.now starts.now m a →
         result ≡ corners_near_lem C (proposal_of C m a outer kind) }
 {
-    let count = places(pairs, starts, m);
-    for k in 0..count {
-        if let Some(r) = inner_region(pairs, starts, m, outer, k) {
-            let region = record_at(records, r as usize - 1);
-            if !region_near(region, boundaries, m, a, kind.is_broad()) {
-                return false;
-            }
-        }
-    }
-    true
+    (0..places(pairs, starts, m)).all(|k| place_near(
+        records, boundaries, pairs, starts, m, a, outer, kind, k,
+    ))
 }
 
 // The least of the n candidates that are marked and have their inner regions near, the first of level ones; n where there is none. Asked are only those that rank

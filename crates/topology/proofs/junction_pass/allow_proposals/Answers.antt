@@ -1,5 +1,5 @@
 -- A turn reads the row's two regions from the records, which are those of the context's regions, so the function that judges a row by two records judges it by the context.
-use Rattle.std.proofs.Common.{◌≡◌, ℕ, ◌+◌, ◌-◌, ◌*◌, ◌≤◌, ◌<◌, Bool, List, length, get_or, set, sym, ap, ◌∙◌, subst, length-set, arith}
+use Rattle.std.proofs.Common.{◌≡◌, ℕ, ◌+◌, ◌-◌, ◌≤◌, ◌<◌, Bool, List, length, get_or, set, sym, ap, ◌∙◌, subst, length-set, arith}
 use Rattle.definitions.specs.Context.{Context}
 use Rattle.context.specs.declared.Region.{Region}
 use Rattle.junction_proposals.specs.declared.proposals.Candidate.{Candidate}
