@@ -96,7 +96,13 @@ fn position_in(key: u64) -> usize
 // The later of two positions, if the first term does not precede the second and it is less than the least such position so far.
 fn least_astray_of(terms: &[u64], found: usize, i: usize, j: usize) -> usize
     requires { (numbers_per_term * (i + 1) ≤ length terms.now) × (numbers_per_term * (j + 1) ≤ length terms.now) }
-    ensures { (result ≤ found) × ((until : ℕ) → i < until → j < until → result ≡ until → found ≤ until → (found ≡ until) × Precedes terms.now i j) }
+    ensures { (result ≤ found)
+        × ((until : ℕ) →
+        i < until →
+        j < until →
+        result ≡ until →
+        found ≤ until →
+        (found ≡ until) × Precedes terms.now i j) }
 {
     if precedes(terms, i, j) {
         return found;
