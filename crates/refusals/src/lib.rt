@@ -2,6 +2,8 @@
 
 #![tactic(auto)]
 
+pub mod answers;
+
 ghost use Rattle.std.specs.Prelude.{◌≡◌};
 ghost use Rattle.definitions.specs.Refusals.{unless};
 ghost use Rattle.definitions.specs.Verdict.{refusal};
