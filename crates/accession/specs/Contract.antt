@@ -1,26 +1,15 @@
 -- What the answers of this crate say, by cases. Assumes nothing.
-use Rattle.std.specs.Prelude.{ℕ, zero, suc, ◌*◌, ◌<◌, ◌≡◌, List, [], ◌∷◌, length, leb, Option, None, Some, Result, Ok, Err}
+use Rattle.std.specs.Prelude.{ℕ, zero, suc, ◌*◌, ◌<◌, ◌≡◌, List, [], ◌∷◌, length, leb, Option, None, Some}
 use Rattle.definitions.specs.Lists.{overwrite}
 use Rattle.definitions.specs.Refusals.{unless}
 use Rattle.definitions.specs.Verdict.{Answer, refusal, first_refusal}
 use Rattle.catalogue.specs.Accession.{Accession, numbers_per_accession, accession_at, accession_count}
 use Rattle.catalogue.specs.Line.{flat_line}
-use Rattle.refusals.specs.declared.Refusal as refusals
-use Rattle.refusals.specs.Refusals.{number_of}
-use Rattle.accession.specs.declared.LineAnswer.{LineAnswer}
 
 -- a position as the definitions count it: one more than it, or 0 where there is none
 abbrev pub one_more : Option ℕ → ℕ
 one_more None = 0
 one_more (Some k) = suc k
-
--- number 0 and the count of records, or a refusal's number and place
-abbrev pub answer_in : LineAnswer → Answer
-answer_in r = record { number = r.number; value = r.value }
-
-abbrev pub answer_of : Result ℕ refusals.Refusal → Answer
-answer_of (Ok count) = record { number = 0; value = count }
-answer_of (Err r) = record { number = number_of r.cause; value = r.place }
 
 -- a record with this own number, or that there is none
 abbrev pub Finds : List ℕ → ℕ → Option ℕ → Type 0

@@ -7,7 +7,8 @@ ghost use Rattle.catalogue.specs.Accession.{numbers_per_accession, flat_accessio
 ghost use Rattle.catalogue.specs.Line.{flat_line, line_verdict, line_at_exit};
 ghost use Rattle.catalogue.specs.AccessionLaws.Newest.{one};
 ghost use Rattle.catalogue.specs.AccessionLaws.MapLine.{is_of_map, map_line};
-ghost use Rattle.accession.specs.Contract.{answer_of, Finds, room_verdict, room_exit};
+ghost use Rattle.refusals.specs.Answers.{answer_of};
+ghost use Rattle.accession.specs.Contract.{Finds, room_verdict, room_exit};
 
 use crate::fields::{NUMBERS_PER_ACCESSION, day_of, map_of, own_of, record_count, superseded_of};
 use crate::rules::first_broken;

@@ -7,12 +7,13 @@ ghost use Rattle.definitions.specs.Limits.{numbers_per_pair};
 ghost use Rattle.definitions.specs.Lists.{overwrite};
 ghost use Rattle.game.specs.Graph.{graph_of, edges_in, max_game_regions, verdicts_room, place_count, solve_answer, verdict_numbers, Solves};
 ghost use Rattle.game_sets.specs.Words.{Near};
-ghost use Rattle.game_solver.specs.Forms.{answer_in, answer_of};
+ghost use Rattle.refusals.specs.Answers.{answer_in, answer_of};
 
 use game_search::neighbours::{find_neighbours, find_row_neighbours};
 use game_search::search;
 use game_verdicts::put_verdicts;
-use refusals::Cause;
+use refusals::answers::Answer;
+use refusals::{Cause, Refusal, ensure};
 
 const MAX_REGIONS: u64 = 32;
 
@@ -20,31 +21,15 @@ const NUMBERS_PER_EDGE: usize = 2;
 
 const VERDICTS_ROOM: usize = 6144;
 
-// Number 0 and the count of verdicts, or a refusal's number and place.
-#[repr(C)]
-#[derive(Clone, Copy)]
-pub struct Answer {
-    pub number: u64,
-    pub value: u64,
-}
-
 // How many verdicts there are, or why the operation refuses.
-fn verdict(regions: u64, pairs: usize, goal: u64, room: usize) -> Result<u64, Cause>
+fn verdict(regions: u64, pairs: usize, goal: u64, room: usize) -> Result<usize, Refusal>
     ensures { (list : List ℕ) → length list ≡ pairs → answer_of result ≡ solve_answer regions list goal room }
 {
-    if pairs % NUMBERS_PER_EDGE != 0 {
-        return Err(Cause::Entries);
-    }
-    if room < VERDICTS_ROOM {
-        return Err(Cause::Room);
-    }
-    if MAX_REGIONS < regions {
-        return Err(Cause::Graph);
-    }
-    if !((1 <= goal) & (goal <= regions)) {
-        return Err(Cause::Goal);
-    }
-    Ok(2 * (regions * regions))
+    ensure(pairs % NUMBERS_PER_EDGE == 0, Cause::Entries)?;
+    ensure(VERDICTS_ROOM <= room, Cause::Room)?;
+    ensure(regions <= MAX_REGIONS, Cause::Graph)?;
+    ensure((1 <= goal) & (goal <= regions), Cause::Goal)?;
+    Ok((2 * (regions * regions)) as usize)
 }
 
 // The verdicts of a graph of up to 32 regions, whose goal is one of them, by the steps from each region.
@@ -81,6 +66,20 @@ pub fn solve_rows(regions: usize, rows: &[u32], count: usize, goal: usize, verdi
     judge(&near, regions, goal, verdicts);
 }
 
+// The verdicts, or why the operation refuses. Gives how many verdicts there are.
+fn solve_game(
+    regions: u64,
+    pairs: &[u32],
+    goal: u64,
+    verdicts: &mut [u32],
+) -> Result<usize, Refusal>
+    ensures { Solves regions pairs.now goal verdicts.old (answer_of result) verdicts.new }
+{
+    let count = verdict(regions, pairs.len(), goal, verdicts.len())?;
+    solve(regions as usize, pairs, goal as usize, verdicts);
+    Ok(count)
+}
+
 // For other languages too: include/jenwyllt.h declares it as jenwyllt_solve_game.
 pub fn game_solver_solve_game(
     regions: u64,
@@ -90,14 +89,5 @@ pub fn game_solver_solve_game(
 ) -> Answer
     ensures { Solves regions pairs.now goal verdicts.old (answer_in result) verdicts.new }
 {
-    match verdict(regions, pairs.len(), goal, verdicts.len()) {
-        Ok(value) => {
-            solve(regions as usize, pairs, goal as usize, verdicts);
-            Answer { number: 0, value }
-        }
-        Err(cause) => Answer {
-            number: cause.number(),
-            value: 0,
-        },
-    }
+    Answer::from(solve_game(regions, pairs, goal, verdicts))
 }

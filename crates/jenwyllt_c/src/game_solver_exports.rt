@@ -1,9 +1,9 @@
 // What `game_solver` exports to C.
 
 ghost use Rattle.game.specs.Graph.{Solves};
-ghost use Rattle.game_solver.specs.Forms.{answer_in};
+ghost use Rattle.refusals.specs.Answers.{answer_in};
 
-use game_solver::Answer;
+use refusals::answers::Answer;
 
 // For other languages too: include/jenwyllt.h declares it as jenwyllt_solve_game.
 #[unsafe(no_mangle)]

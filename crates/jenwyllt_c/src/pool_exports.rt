@@ -3,9 +3,9 @@
 ghost use Rattle.std.specs.Prelude.{◌≡◌, length};
 ghost use Rattle.catalogue.specs.Pool.{pool_verdict, pool_at_exit};
 ghost use Rattle.pool_terms.specs.Contract.{date};
-ghost use Rattle.pool.specs.Contract.{exported};
+ghost use Rattle.refusals.specs.Answers.{answer_in};
 
-use pool::PoolAnswer;
+use refusals::answers::Answer;
 
 #[unsafe(no_mangle)]
 pub extern "C" fn jenwyllt_maps_of_day(
@@ -15,8 +15,8 @@ pub extern "C" fn jenwyllt_maps_of_day(
     month: u64,
     day: u64,
     output: &mut [u64],
-) -> PoolAnswer
-    ensures answer { exported result ≡ pool_verdict terms.now records.now (date year month day) (length output.old) }
+) -> Answer
+    ensures answer { answer_in result ≡ pool_verdict terms.now records.now (date year month day) (length output.old) }
     ensures output { output.new ≡ pool_at_exit result.number terms.now records.now
         (date year month day) output.old }
 {

@@ -1,9 +1,9 @@
 // What `separation_list` exports to C.
 
 ghost use Rattle.separations.specs.Listing.{Lists};
-ghost use Rattle.separation_list.specs.Contract.{answer_in};
+ghost use Rattle.refusals.specs.Answers.{answer_in};
 
-use separation_list::Answer;
+use refusals::answers::Answer;
 
 // The separations of each two of these boundaries, on a map of these sides. For other languages too: include/jenwyllt.h declares it as jenwyllt_separations.
 #[unsafe(no_mangle)]

@@ -1,4 +1,4 @@
--- What the answers of this crate say, by cases, and what its steps promise. Definitions only; assumes nothing.
+-- What the steps of this crate promise. Definitions only; assumes nothing.
 use Rattle.std.specs.Prelude.{ℕ, zero, suc, ◌/◌, ◌≡◌, ◌&&◌, List, [], ◌∷◌, length, leb, Option, Some, Result}
 use Rattle.definitions.specs.Refusals.{Refusal, or_else, unless}
 use Rattle.definitions.specs.Verdict.{Answer, refusal, first_refusal}
@@ -7,12 +7,8 @@ use Rattle.catalogue.specs.Accession.{accessions_fault}
 use Rattle.catalogue.specs.Accession as accession
 use Rattle.catalogue.specs.Pool.{numbers_per_entry, entries_on}
 use Rattle.definitions.specs.Lists.{overwrite}
-use Rattle.accession.specs.Contract.{answer_of}
+use Rattle.refusals.specs.Answers.{answer_of}
 use Rattle.refusals.specs.declared.Refusal as refusals
-use Rattle.pool.specs.declared.PoolAnswer.{PoolAnswer}
-
-abbrev pub exported : PoolAnswer → Answer
-exported r = record { number = r.number; value = r.value }
 
 -- the first refusal over the two lists: 3, 17, 18 and 19
 unfoldable pub lists_refusal : List ℕ → List ℕ → Option Refusal

@@ -6,15 +6,16 @@ ghost use Rattle.std.specs.Prelude.{◌≡◌, length, None};
 ghost use Rattle.catalogue.specs.Terms.{terms_refusal};
 ghost use Rattle.catalogue.specs.Pool.{pool_verdict, pool_at_exit};
 ghost use Rattle.refusals.specs.Refusals.{refusal_in};
-ghost use Rattle.accession.specs.Contract.{answer_of};
 ghost use Rattle.pool_terms.specs.Contract.{date};
-ghost use Rattle.pool.specs.Contract.{exported, lists_refusal, Listed};
+ghost use Rattle.refusals.specs.Answers.{answer_in, answer_of};
+ghost use Rattle.pool.specs.Contract.{lists_refusal, Listed};
 
 use accession::rules::first_broken;
 use pool_entries::entries::show_records;
 use pool_entries::maps::{count_maps, put_entries};
 use pool_faults::faults::terms_fault;
 use pool_terms::calendar::day_of;
+use refusals::answers::Answer;
 use refusals::{Cause, Refusal, ensure, no_fault};
 
 const TERM_SIZE: usize = 7;
@@ -73,14 +74,7 @@ pub fn maps_of_day(
     }
 }
 
-// What an exported call returns: the number, 0 on success, and the count of maps or the place.
-#[repr(C)]
-#[derive(Clone, Copy)]
-pub struct PoolAnswer {
-    pub number: u64,
-    pub value: u64,
-}
-
+// The same, as C is answered.
 pub fn pool_maps_of_day(
     terms: &[u64],
     records: &[u64],
@@ -88,19 +82,10 @@ pub fn pool_maps_of_day(
     month: u64,
     day: u64,
     output: &mut [u64],
-) -> PoolAnswer
-    ensures answer { exported result ≡ pool_verdict terms.now records.now (date year month day) (length output.old) }
+) -> Answer
+    ensures answer { answer_in result ≡ pool_verdict terms.now records.now (date year month day) (length output.old) }
     ensures output { output.new ≡ pool_at_exit result.number terms.now records.now
         (date year month day) output.old }
 {
-    match maps_of_day(terms, records, year, month, day, &mut *output) {
-        Ok(count) => PoolAnswer {
-            number: 0,
-            value: count as u64,
-        },
-        Err(refusal) => PoolAnswer {
-            number: refusal.cause.number(),
-            value: refusal.place as u64,
-        },
-    }
+    Answer::from(maps_of_day(terms, records, year, month, day, &mut *output))
 }

@@ -6,16 +6,16 @@ use mathlib.Core.Path.{◌≡◌, refl, sym, ap, ap₂, ◌∙◌}
 use mathlib.Core.Bool.{Bool, true, false, cond}
 use Rattle.std.specs.Prelude.{Option}
 use Rattle.std.specs.List.{filter, range_with_len}
-use Rattle.std.proofs.Common.{add-zero, zero-add}
 use mathlib.Core.List.{List, ◌∷◌, ◌++◌}
 use lib.ListN.{length, length-append}
 use lib.Seq.{sets, length-sets}
 use lib.Dec.{ltb}
 use borrow.Author.Tests.{ltb-true, ltb-false}
 use Rattle.definitions.specs.Lists.{overwrite}
-use Rattle.definitions.specs.Scan.{to_list, only_if, collect}
-use Rattle.laws.specs.ListLaws.ScanSteps.{collect_next}
+use Rattle.definitions.specs.Scan.{bit, count_below, to_list, only_if, collect}
+use Rattle.laws.specs.ListLaws.ScanSteps.{count_next, collect_next}
 use Rattle.laws.specs.ListLaws.Overwritten.{overwrite_more}
+use Rattle.range_laws.specs.Ranges.{counted_range}
 use Rattle.catalogue.specs.Terms.{term_at, term_count, days_of, contains}
 use Rattle.catalogue.specs.Pool.{maps_in}
 use Rattle.pool_entries.specs.Steps.{map_at_lem}
@@ -43,25 +43,20 @@ pub on_day : (terms : List ℕ) (day i : ℕ) {r : Bool} → r ≡ contains day 
 on_day terms day i e t = ap (λ b. length (to_list (only_if b (term_at terms i).on_map))) (sym e ∙ t)
 
 module _ {A : Type 0} (f : ℕ → Bool) (g : ℕ → A) where
-  counted_from : (a n : ℕ) → length (collect (a + n) (λ i. only_if (f i) (g i))) ≡ length (collect a (λ i. only_if (f i) (g i))) + length (filter f (range_with_len a n))
-  counted_from a zero = ap (λ m. length (collect m (λ i. only_if (f i) (g i)))) (add-zero a) ∙ sym (add-zero _)
-  counted_from a (suc n) =
-      let e : a + suc n ≡ a + 1 + n = omega arith in
-      ap (λ m. length (collect m (λ i. only_if (f i) (g i)))) e ∙ counted_from (a + 1) n ∙ next (f a) (length_next (λ i. only_if (f i) (g i)) a)
+  as_many : (n : ℕ) → count_below n f ≡ length (collect n (λ i. only_if (f i) (g i)))
+  unfolding count_below collect
+  as_many zero = refl
+  as_many (suc n) = let e : suc n ≡ n + 1 = omega arith in rw e (next (f n) (count_next f n) (length_next (λ i. only_if (f i) (g i)) n) (as_many n))
     where
-      next : (b : Bool) → length (collect (a + 1) (λ i. only_if (f i) (g i))) ≡ length (collect a (λ i. only_if (f i) (g i))) + length (to_list (only_if b (g a)))
-          → length (collect (a + 1) (λ i. only_if (f i) (g i))) + length (filter f (range_with_len (a + 1) n))
-          ≡ length (collect a (λ i. only_if (f i) (g i))) + length (cond b (a ∷ filter f (range_with_len (a + 1) n)) (filter f (range_with_len (a + 1) n)))
-      next true h = omega arith
-      next false h = omega arith
-
-  counted_range : (n : ℕ) → length (filter f (range_with_len 0 n)) ≡ length (collect n (λ i. only_if (f i) (g i)))
-  unfolding collect
-  counted_range n = sym (ap (λ m. length (collect m (λ i. only_if (f i) (g i)))) (sym (zero-add n)) ∙ counted_from 0 n ∙ zero-add _)
+      next : (b : Bool) {x y x' y' : ℕ} → x' ≡ x + bit b → y' ≡ y + length (to_list (only_if b (g n))) → x ≡ y → x' ≡ y'
+      next true p q r = omega arith
+      next false p q r = omega arith
 
 pub all-counted : (terms : List ℕ) (day : ℕ) → length (filter (λ i. contains day (days_of (term_at terms i))) (range_with_len 0 (term_count terms))) ≡ length (maps_in terms day)
 unfolding maps_in
-all-counted terms day = counted_range (λ i. contains day (days_of (term_at terms i))) (λ i. (term_at terms i).on_map) (term_count terms)
+all-counted terms day =
+    let f = λ i. contains day (days_of (term_at terms i)) in
+    counted_range f (term_count terms) ∙ as_many f (λ i. (term_at terms i).on_map) (term_count terms)
 
 -- ---- putting
 

@@ -1,3 +1,3 @@
 pub mod CalendarTables
 pub mod Days
-pub mod TermScan
+pub 

@@ -1,11 +1,13 @@
 -- Numbers that rows have: one row or one number more. Assumes nothing.
-use Rattle.std.proofs.Common.{◌≡◌, ℕ, zero, suc, ◌+◌, ◌*◌, Bool, true, false, cond, not, ◌||◌, eqb, List, [], ◌∷◌, length, get_or, sym, ap, ◌∙◌, add-zero, zero-add, arith}
+use Rattle.std.proofs.Common.{◌≡◌, ℕ, zero, suc, ◌+◌, ◌*◌, Bool, not, ◌||◌, eqb, List, [], ◌∷◌, length, get_or, sym, ap, ◌∙◌, arith}
 use Rattle.std.specs.List.{list_any, filter, range_with_len}
-use mathlib.Core.Bool.{or-false, or_assoc}
-use Rattle.definitions.specs.Scan.{bit, any, count_below}
+use mathlib.Core.Bool.{or-false}
+use Rattle.definitions.specs.Scan.{any, any_below_lem}
 use Rattle.definitions.specs.Rows.{Row}
 use Rattle.laws.specs.ListLaws.FlatRows.{row_at, rows_in_lem, rows_next}
 use Rattle.laws.specs.ListLaws.Lists.{any_append}
+use Rattle.laws.specs.ListLaws.ScanSteps.{any_next}
+use Rattle.range_laws.specs.Ranges.{counted_range, any_range}
 use Rattle.report.specs.ReportLaws.Named.{named, unnamed_below}
 
 module _ (output : List ℕ) (i : ℕ) where
@@ -17,38 +19,19 @@ module _ (output : List ℕ) (i : ℕ) where
       ∙ any_append (λ r. eqb r.number i) (rows_in_lem k output) (row_at output (5 * k) ∷ [])
       ∙ ap (λ b. named (rows_in_lem k output) i || b) (or-false (eqb (get_or output (5 * k) 0) i))
 
-  named_from : (a n : ℕ) → named (rows_in_lem (a + n) output) i ≡ (named (rows_in_lem a output) i || list_any (λ k. eqb (row_at output (5 * k)).number i) (range_with_len a n))
-  named_from a zero = ap (λ m. named (rows_in_lem m output) i) (add-zero a) ∙ sym (or-false (named (rows_in_lem a output) i))
-  named_from a (suc n) =
-      let e : a + suc n ≡ a + 1 + n = omega arith in
-      let rest = list_any (λ k. eqb (row_at output (5 * k)).number i) (range_with_len (a + 1) n) in
-      ap (λ m. named (rows_in_lem m output) i) e ∙ named_from (a + 1) n ∙ ap (λ b. b || rest) (next a) ∙ or_assoc (named (rows_in_lem a output) i) (eqb (get_or output (5 * a) 0) i) rest
+  has_number : ℕ → Bool
+  has_number k = eqb (row_at output (5 * k)).number i
+
+  rows_named : (k : ℕ) → any_below_lem k has_number ≡ named (rows_in_lem k output) i
+  unfolding any_below_lem named any rows_in_lem
+  rows_named zero = refl
+  rows_named (suc k) = let e : suc k ≡ k + 1 = omega arith in rw e (any_next has_number k ∙ ap (λ b. b || has_number k) (rows_named k) ∙ sym (next k))
 
   pub named_range : (kept : ℕ) → list_any (λ k. eqb (row_at output (5 * k)).number i) (range_with_len 0 kept) ≡ named (rows_in_lem kept output) i
-  unfolding named any rows_in_lem
-  named_range kept = sym (ap (λ m. named (rows_in_lem m output) i) (sym (zero-add kept)) ∙ named_from 0 kept)
+  named_range kept = any_range has_number kept ∙ rows_named kept
 
 -- ---- numbers that no row has
 
-module _ (rows : List Row) where
-  step : (i : ℕ) → unnamed_below (i + 1) rows ≡ unnamed_below i rows + bit (not (named rows i))
-  unfolding unnamed_below count_below
-  step i =
-      let e : i + 1 ≡ suc i = omega arith in
-      ap (λ n. unnamed_below n rows) e
-
-  unnamed_from : (a n : ℕ) → unnamed_below (a + n) rows ≡ unnamed_below a rows + length (filter (λ i. not (named rows i)) (range_with_len a n))
-  unnamed_from a zero = ap (λ m. unnamed_below m rows) (add-zero a) ∙ sym (add-zero (unnamed_below a rows))
-  unnamed_from a (suc n) =
-      let e : a + suc n ≡ a + 1 + n = omega arith in
-      ap (λ m. unnamed_below m rows) e ∙ unnamed_from (a + 1) n ∙ more (not (named rows a)) (step a)
-    where
-      more : (b : Bool) → unnamed_below (a + 1) rows ≡ unnamed_below a rows + bit b
-          → unnamed_below (a + 1) rows + length (filter (λ i. not (named rows i)) (range_with_len (a + 1) n))
-          ≡ unnamed_below a rows + length (cond b (a ∷ filter (λ i. not (named rows i)) (range_with_len (a + 1) n)) (filter (λ i. not (named rows i)) (range_with_len (a + 1) n)))
-      more true h = omega arith
-      more false h = omega arith
-
-  pub unnamed_range : (count : ℕ) → length (filter (λ i. not (named rows i)) (range_with_len 0 count)) ≡ unnamed_below count rows
-  unfolding unnamed_below count_below
-  unnamed_range count = sym (ap (λ m. unnamed_below m rows) (sym (zero-add count)) ∙ unnamed_from 0 count ∙ zero-add _)
+pub unnamed_range : (rows : List Row) (count : ℕ) → length (filter (λ i. not (named rows i)) (range_with_len 0 count)) ≡ unnamed_below count rows
+unfolding unnamed_below
+unnamed_range rows count = counted_range (λ i. not (named rows i)) count

@@ -1,8 +1,7 @@
--- When each answer is given: the verdict by its four checks, and the output at exit by the answer's number. Assumes nothing.
+-- What the checks leave, and the output at exit by the answer's number. Assumes nothing.
 use mathlib.Core.Path.{◌≡◌, sym, ap, ◌∙◌}
 use mathlib.Core.Bool.{Bool, true, cond}
 use mathlib.Core.List.{List, ◌∷◌}
-use Rattle.std.specs.Prelude.{Option, None, Some, Err}
 use Prim.Native.Nat.{ℕ, ◌-◌, ◌*◌, ◌%◌, ◌≤◌}
 use native.Mathlib.Nat.{le_trans, mul-le-mul, div-le_self}
 use native.Mathlib.Omega.{arith}
@@ -12,14 +11,11 @@ use lib.Seq.{sets}
 use borrow.Author.Tests.{leb-true, eq-eqb, ne_eqb}
 use Rattle.definitions.specs.Limits.{max_entries, numbers_per_boundary}
 use Rattle.definitions.specs.Lists.{overwrite}
-use Rattle.definitions.specs.Refusals.{Refusal, is_whole}
-use Rattle.definitions.specs.Verdict.{Answer, first_refusal}
+use Rattle.definitions.specs.Refusals.{is_whole}
 use Rattle.laws.specs.ListLaws.Tests.{both}
 use Rattle.laws.specs.ListLaws.Overwritten.{sets_overwrite}
 use Rattle.separations.specs.Listing.{boundary_count, pair_count, separation_rows, list_at_exit}
-use Rattle.refusals.specs.declared.Refusal as refusals
-use Rattle.refusals.specs.Refusals.{refusal_of}
-use Rattle.separation_list.specs.Contract.{answer_of, max_pairs}
+use Rattle.separation_list.specs.Contract.{max_pairs}
 
 pub entries-le : (boundaries : List ℕ) {b : Bool} → b ≡ is_whole numbers_per_boundary boundaries → b ≡ true → boundary_count boundaries ≤ max_entries
 entries-le boundaries e f =
@@ -30,16 +26,6 @@ pairs-le n h = le_trans (div-le_self (n * (n - 1)) 2) (mul-le-mul h (le_trans (o
   where
     one_less : (n : ℕ) → n - 1 ≤ n
     one_less n = omega arith
-
--- ---- the verdict
-
--- a check that refuses, whatever comes behind it
-pub stopped : {a : Option Refusal} (l : List (Option Refusal)) (n : ℕ) (r : refusals.Refusal) → a ≡ Some (refusal_of r) → answer_of (Err r) ≡ first_refusal (a ∷ l) n
-stopped l n r p = sym (ap (λ o. first_refusal (o ∷ l) n) p)
-
--- a check that does not leaves the answer to those behind it
-pub passed : {a : Option Refusal} (l : List (Option Refusal)) (n : ℕ) {x : Answer} → a ≡ None → x ≡ first_refusal l n → x ≡ first_refusal (a ∷ l) n
-passed l n p q = q ∙ sym (ap (λ o. first_refusal (o ∷ l) n) p)
 
 -- ---- the output at exit
 

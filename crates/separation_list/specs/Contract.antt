@@ -1,20 +1,8 @@
--- Words of the crate's contracts: what the answer says, and what the functions below the operation ask for. Definitions only. Assumes nothing.
-use Rattle.std.specs.Prelude.{List, ℕ, ◌+◌, ◌*◌, ◌≤◌, ◌<◌, length, Result, Ok, Err}
+-- Words of the crate's contracts: what the functions below the operation ask for. Definitions only. Assumes nothing.
+use Rattle.std.specs.Prelude.{List, ℕ, ◌+◌, ◌*◌, ◌≤◌, ◌<◌, length}
 use Rattle.definitions.specs.Limits.{max_entries}
-use Rattle.definitions.specs.Verdict as verdict
 use Rattle.laws.specs.FloatLaws.Pixels.{PixelSegment}
 use Rattle.separations.specs.Listing.{boundary_count, ends_of_lem, separation_rows}
-use Rattle.refusals.specs.Refusals.{number_of}
-use Rattle.refusals.specs.declared.Refusal as refusals
-use Rattle.separation_list.specs.declared.Answer.{Answer}
-
-abbrev pub answer_in : Answer → verdict.Answer
-answer_in r = record { number = r.number; value = r.value }
-
--- number 0 and the count of rows, or a refusal's number and place
-abbrev pub answer_of : Result ℕ refusals.Refusal → verdict.Answer
-answer_of (Ok count) = record { number = 0; value = count }
-answer_of (Err r) = record { number = number_of r.cause; value = r.place }
 
 -- every boundary's endpoints are pixels up to 8,192
 pub record OnPixels (boundaries : List ℕ) : Type 0 where

@@ -8,7 +8,8 @@ ghost use Rattle.std.proofs.lemmas.List.Edits.{sets};
 ghost use Rattle.definitions.specs.Limits.{max_entries};
 ghost use Rattle.geometry.specs.Forms.{segment_form};
 ghost use Rattle.separations.specs.Listing.{boundary_count, ends_of_lem, separation_row, column, separation_rows, pair_count, list_verdict, Lists};
-ghost use Rattle.separation_list.specs.Contract.{answer_in, answer_of, PairFits, ColumnFits, RowsFit, max_pairs};
+ghost use Rattle.refusals.specs.Answers.{answer_in, answer_of};
+ghost use Rattle.separation_list.specs.Contract.{PairFits, ColumnFits, RowsFit, max_pairs};
 
 use checks::boundaries::boundaries_fault;
 use checks::limits::NUMBERS_PER_BOUNDARY;
@@ -17,6 +18,7 @@ use exact_squares::exact_square;
 use geometry::Segment;
 use geometry::boundaries::segment_of;
 use geometry::ramp_geometry::segment_distance;
+use refusals::answers::Answer;
 use refusals::{Cause, Refusal, ensure, no_fault};
 
 const NUMBERS_PER_SEPARATION: usize = 5;
@@ -114,14 +116,6 @@ pub fn list_separations(
     Ok(count)
 }
 
-// Number 0 and the count of rows, or a refusal's number and place.
-#[repr(C)]
-#[derive(Clone, Copy)]
-pub struct Answer {
-    pub number: u64,
-    pub value: u64,
-}
-
 // The same, for other languages: include/jenwyllt.h declares it as jenwyllt_separations.
 pub fn separation_list_separations(
     width: u64,
@@ -131,14 +125,5 @@ pub fn separation_list_separations(
 ) -> Answer
     ensures { Lists width height boundaries.now output.old (answer_in result) output.new }
 {
-    match list_separations(width, height, boundaries, output) {
-        Ok(count) => Answer {
-            number: 0,
-            value: count as u64,
-        },
-        Err(refusal) => Answer {
-            number: refusal.cause.number(),
-            value: refusal.place as u64,
-        },
-    }
+    Answer::from(list_separations(width, height, boundaries, output))
 }

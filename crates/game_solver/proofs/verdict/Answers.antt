@@ -1,41 +1,54 @@
 -- `verdict` meets its contract: the four checks, in the definition's order. Assumes nothing.
-use native.Mathlib.Omega.{arith}
-use borrow.Author.Tests.{not-true, not-false}
+use Rattle.std.proofs.Common.{rules, refl, sym, ap, ◌≡◌, ◌∙◌, ℕ, ◌%◌, Bool, List, length, eqb, leb, arith}
+use Rattle.std.specs.Prelude.{Err}
+use Rattle.definitions.specs.Verdict.{Answer}
+use Rattle.game.specs.Graph.{max_game_regions, solve_answer}
 use Rattle.game_verdicts.proofs.Reading.{square-few}
-use Rattle.game_solver.proofs.Answering.{pairs-refused, room-refused, regions-refused, goal-refused, accepted}
+use Rattle.refusals.specs.Answers.{answer_of}
+use Rattle.refusals.proofs.Steps.{stopped, passed, ensured, holds}
 use Rattle.game_solver.proofs.verdict.Goals as goal
 
-pub returns-then-pairs-ne0 : goal.returns-then-pairs-ne0
-returns-then-pairs-ne0 c =
-    let a = c.args in
-    λ list l. pairs-refused a.regions list a.goal a.room l c.if-pairs-ne0.true
+-- of the list, or of its length
+whole : (list : List ℕ) {pairs : ℕ} → length list ≡ pairs → eqb (pairs % 2) 0 ≡ eqb (length list % 2) 0
+whole list l = ap (λ n. eqb (n % 2) 0) (sym l)
 
-pub returns-then-room-lt-VERDICTS_ROOM : goal.returns-then-room-lt-VERDICTS_ROOM
-returns-then-room-lt-VERDICTS_ROOM c =
-    let a = c.args in
-    λ list l. room-refused a.regions list a.goal a.room l c.if-pairs-ne0.false c.if-room-lt-VERDICTS_ROOM.true
-
-pub returns-then-regions-gt-MAX_REGIONS : goal.returns-then-regions-gt-MAX_REGIONS
-returns-then-regions-gt-MAX_REGIONS c =
-    let a = c.args in
+pub returns-in_err-ensure : goal.returns-in_err-ensure
+unfolding solve_answer
+returns-in_err-ensure c =
     λ list l.
-    regions-refused a.regions list a.goal a.room l c.if-pairs-ne0.false c.if-room-lt-VERDICTS_ROOM.false c.if-regions-gt-MAX_REGIONS.true
+    let given : c.from_residual.result ≡ Err c.in_err-ensure.field-0.0 = search rules in
+    ap answer_of given ∙ stopped _ _ _ (ensured 3 (whole list l) c.in_err-ensure.ensures)
 
-pub returns-then-not-goal-regions : goal.returns-then-not-goal-regions
-returns-then-not-goal-regions c =
-    let a = c.args in
+pub returns-in_err-ensure-2 : goal.returns-in_err-ensure-2
+unfolding solve_answer
+returns-in_err-ensure-2 c =
     λ list l.
-    goal-refused a.regions list a.goal a.room l c.if-pairs-ne0.false c.if-room-lt-VERDICTS_ROOM.false c.if-regions-gt-MAX_REGIONS.false (not-true _ c.if-not-goal-regions.true-raw)
+    let given : c.from_residual-in_err-ensure-2.result ≡ Err c.in_err-ensure-2.field-0.0 = search rules in
+    ap answer_of given ∙ passed _ _ (ensured 3 (whole list l) c.in_ok-ensure.ensures) (stopped _ _ _ (ensured 10 refl c.in_err-ensure-2.ensures))
 
-pub overflow_mul-result : goal.overflow_mul-result
-overflow_mul-result c =
-    record { fits = omega (arith, square-few _ c.if-regions-gt-MAX_REGIONS.false) }
+pub returns-in_err-ensure-3 : goal.returns-in_err-ensure-3
+unfolding solve_answer
+returns-in_err-ensure-3 c =
+    λ list l.
+    let given : c.from_residual-in_err-ensure-3.result ≡ Err c.in_err-ensure-3.field-0.0 = search rules in
+    ap answer_of given
+    ∙ passed _ _ (ensured 3 (whole list l) c.in_ok-ensure.ensures)
+    (passed _ _ (ensured 10 refl c.in_ok-ensure-2.ensures) (stopped _ _ _ (ensured 23 refl c.in_err-ensure-3.ensures)))
 
-pub overflow_mul-result-2 : goal.overflow_mul-result-2
-overflow_mul-result-2 c =
-    record { fits = omega (arith, square-few _ c.if-regions-gt-MAX_REGIONS.false) }
+pub returns-in_err-ensure-4 : goal.returns-in_err-ensure-4
+unfolding solve_answer
+returns-in_err-ensure-4 c =
+    λ list l.
+    let given : c.from_residual-in_err-ensure-4.result ≡ Err c.in_err-ensure-4.field-0.0 = search rules in
+    ap answer_of given
+    ∙ passed _ _ (ensured 3 (whole list l) c.in_ok-ensure.ensures)
+    (passed _ _ (ensured 10 refl c.in_ok-ensure-2.ensures)
+    (passed _ _ (ensured 23 refl c.in_ok-ensure-3.ensures) (stopped _ _ _ (ensured 24 refl c.in_err-ensure-4.ensures))))
 
 pub returns : goal.returns
+unfolding solve_answer
 returns c =
-    let a = c.args in
-    λ list l. accepted a.regions list a.goal a.room l c.if-pairs-ne0.false c.if-room-lt-VERDICTS_ROOM.false c.if-regions-gt-MAX_REGIONS.false (not-false _ c.if-not-goal-regions.false-raw)
+    λ list l.
+    passed _ _ (ensured 3 (whole list l) c.in_ok-ensure.ensures)
+    (passed _ _ (ensured 10 refl c.in_ok-ensure-2.ensures)
+    (passed _ _ (ensured 23 refl c.in_ok-ensure-3.ensures) (passed _ _ (ensured 24 refl c.in_ok-ensure-4.ensures) refl)))

@@ -3,7 +3,7 @@ use Rattle.std.proofs.Common.{rules}
 use mathlib.Core.Path.{◌≡◌, refl, sym, ap, ◌∙◌}
 use Rattle.std.specs.Prelude.{Err}
 use Rattle.refusals.specs.Refusals.{refusal_in}
-use Rattle.accession.specs.Contract.{answer_of}
+use Rattle.refusals.specs.Answers.{answer_of}
 use Rattle.pool_terms.specs.Contract.{date}
 use Rattle.pool.proofs.Verdicts.{lists-refused, day-refused, day-listed, listed-at_exit, terms_fine}
 use Rattle.pool.proofs.maps_of_day.Goals as goal

@@ -5,7 +5,7 @@ use Rattle.definitions.specs.Verdict.{Answer}
 use Rattle.separations.specs.Listing.{boundary_count, separation_rows, list_verdict}
 use Rattle.separations.specs.ListingLaws.{rows-length, listed-pixel, listed-room}
 use Rattle.refusals.proofs.Steps.{positive}
-use Rattle.separation_list.specs.Contract.{answer_of}
+use Rattle.refusals.specs.Answers.{answer_of}
 use Rattle.separation_list.proofs.Answering.{at_success, at_refusal}
 use Rattle.separation_list.proofs.list_separations.Goals as goal
 

@@ -2,10 +2,10 @@
 use Rattle.std.proofs.Common.{rules, ap, ◌≡◌, ◌∙◌, ◌*◌}
 use Rattle.std.specs.Prelude.{Err, leb}
 use Rattle.laws.specs.SheetReading.SheetSizes.{sides_most}
-use Rattle.refusals.proofs.Steps.{ensured, searched, holds}
+use Rattle.refusals.proofs.Steps.{stopped, passed, ensured, searched, holds}
 use Rattle.separations.specs.Listing.{numbers_per_separation, list_verdict}
-use Rattle.separation_list.specs.Contract.{answer_of}
-use Rattle.separation_list.proofs.Answering.{entries-le, stopped, passed}
+use Rattle.refusals.specs.Answers.{answer_of}
+use Rattle.separation_list.proofs.Answering.{entries-le}
 use Rattle.separation_list.proofs.verdict.Goals as goal
 
 pub returns-in_err-ensure : goal.returns-in_err-ensure

@@ -6,7 +6,8 @@ use lib.ListN.{length}
 use Rattle.catalogue.specs.Line.{line_of}
 use Rattle.catalogue.specs.AccessionLaws.MapLine.{map_line}
 use Rattle.catalogue.proofs.AccessionLaws.MapLine.{line-of-record, line-unknown}
-use Rattle.accession.specs.Contract.{answer_of, Finds, room_verdict}
+use Rattle.refusals.specs.Answers.{answer_of}
+use Rattle.accession.specs.Contract.{Finds, room_verdict}
 use Rattle.std.specs.Prelude.{Some}
 use Rattle.accession.proofs.Reporting.{ten-left, unknown, exit-left, exit-unknown}
 use Rattle.accession.proofs.line.report_kept.Goals as goal

@@ -5,19 +5,11 @@ use Rattle.definitions.specs.Refusals.{Refusal}
 use Rattle.definitions.specs.Verdict.{Answer, refusal, first_refusal}
 use Rattle.refusals.specs.declared.Refusal as refusals
 use Rattle.refusals.specs.Refusals.{number_of, refusal_of}
-use Rattle.refusals.proofs.Steps.{ensured, searched, holds, positive}
+use Rattle.refusals.proofs.Steps.{stopped, passed, ensured, searched, holds, positive}
 use Rattle.catalogue.specs.Accession.{is_finished}
 use Rattle.catalogue.specs.Line.{line_verdict, line_at_exit}
-use Rattle.accession.specs.Contract.{answer_of}
+use Rattle.refusals.specs.Answers.{answer_of}
 use Rattle.accession.proofs.line.report_line.Goals as goal
-
--- a check that refuses, whatever comes behind it
-stopped : {a : Option Refusal} (l : List (Option Refusal)) (n : ℕ) (r : refusals.Refusal) → a ≡ Some (refusal_of r) → answer_of (Err r) ≡ first_refusal (a ∷ l) n
-stopped l n r p = sym (ap (λ o. first_refusal (o ∷ l) n) p)
-
--- a check that does not leaves the answer to those behind it
-passed : {a : Option Refusal} (l : List (Option Refusal)) (n : ℕ) {x : Answer} → a ≡ None → x ≡ first_refusal l n → x ≡ first_refusal (a ∷ l) n
-passed l n p q = q ∙ sym (ap (λ o. first_refusal (o ∷ l) n) p)
 
 -- a search that was gone on behind found nothing
 none_searched : {f place : Option ℕ} → f ≡ place → None ≡ refusal 17 f → place ≡ None
