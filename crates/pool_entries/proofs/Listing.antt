@@ -46,7 +46,10 @@ module _ {A : Type 0} (f : ℕ → Bool) (g : ℕ → A) where
   as_many : (n : ℕ) → count_below n f ≡ length (collect n (λ i. only_if (f i) (g i)))
   unfolding count_below collect
   as_many zero = refl
-  as_many (suc n) = let e : suc n ≡ n + 1 = omega arith in rw e (next (f n) (count_next f n) (length_next (λ i. only_if (f i) (g i)) n) (as_many n))
+  as_many (suc n) =
+      let e : suc n ≡ n + 1 = omega arith in
+      ap (λ m. count_below m f) e ∙ next (f n) (count_next f n) (length_next (λ i. only_if (f i) (g i)) n) (as_many n)
+      ∙ ap (λ m. length (collect m (λ i. only_if (f i) (g i)))) (sym e)
     where
       next : (b : Bool) {x y x' y' : ℕ} → x' ≡ x + bit b → y' ≡ y + length (to_list (only_if b (g n))) → x ≡ y → x' ≡ y'
       next true p q r = omega arith
@@ -55,7 +58,7 @@ module _ {A : Type 0} (f : ℕ → Bool) (g : ℕ → A) where
 pub all-counted : (terms : List ℕ) (day : ℕ) → length (filter (λ i. contains day (days_of (term_at terms i))) (range_with_len 0 (term_count terms))) ≡ length (maps_in terms day)
 unfolding maps_in
 all-counted terms day =
-    let f = λ i. contains day (days_of (term_at terms i)) in
+    let f : ℕ → Bool = λ i. contains day (days_of (term_at terms i)) in
     counted_range f (term_count terms) ∙ as_many f (λ i. (term_at terms i).on_map) (term_count terms)
 
 -- ---- putting

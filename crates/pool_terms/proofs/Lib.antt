@@ -1,3 +1,2 @@
 pub mod CalendarTables
 pub mod Days
-pub 
