@@ -7,6 +7,8 @@ ghost use Rattle.report_figures.specs.Calls.{call_run, CallLeft, ReportedCall};
 use crate::row_lengths::{count_unnamed, squared_lengths};
 use crate::sums::{with_accepted, with_refused};
 use crate::{Figures, Report, Reported};
+use checks::passes::Pass;
+use refusals::Cause;
 
 const MAX_RUNS: u64 = 10_000;
 
@@ -22,17 +24,19 @@ pub fn with_call(
     requires { CallLeft pass number value output.now }
     ensures { report_form result ≡ added_by sum64 (report_form report) (call_run pass number value count output.now) }
 {
-    if number == 0 {
-        let kept = value as usize;
-        let run = Figures {
-            accepted: 1,
-            boundaries: count as u64,
-            kept: value,
-            removed: count_unnamed(output, kept, count),
-        };
-        return with_accepted(report, pass, run, squared_lengths(output, kept));
+    match (number, Pass::of(pass)) {
+        (0, Some(pass)) => {
+            let kept = value as usize;
+            let run = Figures {
+                accepted: 1,
+                boundaries: count as u64,
+                kept: value,
+                removed: count_unnamed(output, kept, count),
+            };
+            with_accepted(report, pass, run, squared_lengths(output, kept))
+        }
+        _ => with_refused(report, number),
     }
-    with_refused(report, number)
 }
 
 // Whether a run may be added.
@@ -47,7 +51,7 @@ pub fn beyond(report: Report) -> Reported
     ensures { result ≡ record { number = 3; value = 0; report = report } }
 {
     Reported {
-        number: 3,
+        number: Cause::Entries.number(),
         value: 0,
         report,
     }

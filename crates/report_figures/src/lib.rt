@@ -10,6 +10,8 @@ ghost use Rattle.std.specs.Prelude.{◌≡◌, None};
 ghost use Rattle.report.specs.Report.{empty_report, mean_of, mean_kept};
 ghost use Rattle.report_figures.specs.Forms.{report_form, mean_form};
 
+use checks::passes::Pass;
+
 // How many refusals are counted by number: 1 to 24, and a count for 0 that stays as it is.
 pub const REFUSAL_NUMBERS: usize = 25;
 
@@ -110,10 +112,10 @@ fn mean_of(figures: Figures) -> Mean
 pub fn report_figures_mean_kept(report: Report, pass: u64) -> Mean
     ensures { result ≡ mean_form (mean_kept (report_form report) pass) }
 {
-    match pass {
-        1 => mean_of(report.pass_1),
-        2 => mean_of(report.pass_2),
-        3 => mean_of(report.pass_3),
-        _ => no_mean(),
+    match Pass::of(pass) {
+        None => no_mean(),
+        Some(Pass::ReplaceRampMouths) => mean_of(report.pass_1),
+        Some(Pass::CollapseRampInteriors) => mean_of(report.pass_2),
+        Some(Pass::RemoveJunctionBoundaries) => mean_of(report.pass_3),
     }
 }

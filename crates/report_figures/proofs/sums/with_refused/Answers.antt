@@ -1,8 +1,7 @@
--- `sums::with_refused` meets its contract, from the sums of its parts. Assumes nothing.
+-- `sums::with_refused` meets its contract, from the counts with one more. Assumes nothing.
 use mathlib.Core.Path.{refl}
 use Rattle.report_figures.proofs.Adding.{refused-added}
 use Rattle.report_figures.proofs.sums.with_refused.Goals as goal
 
 pub returns : goal.returns
-returns c =
-    refused-added c.args.report c.args.number refl c.count_at-refused.ensures
+returns c = refused-added c.args.report c.args.number refl c.count_at-added.ensures
