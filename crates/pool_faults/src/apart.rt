@@ -28,6 +28,13 @@ pub struct NoRoom {
     pub at: usize,
 }
 
+// The first `count` terms of a list.
+#[derive(Clone, Copy)]
+struct Terms<'a> {
+    numbers: &'a [u64],
+    count: usize,
+}
+
 // The maps whose numbers are from `low` to `high`.
 #[derive(Clone, Copy)]
 struct Part {
@@ -110,27 +117,27 @@ fn least_astray_of(terms: &[u64], found: usize, i: usize, j: usize) -> usize
     found.min(i.max(j))
 }
 
-// The least later position of two neighbours of which the first does not precede the second; `until` where there are none.
-fn least_astray(terms: &[u64], keys: &[u64], until: usize) -> usize
-    requires { (numbers_per_term * until ≤ length terms.now) × Positions keys.now until }
-    ensures { (result ≤ until) × (result ≡ until → Following terms.now keys.now (length keys.now)) }
+// The least later position of two neighbours of which the first does not precede the second; their count where there are none.
+fn least_astray(terms: Terms, keys: &[u64]) -> usize
+    requires { (numbers_per_term * terms.count ≤ length terms.numbers.now) × Positions keys.now terms.count }
+    ensures { (result ≤ terms.entry.count) × (result ≡ terms.entry.count → Following terms.entry.numbers.now keys.now (length keys.now)) }
 {
-    let mut found = until;
+    let mut found = terms.count;
     for k in 1..keys.len() {
         let i = position_in(keys[k - 1]);
         let j = position_in(keys[k]);
-        found = least_astray_of(terms, found, i, j);
+        found = least_astray_of(terms.numbers, found, i, j);
     }
     found
 }
 
 // The same of keys in any order, which are sorted.
-fn least_doubtful(terms: &[u64], keys: &mut [u64], until: usize) -> usize
-    requires { (numbers_per_term * until ≤ length terms.now) × Positions keys.old until }
-    ensures { (result ≤ until) × (result ≡ until → AllApart terms.now keys.old) }
+fn least_doubtful(terms: Terms, keys: &mut [u64]) -> usize
+    requires { (numbers_per_term * terms.count ≤ length terms.numbers.now) × Positions keys.old terms.count }
+    ensures { (result ≤ terms.entry.count) × (result ≡ terms.entry.count → AllApart terms.entry.numbers.now keys.old) }
 {
     sort_numbers(&mut *keys);
-    least_astray(terms, keys, until)
+    least_astray(terms, keys)
 }
 
 // Takes the map of term i, if it is in the part, and gives how many are taken then.
@@ -147,16 +154,16 @@ fn take_map(terms: &[u64], i: usize, part: Part, maps: &mut [u64], taken: usize)
 }
 
 // Takes the maps of the first terms that are in the part.
-fn take_maps(terms: &[u64], until: usize, part: Part, maps: &mut [u64]) -> Result<usize, NoRoom>
-    requires { numbers_per_term * until ≤ length terms.now }
-    ensures { Fits until (length maps.old) result }
+fn take_maps(terms: Terms, part: Part, maps: &mut [u64]) -> Result<usize, NoRoom>
+    requires { numbers_per_term * terms.count ≤ length terms.numbers.now }
+    ensures { Fits terms.entry.count (length maps.old) result }
 {
     let mut taken = 0;
-    for i in 0..until {
+    for i in 0..terms.count {
         if taken == maps.len() {
             return Err(NoRoom { at: i });
         }
-        taken = take_map(terms, i, part, &mut *maps, taken);
+        taken = take_map(terms.numbers, i, part, &mut *maps, taken);
     }
     Ok(taken)
 }
@@ -200,60 +207,48 @@ fn take_key(
 }
 
 // Takes the keys of the first terms whose maps are in the part.
-fn take_keys(
-    terms: &[u64],
-    until: usize,
-    part: Part,
-    maps: &[u64],
-    keys: &mut [u64],
-) -> Result<usize, NoRoom>
-    requires room { numbers_per_term * until ≤ length terms.now }
-    requires sizes { (until ≤ 4294967296) × (length maps.now < 65536) }
-    ensures { Keyed terms.now until part.low part.high keys.new result }
+fn take_keys(terms: Terms, part: Part, maps: &[u64], keys: &mut [u64]) -> Result<usize, NoRoom>
+    requires room { numbers_per_term * terms.count ≤ length terms.numbers.now }
+    requires sizes { (terms.count ≤ 4294967296) × (length maps.now < 65536) }
+    ensures { Keyed terms.entry.numbers.now terms.entry.count part.low part.high keys.new result }
 {
     let mut taken = 0;
-    for i in 0..until {
+    for i in 0..terms.count {
         if taken == keys.len() {
             return Err(NoRoom { at: i });
         }
-        taken = take_key(terms, i, part, maps, &mut *keys, taken);
+        taken = take_key(terms.numbers, i, part, maps, &mut *keys, taken);
     }
     Ok(taken)
 }
 
-// A position up to which nothing is known of the terms of the part's maps, which are these; `until` where no two of one map overlap.
-fn doubt_between(
-    terms: &[u64],
-    until: usize,
-    part: Part,
-    maps: &mut [u64],
-    keys: &mut [u64],
-) -> usize
-    requires room { numbers_per_term * until ≤ length terms.now }
-    requires sizes { (until ≤ 4294967296) × (length maps.old < 65536) }
-    ensures { (result ≤ until) × (result ≡ until → ApartBetween terms.now part.low part.high until) }
+// A position up to which nothing is known of the terms of the part's maps, which are these; their count where no two of one map overlap.
+fn doubt_between(terms: Terms, part: Part, maps: &mut [u64], keys: &mut [u64]) -> usize
+    requires room { numbers_per_term * terms.count ≤ length terms.numbers.now }
+    requires sizes { (terms.count ≤ 4294967296) × (length maps.old < 65536) }
+    ensures { (result ≤ terms.entry.count) × (result ≡ terms.entry.count → ApartBetween terms.entry.numbers.now part.low part.high terms.entry.count) }
 {
     sort_numbers(&mut *maps);
-    match take_keys(terms, until, part, maps, &mut *keys) {
+    match take_keys(terms, part, maps, &mut *keys) {
         Err(no_room) => no_room.at,
-        Ok(taken) => least_doubtful(terms, &mut keys[..taken], until),
+        Ok(taken) => least_doubtful(terms, &mut keys[..taken]),
     }
 }
 
 // The same of the terms of all maps. They are taken in parts, each of as many maps as there is room for the terms of.
-fn doubt_of_all(terms: &[u64], until: usize, maps: &mut [u64], keys: &mut [u64]) -> usize
-    requires sizes { (numbers_per_term * until ≤ length terms.now) × (until ≤ 4294967296) }
+fn doubt_of_all(terms: Terms, maps: &mut [u64], keys: &mut [u64]) -> usize
+    requires sizes { (numbers_per_term * terms.count ≤ length terms.numbers.now) × (terms.count ≤ 4294967296) }
     requires maps_room { length maps.old < 65536 }
-    ensures { (result ≤ until) × (result ≡ until → ApartTo terms.now until) }
+    ensures { (result ≤ terms.entry.count) × (result ≡ terms.entry.count → ApartTo terms.entry.numbers.now terms.entry.count) }
 {
-    let mut doubt = until;
+    let mut doubt = terms.count;
     let mut part = Part {
         low: 0,
         high: LAST_MAP,
     };
     // Kept: where a part starts and ends depends on what the last one had room for, so that no range gives the parts.
     'parts: loop {
-        match take_maps(terms, until, part, &mut *maps) {
+        match take_maps(terms, part, &mut *maps) {
             Err(no_room) => {
                 if part.low == part.high {
                     return no_room.at;
@@ -261,7 +256,7 @@ fn doubt_of_all(terms: &[u64], until: usize, maps: &mut [u64], keys: &mut [u64])
                 part = part.lower_half();
             }
             Ok(count) => {
-                let found = doubt_between(terms, until, part, &mut maps[..count], &mut *keys);
+                let found = doubt_between(terms, part, &mut maps[..count], &mut *keys);
                 doubt = doubt.min(found);
                 if part.high == LAST_MAP {
                     return doubt;
@@ -295,7 +290,11 @@ fn apart_terms_by(terms: &[u64], sound: usize, maps: &mut [u64], keys: &mut [u64
     // Kept: how many terms are asked about next depends on what was found of the last.
     while apart < high {
         let part = next_part(apart, high, whole);
-        let doubt = doubt_of_all(terms, part, &mut *maps, &mut *keys);
+        let first = Terms {
+            numbers: terms,
+            count: part,
+        };
+        let doubt = doubt_of_all(first, &mut *maps, &mut *keys);
         whole = !whole;
         if doubt < part {
             high = doubt;

@@ -8,7 +8,7 @@ use Rattle.pool_faults.proofs.apart.doubt_of_all.Given as goal
 
 abbrev pub invariant-parts : goal.invariant-parts
 invariant-parts l =
-    (l.part.low ≤ l.part.high) × (l.part.high ≤ 18446744073709551615) × (l.doubt ≤ l.until) × (length l.maps ≡ length l.initial.maps) × (length l.keys ≡ length l.initial.keys) × (l.doubt ≡ l.until → ApartBelow l.terms l.part.low l.until)
+    (l.part.low ≤ l.part.high) × (l.part.high ≤ 18446744073709551615) × (l.doubt ≤ l.terms.count) × (length l.maps ≡ length l.initial.maps) × (length l.keys ≡ length l.initial.keys) × (l.doubt ≡ l.terms.count → ApartBelow l.terms.numbers.now l.part.low l.terms.count)
 
 abbrev pub decreases-parts : goal.decreases-parts
 decreases-parts l = 18446744073709551616 * (18446744073709551616 - l.part.low) + (l.part.high - l.part.low)

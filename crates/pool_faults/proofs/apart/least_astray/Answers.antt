@@ -7,12 +7,12 @@ use Rattle.pool_faults.proofs.apart.least_astray.Goals as goal
 
 pub loop-k-init : goal.loop-k-init
 loop-k-init c =
-    (search rules, search rules, λ e. following_starts c.args.terms.now c.args.keys.now)
+    (search rules, search rules, λ e. following_starts c.args.terms.numbers.now c.args.keys.now)
 
 pub least_astray_of-found-requires : goal.least_astray_of-found-requires
 least_astray_of-found-requires c =
     let keys = c.args.keys.now in
-    let until = c.args.until in
+    let until = c.args.terms.count in
     let k = c.loop-k.k in (
       position-inside keys until (k - 1) c.requires.1 (omega (arith, c.loop-k-test.true, c.loop-k.invariant.0)) c.position_in-i.ensures _ c.requires.0,
       position-inside keys until k c.requires.1 c.loop-k-test.true c.position_in-j.ensures _ c.requires.0,
@@ -20,9 +20,9 @@ least_astray_of-found-requires c =
 
 pub loop-k-preserved : goal.loop-k-preserved
 loop-k-preserved c =
-    let terms = c.args.terms.now in
+    let terms = c.args.terms.numbers.now in
     let keys = c.args.keys.now in
-    let until = c.args.until in
+    let until = c.args.terms.count in
     let k = c.loop-k.k in
     let found = c.least_astray_of-found.ensures in
     let first = position-below keys until (k - 1) c.requires.1 (omega (arith, c.loop-k-test.true, c.loop-k.invariant.0)) c.position_in-i.ensures in

@@ -5,4 +5,4 @@ use Rattle.pool_faults.specs.Apart.{Following}
 use Rattle.pool_faults.proofs.apart.least_astray.Given as goal
 
 abbrev pub invariant-loop-k : goal.invariant-loop-k
-invariant-loop-k l = (1 ≤ l.k) × (l.found ≤ l.until) × (l.found ≡ l.until → Following l.terms l.keys l.k)
+invariant-loop-k l = (1 ≤ l.k) × (l.found ≤ l.terms.count) × (l.found ≡ l.terms.count → Following l.terms.numbers.now l.keys l.k)

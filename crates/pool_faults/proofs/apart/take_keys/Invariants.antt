@@ -6,4 +6,4 @@ use Rattle.pool_faults.specs.Apart.{Keys}
 use Rattle.pool_faults.proofs.apart.take_keys.Given as goal
 
 abbrev pub invariant-loop-i : goal.invariant-loop-i
-invariant-loop-i l = (l.i ≤ l.until) × Keys l.terms l.i l.part.low l.part.high l.keys l.taken × (length l.keys ≡ length l.initial.keys)
+invariant-loop-i l = (l.i ≤ l.terms.count) × Keys l.terms.numbers.now l.i l.part.low l.part.high l.keys l.taken × (length l.keys ≡ length l.initial.keys)

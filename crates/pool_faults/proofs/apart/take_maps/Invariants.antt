@@ -5,4 +5,4 @@ use lib.ListN.{length}
 use Rattle.pool_faults.proofs.apart.take_maps.Given as goal
 
 abbrev pub invariant-loop-i : goal.invariant-loop-i
-invariant-loop-i l = (l.i ≤ l.until) × (l.taken ≤ length l.initial.maps) × (length l.maps ≡ length l.initial.maps)
+invariant-loop-i l = (l.i ≤ l.terms.count) × (l.taken ≤ length l.initial.maps) × (length l.maps ≡ length l.initial.maps)
