@@ -1,16 +1,10 @@
 -- What the search of the records gives: a record that was found, or that there is none. Assumes nothing.
-use Prim.Native.Nat.{ℕ, zero, suc, ◌+◌, ◌≤◌, ◌<◌}
+use Prim.Native.Nat.{ℕ, ◌≤◌, ◌<◌}
 use native.Mathlib.Omega.{arith}
-use mathlib.Core.Path.{◌≡◌, refl, sym, ap, ◌∙◌}
-use mathlib.Core.Bool.{Bool, true, false, cond}
-use mathlib.Core.List.{List, ◌∷◌}
-use lib.ListN.{length}
-use Rattle.std.specs.List.{filter, range_with_len}
+use mathlib.Core.Path.{◌≡◌}
+use mathlib.Core.List.{List}
 use Rattle.std.specs.Option.{MatchOption}
 use Rattle.std.specs.Prelude.{Option, None, Some}
-use Rattle.std.proofs.Common.{add-zero, zero-add}
-use Rattle.definitions.specs.Scan.{bit, count_below}
-use Rattle.laws.specs.ListLaws.ScanSteps.{count_next}
 use Rattle.catalogue.specs.Accession.{accession_at, accession_count}
 use Rattle.accession.specs.Contract.{Finds}
 

@@ -1,12 +1,11 @@
 -- The check on its way: the first i records keep the rules, and some of them are held. What it asks of record i is whether that one keeps them too (`chain` of
 -- `catalogue`). Assumes nothing.
-use Prim.Native.Nat.{ℕ, ◌≤◌, ◌<◌}
+use Prim.Native.Nat.{ℕ, ◌≤◌}
 use native.Mathlib.Omega.{arith}
 use mathlib.Core.Path.{◌≡◌, sym, ap, ap₂, ◌∙◌}
 use mathlib.Core.Bool.{Bool, ◌&&◌}
 use Rattle.std.specs.Prelude.{None}
 use mathlib.Core.List.{List}
-use lib.ListN.{length, get_or}
 use Rattle.definitions.specs.Refusals.{first_faulty}
 use Rattle.laws.specs.ListLaws.FirstBelow.{none_faulty_zero}
 use Rattle.laws.specs.ListLaws.NoFault.{none_faulty}
@@ -15,25 +14,20 @@ use Rattle.catalogue.specs.AccessionLaws.Last.{last_within}
 use Rattle.catalogue.specs.AccessionLaws.Chain.{previous, follows}
 use Rattle.catalogue.proofs.AccessionLaws.Chain.{chain}
 use Rattle.accession.specs.Held.{Holds}
-use Rattle.accession.proofs.Holding.{holds_none}
 
-pub record Checked (l : List ℕ) (slots room : ℕ) (last links : List ℕ) (held i : ℕ) : Type 0 where
+pub record Checked (l : List ℕ) (slots : ℕ) (last links : List ℕ) (held i : ℕ) : Type 0 where
   pub within : i ≤ accession_count l
   pub behind : held ≤ i
-  pub same_slots : length last ≡ slots
-  pub same_room : length links ≡ room
-  pub holds : Holds l (length last) held last links
+  pub holds : Holds l slots held last links
   pub kept_below_lem : first_faulty i (keeps_rules l) ≡ None
 
 module _ (l : List ℕ) where
-  pub checked_none : (last links : List ℕ) → 0 < length last → ((slot : ℕ) → get_or last slot 0 ≡ 0) → Checked l (length last) (length links) last links 0 0
-  checked_none last links h e =
+  pub checked_none : {slots held : ℕ} {last links : List ℕ} → held ≡ 0 → Holds l slots held last links → Checked l slots last links held 0
+  checked_none h e =
       record {
         within = omega arith;
         behind = omega arith;
-        same_slots = omega arith;
-        same_room = omega arith;
-        holds = holds_none l last links h e;
+        holds = e;
         kept_below_lem = none_faulty_zero (keeps_rules l);
       }
 

@@ -3,7 +3,7 @@
 use Prim.Native.Nat.{ℕ, zero, suc, ◌+◌, ◌-◌, ◌≤◌, ◌<◌, ◌%◌}
 use native.Mathlib.Numerals.{add-one}
 use native.Mathlib.Omega.{arith}
-use mathlib.Core.Path.{◌≡◌, refl, sym, ap, subst, ◌∙◌}
+use mathlib.Core.Path.{◌≡◌, refl, sym, ap, ◌∙◌}
 use mathlib.Core.Bool.{Bool, true, false}
 use mathlib.Core.List.{List}
 use lib.ListN.{length, get_or, set, replicate, length-set}
@@ -22,12 +22,12 @@ replicate_at x (suc n) zero = refl
 replicate_at x (suc n) (suc slot) = replicate_at x n slot
 
 module _ (l : List ℕ) where
-  pub holds_none : (last links : List ℕ) → 0 < length last → ((slot : ℕ) → get_or last slot 0 ≡ 0) → Holds l (length last) 0 last links
+  pub holds_none : {slots : ℕ} (last links : List ℕ) → length last ≡ slots → 0 < slots → ((slot : ℕ) → get_or last slot 0 ≡ 0) → Holds l slots 0 last links
   unfolding last_below
-  holds_none last links h e =
+  holds_none last links long h e =
       record {
         some_slots = h;
-        slot_count = refl;
+        slot_count = long;
         of_list = omega arith;
         room = omega arith;
         lasts = λ slot k. e slot;
@@ -64,8 +64,8 @@ module _ (l : List ℕ) where
             ap (λ t. get_or (set links held (get_or last slot 0)) t 0) q ∙ get_or-set_same links held (get_or last slot 0) 0 room ∙ H.lasts slot within
             ∙ ap (λ t. last_below held (in_slot l slots t)) at ∙ ap (λ t. last_below t (in_slot l slots ((accession_at l t).on_map % slots))) (sym q)
 
-    holds-suc : Holds l slots (held + 1) (set last slot (held + 1)) (set links held (get_or last slot 0))
-    holds-suc =
+    pub holds_more : Holds l slots (held + 1) (set last slot (held + 1)) (set links held (get_or last slot 0))
+    holds_more =
         record {
           some_slots = H.some_slots;
           slot_count = length-set last slot (held + 1) ∙ H.slot_count;
@@ -74,9 +74,6 @@ module _ (l : List ℕ) where
           lasts = λ s h. last_more s h ∙ ap (λ t. last_below t (in_slot l slots s)) (sym (add-one held));
           linked = λ j h. link_more j (omega arith);
         }
-
-    pub holds_more : Holds l (length (set last slot (held + 1))) (held + 1) (set last slot (held + 1)) (set links held (get_or last slot 0))
-    holds_more = subst (λ n. Holds l n (held + 1) (set last slot (held + 1)) (set links held (get_or last slot 0))) (sym holds-suc.slot_count) holds-suc
 
   -- ---- back along a slot
 

@@ -1,6 +1,6 @@
 -- The table in which records are found by their map: a map's slot is the remainder of its number, a slot holds its last record, and each record held has the
 -- one before it in its slot. Positions are one more than they are, and 0 says that there is none. Assumes nothing.
-use Rattle.std.specs.Prelude.{ℕ, ◌+◌, ◌≤◌, ◌<◌, ◌%◌, ◌≡◌, Bool, List, length, get_or, eqb}
+use Rattle.std.specs.Prelude.{ℕ, ◌≤◌, ◌<◌, ◌%◌, ◌≡◌, Bool, List, length, get_or, eqb}
 use Rattle.catalogue.specs.Accession.{accession_at, accession_count}
 use Rattle.catalogue.specs.AccessionLaws.Last.{last_below}
 
@@ -17,10 +17,3 @@ pub record Holds (l : List ℕ) (slots held : ℕ) (last links : List ℕ) : Typ
   pub room : held ≤ length links
   pub lasts : (slot : ℕ) → slot < slots → get_or last slot 0 ≡ last_below held (in_slot l slots slot)
   pub linked : (j : ℕ) → j < held → get_or links j 0 ≡ last_below j (in_slot l slots ((accession_at l j).on_map % slots))
-
--- the table has taken one record more, or none where there was no room; r are held now
-pub record Took (l : List ℕ) (held : ℕ) (last links : List ℕ) (r : ℕ) (last' links' : List ℕ) : Type 0 where
-  pub at_most : r ≤ held + 1
-  pub same_slots : length last' ≡ length last
-  pub same_room : length links' ≡ length links
-  pub holds : Holds l (length last') r last' links'

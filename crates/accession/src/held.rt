@@ -1,11 +1,11 @@
 // Where the last record of a map stands. Records are held in a table by their map's slot; those beyond its room are walked over.
-ghost use Rattle.std.specs.Prelude.{◌≡◌, ◌≤◌, ◌<◌, ◌^◌, ◌%◌, length};
+ghost use Rattle.std.specs.Prelude.{◌≡◌, List, ℕ, ◌+◌, ◌≤◌, ◌<◌, ◌^◌, ◌%◌};
 ghost use Rattle.catalogue.specs.Accession.{accession_count};
 ghost use Rattle.catalogue.specs.AccessionLaws.Last.{last_below};
 ghost use Rattle.catalogue.specs.AccessionLaws.Chain.{previous};
 ghost use Rattle.catalogue.specs.AccessionLaws.MapLine.{is_of_map};
 ghost use Rattle.accession.specs.Contract.{one_more};
-ghost use Rattle.accession.specs.Held.{Holds, Took};
+ghost use Rattle.accession.specs.Held.{Holds};
 
 use crate::fields::map_of;
 
@@ -16,61 +16,72 @@ fn slot_of(number: u64, slots: usize) -> usize
     (number % slots as u64) as usize
 }
 
-// The position of the map's last record among those held.
-fn last_held(
-    records: &[u64],
-    number: u64,
-    held: usize,
-    last: &[u32],
-    links: &[u32],
-) -> Option<usize>
-    requires { Holds records.now (length last.now) held last.now links.now }
-    ensures { one_more result ≡ last_below held (is_of_map records.now number) }
-{
-    // Kept: the walk follows links, as no range does; they have one more than a position, since a fresh table is all 0 and Options take twice the room.
-    let mut next = last[slot_of(number, last.len())] as usize;
-    while 0 < next {
-        let k = next - 1;
-        if map_of(records, k) == number {
-            return Some(k);
-        }
-        next = links[k] as usize;
-    }
-    None
+// The first `count` records, each in the slot of its map: the slot's last record, and of each record the one before it in its slot.
+// Positions are one more than they are, and 0 says that there is none: a table begins as zeros, and an Option of each would take twice the room.
+#[derive(Drop)]
+pub struct Held<const SLOTS: usize, const ROOM: usize> {
+    count: usize,
+    last: [u32; SLOTS],
+    links: [u32; ROOM],
 }
 
-// The position of the last record of record i's map before it.
-pub fn last_of_map(
-    records: &[u64],
-    i: usize,
-    held: usize,
-    last: &[u32],
-    links: &[u32],
-) -> Option<usize>
-    requires places { (i < accession_count records.now) × (held ≤ i) }
-    requires table { Holds records.now (length last.now) held last.now links.now }
-    ensures { one_more result ≡ previous records.now i }
-{
-    let number = map_of(records, i);
-    for k in (held..i).rev() {
-        if map_of(records, k) == number {
-            return Some(k);
+impl<const SLOTS: usize, const ROOM: usize> Held<SLOTS, ROOM> {
+    pub fn new() -> Self
+        requires { (0 < SLOTS) × (SLOTS < 2 ^ 32) × (ROOM < 2 ^ 32) }
+        ensures none { result.count ≡ 0 }
+        ensures table { (records : List ℕ) → Holds records SLOTS result.count result.last result.links }
+    {
+        Held {
+            count: 0,
+            last: [0; SLOTS],
+            links: [0; ROOM],
         }
     }
-    last_held(records, number, held, last, links)
-}
 
-// Holds one record more, if there is room. Returns how many are held.
-pub fn hold(records: &[u64], held: usize, last: &mut [u32], links: &mut [u32]) -> usize
-    requires sizes { (held < accession_count records.now) × (length links.old < 2 ^ 32) }
-    requires table { Holds records.now (length last.old) held last.old links.old }
-    ensures { Took records.now held last.old links.old result last.new links.new }
-{
-    if links.len() <= held {
-        return held;
+    // The position of the map's last record among those held.
+    fn last_held(&self, records: &[u64], number: u64) -> Option<usize>
+        requires { Holds records.now SLOTS self.now.count self.now.last self.now.links }
+        ensures { one_more result ≡ last_below self.now.count (is_of_map records.now number) }
+    {
+        // Kept: the walk follows links, as no range does.
+        let mut next = self.last[slot_of(number, SLOTS)] as usize;
+        while 0 < next {
+            let k = next - 1;
+            if map_of(records, k) == number {
+                return Some(k);
+            }
+            next = self.links[k] as usize;
+        }
+        None
     }
-    let slot = slot_of(map_of(records, held), last.len());
-    links[held] = last[slot];
-    last[slot] = (held + 1) as u32;
-    held + 1
+
+    // The position of the last record of record i's map before it. Records beyond the table's room are walked over.
+    pub fn last_of_map(&self, records: &[u64], i: usize) -> Option<usize>
+        requires places { (i < accession_count records.now) × (self.now.count ≤ i) }
+        requires table { Holds records.now SLOTS self.now.count self.now.last self.now.links }
+        ensures { one_more result ≡ previous records.now i }
+    {
+        let number = map_of(records, i);
+        for k in (self.count..i).rev() {
+            if map_of(records, k) == number {
+                return Some(k);
+            }
+        }
+        self.last_held(records, number)
+    }
+
+    // Holds one record more, if there is room.
+    pub fn hold(&mut self, records: &[u64])
+        requires sizes { (self.old.count < accession_count records.now) × (ROOM < 2 ^ 32) }
+        requires table { Holds records.now SLOTS self.old.count self.old.last self.old.links }
+        ensures { (self.new.count ≤ self.old.count + 1) × Holds records.now SLOTS self.new.count self.new.last self.new.links }
+    {
+        if ROOM <= self.count {
+            return;
+        }
+        let slot = slot_of(map_of(records, self.count), SLOTS);
+        self.links[self.count] = self.last[slot];
+        self.last[slot] = (self.count + 1) as u32;
+        self.count += 1;
+    }
 }

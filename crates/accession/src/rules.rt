@@ -1,11 +1,11 @@
 // The rules of accession records: 17. A record keeps them exactly when it goes on from the last record of its map before it (Chain.antt of `catalogue`).
-ghost use Rattle.std.specs.Prelude.{◌≡◌, ℕ, ◌≤◌, ◌<◌, ◌^◌, length, get_or};
+ghost use Rattle.std.specs.Prelude.{◌≡◌, ◌≤◌, ◌<◌, ◌^◌};
 ghost use Rattle.catalogue.specs.Accession.{accession_count, own_ascends, accessions_fault};
 ghost use Rattle.catalogue.specs.AccessionLaws.Chain.{follows};
 ghost use Rattle.accession.specs.Contract.{one_more};
 
 use crate::fields::{day_of, own_of, record_count, superseded_of};
-use crate::held::{hold, last_of_map};
+use crate::held::Held;
 
 // "Own numbers start above 0 and strictly ascend."
 fn own_ascends(records: &[u64], i: usize) -> bool
@@ -32,24 +32,6 @@ fn goes_on(records: &[u64], i: usize, last: Option<usize>) -> bool
     }
 }
 
-// With a table to work in, whose slots are empty.
-fn first_broken_by(records: &[u64], last: &mut [u32], links: &mut [u32]) -> Option<usize>
-    requires sizes { (0 < length last.old) × (length links.old < 2 ^ 32) }
-    requires empty { (slot : ℕ) → get_or last.old slot 0 ≡ 0 }
-    ensures { result ≡ accessions_fault records.now }
-{
-    let count = record_count(records);
-    let mut held = 0;
-    for i in 0..count {
-        let before = last_of_map(records, i, held, last, links);
-        if !(own_ascends(records, i) & goes_on(records, i, before)) {
-            return Some(i);
-        }
-        held = hold(records, held, last, links);
-    }
-    None
-}
-
 // How many records a table holds, and its slots: a prime number, so that maps numbered in steps spread over them. A short list has a small table, which is
 // cleared sooner.
 const FEW_RECORDS: usize = 1024;
@@ -64,9 +46,15 @@ fn first_broken_with<const SLOTS: usize, const ROOM: usize>(records: &[u64]) -> 
     requires { (0 < SLOTS) × (SLOTS < 2 ^ 32) × (ROOM < 2 ^ 32) }
     ensures { result ≡ accessions_fault records.now }
 {
-    let mut last = [0u32; SLOTS];
-    let mut links = [0u32; ROOM];
-    first_broken_by(records, &mut last, &mut links)
+    let mut held = Held::<SLOTS, ROOM>::new();
+    for i in 0..record_count(records) {
+        let before = held.last_of_map(records, i);
+        if !(own_ascends(records, i) & goes_on(records, i, before)) {
+            return Some(i);
+        }
+        held.hold(records);
+    }
+    None
 }
 
 // The position of the first record that breaks a rule.

@@ -1,11 +1,9 @@
 -- `verdict` meets its contract: the four checks, in the definition's order. Assumes nothing.
-use Rattle.std.proofs.Common.{rules, refl, sym, ap, ◌≡◌, ◌∙◌, ℕ, ◌%◌, Bool, List, length, eqb, leb, arith}
+use Rattle.std.proofs.Common.{rules, refl, sym, ap, ◌≡◌, ◌∙◌, ℕ, ◌%◌, List, length, eqb}
 use Rattle.std.specs.Prelude.{Err}
-use Rattle.definitions.specs.Verdict.{Answer}
-use Rattle.game.specs.Graph.{max_game_regions, solve_answer}
-use Rattle.game_verdicts.proofs.Reading.{square-few}
+use Rattle.game.specs.Graph.{solve_answer}
 use Rattle.refusals.specs.Answers.{answer_of}
-use Rattle.refusals.proofs.Steps.{stopped, passed, ensured, holds}
+use Rattle.refusals.proofs.Steps.{stopped, passed, ensured}
 use Rattle.game_solver.proofs.verdict.Goals as goal
 
 -- of the list, or of its length

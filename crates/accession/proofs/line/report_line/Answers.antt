@@ -1,10 +1,9 @@
 -- `accession::line::report_line` meets its contract: each check refuses by its number, or those that are left decide. Assumes nothing.
 use Rattle.std.proofs.Common.{rules, refl, sym, ap, ◌≡◌, ◌∙◌, ℕ, zero, suc, ◌≤◌, List, arith}
-use Rattle.std.specs.Prelude.{Option, None, Some, Err, true, ◌∷◌}
+use Rattle.std.specs.Prelude.{Option, None, Some, Err, true}
 use Rattle.definitions.specs.Refusals.{Refusal}
-use Rattle.definitions.specs.Verdict.{Answer, refusal, first_refusal}
-use Rattle.refusals.specs.declared.Refusal as refusals
-use Rattle.refusals.specs.Refusals.{number_of, refusal_of}
+use Rattle.definitions.specs.Verdict.{refusal}
+use Rattle.refusals.specs.Refusals.{number_of}
 use Rattle.refusals.proofs.Steps.{stopped, passed, ensured, searched, holds, positive}
 use Rattle.catalogue.specs.Accession.{is_finished}
 use Rattle.catalogue.specs.Line.{line_verdict, line_at_exit}

@@ -1,5 +1,5 @@
--- `accession::held::last_of_map` meets its contract. The loop's invariant: the last record of the map before record i is its last among the first k, which
--- are no fewer than those held. The measure is k. Assumes nothing.
+-- `accession::held::Held::last_of_map` meets its contract. The loop's invariant: the last record of the map before record i is its last among the first k, which
+-- are no fewer than those held. Assumes nothing.
 use Prim.Native.Nat.{ℕ, suc, ◌-◌}
 use native.Mathlib.Omega.{arith}
 use mathlib.Core.Path.{◌≡◌, refl, sym, ap, ◌∙◌}
@@ -11,15 +11,15 @@ use Rattle.catalogue.specs.Accession.{accession_at, on_same_map}
 use Rattle.catalogue.specs.AccessionLaws.Last.{last_below, last_found, last_back}
 use Rattle.catalogue.specs.AccessionLaws.Chain.{previous}
 use Rattle.catalogue.specs.AccessionLaws.MapLine.{is_of_map}
-use Rattle.accession.proofs.held.last_of_map.Goals as goal
+use Rattle.accession.proofs.held.Held.last_of_map.Goals as goal
 
 pub loop-k-init : goal.loop-k-init
 unfolding previous
-loop-k-init c = (search rules, search rules, refl)
+loop-k-init g c = (search rules, search rules, refl)
 
 pub returns-then-map_of-number : goal.returns-then-map_of-number
 unfolding on_same_map
-returns-then-map_of-number c =
+returns-then-map_of-number g c =
     let list : List ℕ = c.args.records.now in
     let i : ℕ = c.args.i in
     let k : ℕ = c.loop-k.k in
@@ -29,7 +29,7 @@ returns-then-map_of-number c =
 
 pub loop-k-preserved : goal.loop-k-preserved
 unfolding on_same_map
-loop-k-preserved c =
+loop-k-preserved g c =
     let list : List ℕ = c.args.records.now in
     let i : ℕ = c.args.i in
     let k : ℕ = c.loop-k.k in
@@ -38,9 +38,9 @@ loop-k-preserved c =
 
 pub returns : goal.returns
 unfolding is_of_map on_same_map
-returns c =
+returns g c =
     let list : List ℕ = c.args.records.now in
-    let held : ℕ = c.args.held in
+    let held : ℕ = c.args.self.now.count in
     let here : held ≡ c.loop-k.k = omega arith in
     c.last_held.ensures ∙ ap (λ m. last_below held (is_of_map list m)) c.map_of-number.ensures
     ∙ ap (λ n. last_below n (on_same_map list c.args.i)) here ∙ sym c.loop-k.invariant.2

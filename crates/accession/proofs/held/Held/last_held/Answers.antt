@@ -1,4 +1,4 @@
--- `accession::held::last_held` meets its contract. The loop's invariant (`Reached`): the map's last record among those held is its last among the first `next`.
+-- `accession::held::Held::last_held` meets its contract. The loop's invariant (`Reached`): the map's last record among those held is its last among the first `next`.
 -- The measure is `next`. Assumes nothing.
 use Prim.Native.Nat.{ℕ, suc, ◌-◌}
 use native.Mathlib.Omega.{arith}
@@ -11,22 +11,22 @@ use Rattle.catalogue.specs.Accession.{accession_at}
 use Rattle.catalogue.specs.AccessionLaws.Last.{last_below, last_found}
 use Rattle.catalogue.specs.AccessionLaws.MapLine.{is_of_map}
 use Rattle.accession.proofs.Holding.{reached_first, reached_next, next_before}
-use Rattle.accession.proofs.held.last_held.Goals as goal
+use Rattle.accession.proofs.held.Held.last_held.Goals as goal
 
 pub slot_of-requires : goal.slot_of-requires
-slot_of-requires c = c.requires.some_slots
+slot_of-requires g c = c.requires.some_slots
 
 pub loop-next-init : goal.loop-next-init
-loop-next-init c =
+loop-next-init g c =
     let found = c.slot_of in
     reached_first c.args.records.now c.requires c.args.number found.result found.ensures.0 found.ensures.1
 
 pub map_of-requires : goal.map_of-requires
-map_of-requires c = omega (arith, c.loop-next.invariant.within, c.requires.of_list)
+map_of-requires g c = omega (arith, c.loop-next.invariant.within, c.requires.of_list)
 
 pub returns-then-map_of-number : goal.returns-then-map_of-number
 unfolding is_of_map
-returns-then-map_of-number c =
+returns-then-map_of-number g c =
     let list : List ℕ = c.args.records.now in
     let number : ℕ = c.args.number in
     let k : ℕ = c.loop-next.next in
@@ -34,15 +34,18 @@ returns-then-map_of-number c =
     let e : suc (k - 1) ≡ k = omega arith in
     e ∙ sym (c.loop-next.invariant.rest ∙ last_found (is_of_map list number) k (search rules) is_of_lem)
 
-pub bounds-links-k : goal.bounds-links-k
-bounds-links-k c = omega (arith, c.loop-next.invariant.within, c.requires.room)
+pub offset_bounds-self-k : goal.offset_bounds-self-k
+offset_bounds-self-k g c = omega (arith, c.loop-next.invariant.within, c.requires.room)
+
+pub bounds-self-k : goal.bounds-self-k
+bounds-self-k g c = omega (arith, c.loop-next.invariant.within, c.requires.room)
 
 pub loop-next-smaller : goal.loop-next-smaller
-loop-next-smaller c = next_before c.args.records.now c.requires c.args.number c.loop-next.next c.loop-next.invariant (search rules)
+loop-next-smaller g c = next_before c.args.records.now c.requires c.args.number c.loop-next.next c.loop-next.invariant (search rules)
 
 pub loop-next-preserved : goal.loop-next-preserved
 unfolding is_of_map
-loop-next-preserved c =
+loop-next-preserved g c =
     let list : List ℕ = c.args.records.now in
     let number : ℕ = c.args.number in
     let k : ℕ = c.loop-next.next in
@@ -51,6 +54,6 @@ loop-next-preserved c =
 
 pub returns : goal.returns
 unfolding last_below
-returns c =
+returns g c =
     let none : c.loop-next.next ≡ 0 = omega arith in
     sym (c.loop-next.invariant.rest ∙ ap (λ n. last_below n (is_of_map c.args.records.now c.args.number)) none)
