@@ -4,7 +4,7 @@ ghost use Rattle.std.specs.Float.{binary64};
 ghost use Rattle.std.specs.Float.Ieee.{is_nan, to_bits};
 ghost use Rattle.definitions.specs.Scan.{collect, to_list};
 ghost use Rattle.definitions.specs.Context.{Context, full_cut, no_ramp};
-ghost use Rattle.definitions.specs.RampMouths.{MouthProposal};
+ghost use Rattle.definitions.specs.RampMouths as definition;
 ghost use Rattle.context.specs.Shown.{ShownTallies};
 ghost use Rattle.mouth_proposals.specs.Lent.{PassShows, PassShown};
 ghost use Rattle.mouth_proposals.specs.Candidates.{mouth_candidate};
@@ -99,7 +99,7 @@ fn push_mouth(
     requires places { (n < max_candidates) × ((m < context.count) × (ramp.boundary < context.count)) }
     ensures bound { (n ≤ result) × (result ≤ n + 1) }
     ensures still_roomy { Roomy entries.new }
-    ensures filled { (C : Context) (l : List MouthProposal) →
+    ensures filled { (C : Context) (l : List definition.MouthProposal) →
         PassShows context.entry regions.entry C →
         ShownTallies C context.entry.tallies.now →
         no_ramp C ramp.boundary ≡ false →

@@ -32,8 +32,8 @@ pub returns-then-not-lo-hi : goal.returns-then-not-lo-hi
 returns-then-not-lo-hi c =
     let s = c.args in
     let at = c.loop-k in
-    let f = row_fits s.marks.now s.counts.now s.outer s.r in
-    sym (all-regions (inner_fits s.marks.now s.counts.now s.outer s.r) (pairs_between s.pairs.now s.first s.end)
+    let f = row_fits s.regions.marks.now s.regions.counts.now s.outer s.r in
+    sym (all-regions (inner_fits s.regions.marks.now s.regions.counts.now s.outer s.r) (pairs_between s.pairs.now s.first s.end)
     ∙ all_one_fails f s.pairs.now s.first at.k s.end at.invariant.0 c.loop-k-test.true
     (sym (ap f c.row_at-p.ensures) ∙ sym (ap₂ ◌&&◌ c.region_fits-lo.ensures c.region_fits-hi.ensures) ∙ not-true _ c.if-not-lo-hi.true-raw))
 
@@ -41,7 +41,7 @@ pub loop-k-preserved : goal.loop-k-preserved
 loop-k-preserved c =
     let s = c.args in
     let at = c.loop-k in
-    let f = row_fits s.marks.now s.counts.now s.outer s.r in (
+    let f = row_fits s.regions.marks.now s.regions.counts.now s.outer s.r in (
       search rules,
       (
         search rules,
@@ -54,5 +54,5 @@ pub returns : goal.returns
 returns c =
     let s = c.args in
     let at = c.loop-k in
-    sym (all-regions (inner_fits s.marks.now s.counts.now s.outer s.r) (pairs_between s.pairs.now s.first s.end)
-    ∙ ap (λ n. all (row_fits s.marks.now s.counts.now s.outer s.r) (pairs_between s.pairs.now s.first n)) (le_antisymm c.loop-k-test.false at.invariant.1.0) ∙ at.invariant.1.1)
+    sym (all-regions (inner_fits s.regions.marks.now s.regions.counts.now s.outer s.r) (pairs_between s.pairs.now s.first s.end)
+    ∙ ap (λ n. all (row_fits s.regions.marks.now s.regions.counts.now s.outer s.r) (pairs_between s.pairs.now s.first n)) (le_antisymm c.loop-k-test.false at.invariant.1.0) ∙ at.invariant.1.1)
