@@ -1,5 +1,6 @@
 -- The rows of a boundary, and what the answers on them stand for. Definitions only; assumes nothing.
-use Rattle.std.specs.Prelude.{ℕ, ◌+◌, Bool, false, not, List, [], ◌∷◌, get_or, eqb, Option, None, Some}
+use Rattle.std.specs.Option.{option_eq}
+use Rattle.std.specs.Prelude.{ℕ, ◌+◌, Bool, not, List, [], ◌∷◌, get_or, eqb, Option, None, Some}
 use Rattle.definitions.specs.Scan.{filter}
 use Rattle.definitions.specs.Grid as grid
 use Rattle.definitions.specs.MouthShapes.{MouthShape, single, star, distinct_regions}
@@ -14,8 +15,7 @@ rows_of pairs starts i = pairs_between pairs (get_or starts i 0) (get_or starts 
 
 -- region r is the one outside, if there is one
 abbrev pub is_outer : Option ℕ → ℕ → Bool
-is_outer None r = false
-is_outer (Some o) r = eqb r o
+is_outer outer r = option_eq eqb (Some r) outer
 
 -- the regions of l but for the one outside, each once
 unfoldable pub inner_of : Option ℕ → List grid.Pair → List ℕ

@@ -41,8 +41,8 @@ fn shared_region(
         q.lo < q.hi →
         result ≡ one_of (filter (λ r. contains r (pair_form q)) (inner_of outer (C.pairs m))) }
 {
-    let lo = (outer != Some(q.lo)) & context.is_incident(m, q.lo);
-    let hi = (outer != Some(q.hi)) & context.is_incident(m, q.hi);
+    let lo = (Some(q.lo) != outer) & context.is_incident(m, q.lo);
+    let hi = (Some(q.hi) != outer) & context.is_incident(m, q.hi);
     region_of(q, lo, hi)
 }
 

@@ -1,11 +1,11 @@
 // Whether the other end of a ramp is an incident of a region: found once for both regions of the ramp's full pair, before its mouths are gone through.
-ghost use Rattle.std.specs.Prelude.{◌≡◌, not, ◌&&◌, ℕ, ◌+◌, ◌*◌, ◌≤◌, ◌<◌, length, get_or, eqb};
+ghost use Rattle.std.specs.Prelude.{◌≡◌, ℕ, ◌+◌, ◌*◌, ◌≤◌, ◌<◌, length};
 ghost use Rattle.definitions.specs.Limits.{numbers_per_boundary, tallies_per_span};
 ghost use Rattle.definitions.specs.Context.{Context};
 ghost use Rattle.definitions.specs.RampMouths.{other_end_incident};
 ghost use Rattle.context.specs.Shown.{ShownBoundaries, ShownTallies, ShownPairs};
 ghost use Rattle.context.specs.Rows.{Stretch};
-ghost use Rattle.mouth_proposals.specs.Ends.{end_at, EndsOf};
+ghost use Rattle.mouth_proposals.specs.Ends.{is_other_end, end_at, EndsOf};
 
 use context::PartitionContext;
 use context::pairs::Pair;
@@ -26,16 +26,22 @@ pub struct Ramp {
     pub ends: Option<OtherEnds>,
 }
 
-// Whether boundary j is the other end of the ramp of boundary a.
-fn is_other_end(boundaries: &[u64], j: usize, a: usize) -> bool
-    requires { (numbers_per_boundary * j + 8 < length boundaries.now) × (numbers_per_boundary * a + 8 < length boundaries.now) }
-    ensures { result ≡ (not (eqb (get_or boundaries.now (numbers_per_boundary * j + 5) 0) 0)
-        && (eqb (get_or boundaries.now (numbers_per_boundary * j + 6) 0) (get_or boundaries.now (numbers_per_boundary * a + 6) 0)
-        && not (eqb (get_or boundaries.now (numbers_per_boundary * j + 5) 0) (get_or boundaries.now (numbers_per_boundary * a + 5) 0)))) }
+// Whether boundary j is the other end of the ramp of boundary a, and an incident of region r.
+fn is_other_end(context: PartitionContext, a: usize, r: u32, j: usize) -> bool
+    requires sizes { numbers_per_boundary * context.count ≤ length context.boundaries.now }
+    requires places { (a < context.count) × (j < context.count) }
+    requires stretch { Stretch context.pairs.now context.starts.now j }
+    ensures { (C : Context) →
+        C.count ≡ context.entry.count →
+        ShownBoundaries C context.entry.boundaries.now →
+        ShownPairs C context.entry.pairs.now context.entry.starts.now →
+        result ≡ is_other_end C a r j }
 {
-    let kind = kind_at(boundaries, j);
-    let id = ramp_at(boundaries, j);
-    (kind != 0) & ((id == ramp_at(boundaries, a)) & (kind != kind_at(boundaries, a)))
+    let kind = kind_at(context.boundaries, j);
+    let id = ramp_at(context.boundaries, j);
+    let is_end = (kind != 0)
+        & ((id == ramp_at(context.boundaries, a)) & (kind != kind_at(context.boundaries, a)));
+    is_end && context.is_incident(j, r)
 }
 
 // Whether the other end of the ramp of boundary a is an incident of region r.
@@ -48,8 +54,7 @@ fn other_end_incident(context: PartitionContext, a: usize, r: u32) -> bool
         ShownPairs C context.entry.pairs.now context.entry.starts.now →
         result ≡ other_end_incident C a r }
 {
-    (0..context.count)
-        .any(|j| is_other_end(context.boundaries, j, a) && context.is_incident(j, r))
+    (0..context.count).any(|j| is_other_end(context, a, r, j))
 }
 
 // The answers for ramp a.

@@ -254,8 +254,7 @@ fn approach_mouth(
             single_mouth(regions, outer, r, other_end_at(ends, r), measures)
         }
         Approach::Star(outer, r) => {
-            let blocked = other_end_at(ends, r);
-            star_mouth(context, regions, m, outer, r, blocked, measures)
+            star_mouth(context, regions, m, outer, r, other_end_at(ends, r), measures)
         }
     }
 }

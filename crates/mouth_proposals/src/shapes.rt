@@ -45,7 +45,8 @@ fn star_of(pairs: &[u32], first: usize, end: usize) -> Option<Shape>
     let p = row_at(pairs, first);
     let lo = in_all(pairs, first, end, p.lo);
     let hi = in_all(pairs, first, end, p.hi);
-    region_of(p, lo, hi).map(Shape::Star)
+    let outer = region_of(p, lo, hi)?;
+    Some(Shape::Star(outer))
 }
 
 // The shape of mouth m, which is a full cut.

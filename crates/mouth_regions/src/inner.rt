@@ -31,7 +31,7 @@ pub fn inner_region(context: PartitionContext, proposal: MouthProposal, k: usize
     let first = context.starts[proposal.mouth];
     let p = row_at(context.pairs, first + k / 2);
     let r = side_of(p, k);
-    if proposal.outer == Some(r) {
+    if Some(r) == proposal.outer {
         None
     } else {
         Some(r)

@@ -37,11 +37,11 @@ returns-in-Single c =
     let k = c.in_ok-outer.was ∙ ap Some c.in-Single.is in
     λ C a P I A l n e w o.
     let h = subst (Within C.regions) k n in
-    c.single_mouth.ensures C s.m a I A (h.0.1, h.1.1) (c.other_end_at-blocked.ensures ∙ subst (EndKnown C a s.ends) k e) w o ∙ ap (approach_mouth C s.m a) (sym k)
+    c.single_mouth.ensures C s.m a I A (h.0.1, h.1.1) (c.other_end_at.ensures ∙ subst (EndKnown C a s.ends) k e) w o ∙ ap (approach_mouth C s.m a) (sym k)
 
 pub returns-in-Star : goal.returns-in-Star
 returns-in-Star c =
     let s = c.args in
     let k = c.in_ok-outer.was ∙ ap Some c.in-Star.is in
     λ C a P I A l n e w o.
-    c.star_mouth.ensures C a P I A l (subst (Within C.regions) k n).1.1 (c.other_end_at-blocked-in-Star.ensures ∙ subst (EndKnown C a s.ends) k e) w o ∙ ap (approach_mouth C s.m a) (sym k)
+    c.star_mouth.ensures C a P I A l (subst (Within C.regions) k n).1.1 (c.other_end_at-in-Star.ensures ∙ subst (EndKnown C a s.ends) k e) w o ∙ ap (approach_mouth C s.m a) (sym k)

@@ -10,8 +10,8 @@ use Rattle.context.specs.Rows.{NamedRow, pair_form}
 use Rattle.mouth_proposals.specs.Outers.{outers_of}
 use Rattle.mouth_proposals.proofs.ApproachLaws.{Named}
 use Rattle.mouth_proposals.proofs.RowLists.{between_two, two_rows, named-lo, named-hi}
-use Rattle.mouth_proposals.proofs.TriangleMouths.{triangle_none, triangle_one, triangle-several, one_at_least}
-use Rattle.mouth_proposals.proofs.TriangleFound.{distinct_named, found_is}
+use Rattle.mouth_proposals.proofs.TriangleMouths.{triangle_none, triangle_one, triangle-several}
+use Rattle.mouth_proposals.proofs.TriangleFound.{found_is}
 use Rattle.mouth_proposals.proofs.mouths.triangle_mouth.Goals as goal
 
 pub row_at-p-requires : goal.row_at-p-requires
@@ -62,7 +62,7 @@ returns-in-None c =
     ap (λ l. outers_of (filter C.anchored (distinct_regions l))) rows
     ∙ found_is A (pair_form c.row_at-p.result) (pair_form c.row_at-q.result) (subst (All (Named C.regions)) rows (P.named c.args.m l))
     c.with_region-one.ensures c.with_region-two.ensures c.with_region-three.ensures c.with_region.ensures in
-    triangle_none C c.args.m a (distinct_named (P.named c.args.m l)) (found ∙ c.in-None.is)
+    triangle_none C c.args.m a (found ∙ c.in-None.is)
 
 pub returns-in-One : goal.returns-in-One
 returns-in-One c =
@@ -73,7 +73,7 @@ returns-in-One c =
     ap (λ l. outers_of (filter C.anchored (distinct_regions l))) rows
     ∙ found_is A (pair_form c.row_at-p.result) (pair_form c.row_at-q.result) (subst (All (Named C.regions)) rows (P.named c.args.m l))
     c.with_region-one.ensures c.with_region-two.ensures c.with_region-three.ensures c.with_region.ensures in
-    triangle_one C c.args.m a (distinct_named (P.named c.args.m l)) _ (one_at_least C c.args.m a (distinct_named (P.named c.args.m l)) _ (found ∙ c.in-One.is)) (found ∙ c.in-One.is)
+    triangle_one C c.args.m a _ (found ∙ c.in-One.is)
 
 pub returns-in-Several : goal.returns-in-Several
 returns-in-Several c =
@@ -84,4 +84,4 @@ returns-in-Several c =
     ap (λ l. outers_of (filter C.anchored (distinct_regions l))) rows
     ∙ found_is A (pair_form c.row_at-p.result) (pair_form c.row_at-q.result) (subst (All (Named C.regions)) rows (P.named c.args.m l))
     c.with_region-one.ensures c.with_region-two.ensures c.with_region-three.ensures c.with_region.ensures in
-    triangle-several C c.args.m a (distinct_named (P.named c.args.m l)) (found ∙ c.in-Several.is)
+    triangle-several C c.args.m a (found ∙ c.in-Several.is)
