@@ -28,12 +28,7 @@ fn other_region(r: u32, p: Pair) -> u32
 }
 
 // The one region of q that a row of mouth m names, but for the one outside; none where there are none or two.
-fn shared_region(
-    context: PartitionContext,
-    m: usize,
-    outer: Option<u32>,
-    q: Pair,
-) -> Option<u32>
+fn shared_region(context: PartitionContext, m: usize, outer: Option<u32>, q: Pair) -> Option<u32>
     requires { Stretch context.pairs.now context.starts.now m }
     ensures { (C : Context) →
         ShownPairs C context.entry.pairs.now context.entry.starts.now →

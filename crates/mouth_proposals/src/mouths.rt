@@ -254,7 +254,15 @@ fn approach_mouth(
             single_mouth(regions, outer, r, other_end_at(ends, r), measures)
         }
         Approach::Star(outer, r) => {
-            star_mouth(context, regions, m, outer, r, other_end_at(ends, r), measures)
+            star_mouth(
+                context,
+                regions,
+                m,
+                outer,
+                r,
+                other_end_at(ends, r),
+                measures,
+            )
         }
     }
 }

@@ -73,4 +73,3 @@ returns c =
     ∙ sym c.inner_fit.ensures ∙ not-false _ c.if-not-inner_fit.false-raw)
     (sym b ∙ c.if-blocked.false)
     (sym w)
-
