@@ -11,8 +11,8 @@ ghost use Rattle.context.specs.Records.{record_of};
 ghost use Rattle.interior_proposals.specs.Fits.{Listed, Aimed, elevation_fits, is_within};
 ghost use Rattle.geometry.specs.Placed.{Placed};
 
-use context::Region;
-use context::pairs::full_cut;
+use crate::ports::Ports;
+use context::{PartitionContext, Region};
 use geometry::Point;
 use geometry::boundaries::{center_of, kind_at, lower_at, ramp_at, upper_at};
 use geometry::points::distance;
@@ -31,22 +31,25 @@ pub struct Reach {
 }
 
 // Whether both ports are full cuts and the two ends of one ramp.
-pub fn ports_fit(boundaries: &[u64], tallies: &[u32], a: usize, b: usize) -> bool
-    requires { Listed boundaries.now tallies.now a × Listed boundaries.now tallies.now b }
+pub fn ports_fit(context: PartitionContext, ports: Ports) -> bool
+    requires first_listed { Listed context.boundaries.now context.tallies.now ports.first }
+    requires second_listed { Listed context.boundaries.now context.tallies.now ports.second }
     ensures { (C : Context) →
-        ShownBoundaries C boundaries.now →
-        ShownTallies C tallies.now →
-        a < C.count →
-        b < C.count →
-        result ≡ ports_fit C a b }
+        ShownBoundaries C context.entry.boundaries.now →
+        ShownTallies C context.entry.tallies.now →
+        ports.first < C.count →
+        ports.second < C.count →
+        result ≡ ports_fit C ports.first ports.second }
 {
-    let first = kind_at(boundaries, a);
-    let second = kind_at(boundaries, b);
+    let first = kind_at(context.boundaries, ports.first);
+    let second = kind_at(context.boundaries, ports.second);
+    let same_ramp = ramp_at(context.boundaries, ports.first)
+        == ramp_at(context.boundaries, ports.second);
     (first != 0)
         & (second != 0)
-        & full_cut(tallies, a)
-        & full_cut(tallies, b)
-        & (ramp_at(boundaries, a) == ramp_at(boundaries, b))
+        & context.full_cut(ports.first)
+        & context.full_cut(ports.second)
+        & same_ramp
         & (first != second)
 }
 
