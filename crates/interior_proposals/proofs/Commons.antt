@@ -54,6 +54,11 @@ one_named owner-is.None e = absurd (false≢true e)
 one_named (owner-is.One r) e = refl
 one_named owner-is.Several e = absurd (false≢true e)
 
+pub owned_one : (r : ℕ) (o : Owner) → owned_by r o ≡ true → o ≡ one_owner r
+owned_one r owner-is.None e = absurd (false≢true e)
+owned_one r (owner-is.One n) e = ap one_owner (eqb-true n r e)
+owned_one r owner-is.Several e = absurd (false≢true e)
+
 -- ---- what a chain over rows gives, of which the first has the name n
 
 module _ (names rows : List ℕ) (first end : ℕ) (some_row : first < end) {n : ℕ} (named : n ≡ entry_at names (pair_at rows first).lo) where
@@ -115,8 +120,8 @@ module _ (C : Context) (i : ℕ) where
           ordinary = λ q. absurd (nobody_several q);
         }
 
-    owned_one : (n : ℕ) → 1 ≤ n → n ≤ C.regions → all (low_in n) (C.pairs i) ≡ true → any (low_in n) (C.pairs i) ≡ true → Owned C i (one_owner n)
-    owned_one n a b h k =
+    owned_named : (n : ℕ) → 1 ≤ n → n ≤ C.regions → all (low_in n) (C.pairs i) ≡ true → any (low_in n) (C.pairs i) ≡ true → Owned C i (one_owner n)
+    owned_named n a b h k =
         record {
           range = λ r e. subst (λ x. (1 ≤ x) × (x ≤ C.regions)) {x = n} {y = r} (ap name_of e) (a, b);
           whole = λ r c e. go r (eqb n r) refl;
@@ -171,5 +176,5 @@ module _ (C : Context) (i : ℕ) where
         go (none e) = owned-empty o e
         go (one n a b) =
             let w = low-name n (shown-any n b) in
-            owned_one o n w.0 w.1 (sym (all_same (low_named names n) (low_in n) (name-shown n)) ∙ a) (shown-any n b)
+            owned_named o n w.0 w.1 (sym (all_same (low_named names n) (low_in n) (name-shown n)) ∙ a) (shown-any n b)
         go (several_names m n d a b) = owned-several o m n d (shown-any m a) (shown-any n b)

@@ -53,16 +53,20 @@ pub fn ports_fit(context: PartitionContext, ports: Ports) -> bool
         & (first != second)
 }
 
-// The reach of the ports a and b.
-pub fn reach_of(boundaries: &[u64], a: usize, b: usize) -> Reach
-    requires { Placed boundaries.now a × Placed boundaries.now b }
-    ensures { (C : Context) → ShownBoundaries C boundaries.now → a < C.count → b < C.count → Aimed C a b result }
+// The reach of two ports.
+pub fn reach_of(boundaries: &[u64], ports: Ports) -> Reach
+    requires { Placed boundaries.now ports.first × Placed boundaries.now ports.second }
+    ensures { (C : Context) →
+        ShownBoundaries C boundaries.now →
+        ports.first < C.count →
+        ports.second < C.count →
+        Aimed C ports.first ports.second result }
 {
     Reach {
-        lower: lower_at(boundaries, a),
-        upper: upper_at(boundaries, a),
-        first: center_of(boundaries, a),
-        second: center_of(boundaries, b),
+        lower: lower_at(boundaries, ports.first),
+        upper: upper_at(boundaries, ports.first),
+        first: center_of(boundaries, ports.first),
+        second: center_of(boundaries, ports.second),
     }
 }
 
