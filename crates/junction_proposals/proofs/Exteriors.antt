@@ -31,6 +31,12 @@ size (found.One a) = 1
 size (found.Two a b) = 2
 size found.Many = 3
 
+pub not-three : (s : Exteriors) → (s ≡ found.Many → ⊥) → false ≡ leb 3 (size s)
+not-three found.None h = refl
+not-three (found.One a) h = refl
+not-three (found.Two a b) h = refl
+not-three found.Many h = absurd (h refl)
+
 abbrev is_found : Exteriors → ℕ → Bool
 is_found found.None e = false
 is_found (found.One a) e = eqb a e
@@ -144,11 +150,11 @@ module _ (full : List (Option declared.Pair)) (i : ℕ) (p : Pair) where
           port : (not (eqb j i) && names_either full p j) ≡ true
           port = ap₂ (λ a b. not a && b) e h
 
-  pub survey : ℕ → Exteriors
+  abbrev pub survey : ℕ → Exteriors
   survey n = fold (with_incident full i p) found.None (incidents_of full n p)
 
   surveyed : (n : ℕ) → Surveyed n (survey n)
-  unfolding incidents_of collect survey
+  unfolding incidents_of collect
   surveyed zero = survey_start
   surveyed (suc n) = rw (fold-append (with_incident full i p) found.None (incidents_of full n p) (to_list (only_if (names_either full p n) n))) (go (names_either full p n) refl (surveyed n))
     where

@@ -6,7 +6,7 @@ use mathlib.Core.Path.{◌≡◌, refl, sym, ap, ap₂, ◌∙◌}
 use mathlib.Core.Bool.{Bool, true, false, not, ◌&&◌, ◌||◌, and-false, and-true, or-false}
 use Rattle.std.specs.Prelude.{Option}
 use mathlib.Core.List.{List, ◌++◌, append-nil}
-use lib.ListN.{length, set, length-set, length-append}
+use lib.ListN.{length, get_or, set, length-set, length-append}
 use lib.Seq.{take-suc-set}
 use lib.Dec.{eqb}
 use Rattle.std.specs.List.{list_any, list_all, filter}
@@ -16,7 +16,8 @@ use Rattle.definitions.specs.Scan.{any_below_lem, all_below, count_below, collec
 use Rattle.definitions.specs.Grid.{Pair}
 use Rattle.context.specs.declared.pairs.Pair as declared
 use Rattle.laws.specs.ListLaws.ScanSteps.{collect_next}
-use Rattle.laws.specs.ListLaws.Scans.{picked}
+use Rattle.laws.specs.ListLaws.Scans.{picked, picked-length, picked_at}
+use Rattle.laws.specs.ListLaws.Below.{rank-taken}
 use Rattle.junction_proposals.specs.Ports.{names_either, is_port, incidents_of, Listed}
 
 -- ---- chains over the numbers that pass f
@@ -77,6 +78,13 @@ module _ (full : List (Option declared.Pair)) (p : Pair) where
   pub count_listed : (t : ℕ → Bool) (n : ℕ) → length (filter t (incidents_of full n p)) ≡ count_below n (λ j. named j && t j)
   unfolding incidents_of
   count_listed t n = count_picked named t n
+
+  -- what stands in the list
+  pub listed_below : (n k d : ℕ) {l : List ℕ} → l ≡ incidents_of full n p → k < length l → get_or l k d < n
+  unfolding incidents_of
+  listed_below n k d {l} e h =
+      let r = rank-taken named n k (omega (arith, ap length e, picked-length named (λ j. j) n)) in
+      omega (arith, ap (λ l. get_or l k d) e ∙ ap (λ i. get_or (picked named (λ j. j) n) i d) (sym r.rank_is) ∙ picked_at named (λ j. j) d n r.place r.below r.is_inside, r.below)
 
   -- ---- how the list is filled
 

@@ -1,6 +1,6 @@
 -- The shape of a union, as `is_union` finds it: test by test, each return says what the whole test says. Assumes nothing.
 use Prim.Native.Nat.{ℕ, ◌+◌, ◌-◌, ◌≤◌, ◌<◌}
-use mathlib.Core.Path.{◌≡◌, refl, sym}
+use mathlib.Core.Path.{◌≡◌, refl, sym, ◌∙◌}
 use mathlib.Core.Bool.{Bool, true, false, ◌&&◌}
 use Rattle.std.specs.Prelude.{Option, Some}
 use mathlib.Core.List.{List}
@@ -49,5 +49,13 @@ module _ (boundaries : List ℕ) (full : List (Option declared.Pair)) (counts ma
           go false e = from plain (lt-ltb (marks_of marks union) 2 anchored) e refl refl
 
       -- the tests that are left, as they were found: r, s and t
-      pub by_tests : {r s t : Bool} → r ≡ fit → s ≡ three → t ≡ ports_pass boundaries full count i union one → (r && s && t) ≡ whole
-      by_tests a b c = from plain (lt-ltb (marks_of marks union) 2 anchored) (sym a) (sym b) (sym c)
+      module _ {r : Bool} (walked : r ≡ fit) where
+        pub fit_fails : r ≡ false → false ≡ whole
+        fit_fails h = from plain (lt-ltb (marks_of marks union) 2 anchored) (sym walked ∙ h) refl refl
+
+        module _ {s : Bool} (h : r ≡ true) (counted : s ≡ three) where
+          pub three_fail : s ≡ false → false ≡ whole
+          three_fail k = from plain (lt-ltb (marks_of marks union) 2 anchored) (sym walked ∙ h) (sym counted ∙ k) refl
+
+          pub by_ports : {t : Bool} → s ≡ true → t ≡ ports_pass boundaries full count i union one → t ≡ whole
+          by_ports k e = from plain (lt-ltb (marks_of marks union) 2 anchored) (sym walked ∙ h) (sym counted ∙ k) (sym e)

@@ -2,19 +2,13 @@
 use Rattle.std.specs.Prelude.{ℕ, ◌+◌, ◌*◌, ◌^◌, ◌≤◌, ◌<◌, ◌≡◌, List, length, get_or, Option, None, IfSome}
 use Rattle.definitions.specs.Limits.{max_side, max_entries, numbers_per_boundary}
 use Rattle.definitions.specs.Grid.{segment_at}
-use Rattle.definitions.specs.Context.{Context, full_pair}
-use Rattle.context.specs.Rows.{full_pair_of}
+use Rattle.definitions.specs.Context.{Context}
 use Rattle.laws.specs.FloatLaws.Pixels.{PixelSegment, PixelContext}
 use Rattle.laws.specs.RustContext.SoundContext.{Sound}
 use Rattle.context.specs.declared.pairs.Pair as declared
-use Rattle.context.specs.Shown.{ShownBoundaries, ShownIncidents, ShownAnchored}
+use Rattle.context.specs.Shown.{ShownBoundaries, ShownFullPairs, ShownIncidents, ShownAnchored}
 use Rattle.junction_proposals.specs.Ports.{pair_of}
 use Rattle.junction_proposals.specs.declared.lists.JunctionLists.{JunctionLists}
-
-pub record ShownFullPairs (C : Context) (full : List (Option declared.Pair)) : Type 0 where
-  pub few : C.count ≤ max_entries
-  pub long : C.count ≤ length full
-  pub at : (i : ℕ) → i < C.count → full_pair_of (get_or full i None) ≡ full_pair C i
 
 -- `count` boundaries; a width is finite, and its sign bit is clear
 pub record LentBoundaries (boundaries : List ℕ) (count : ℕ) : Type 0 where

@@ -55,14 +55,14 @@ pub fn find_incidents(
 fn names_at(full: &[Option<Pair>; 256], r: u32, j: u8) -> bool
     ensures { result ≡ names full.now r j }
 {
-    names_region(full[usize::from(j)], r)
+    names_region(full[j as usize], r)
 }
 
 // Whether the full pair of boundary j names region r of the union without that exactly one of its sides lies in it. Boundary `index`, the union's own, is left out.
 fn is_unfit(full: &[Option<Pair>; 256], index: usize, union: Pair, r: u32, j: u8) -> bool
     ensures { result ≡ is_unfit full.now index (pair_form union) r j }
 {
-    names_at(full, r, j) && usize::from(j) != index && !fits_union(union, full[usize::from(j)])
+    names_at(full, r, j) & ((j as usize != index) & !fits_union(union, full[j as usize]))
 }
 
 // Whether every incident of region r of the union, other than its own boundary, is a full pair with one side in the union. Looks at the boundaries whose full pair names
@@ -86,7 +86,7 @@ fn region_fits(lists: &JunctionLists, divider: &Divider, r: u32) -> bool
         .iter()
         .filter(|&&j| names_at(lists.full, r, j))
         .count();
-    !unfit && met == lists.counts[r as usize - 1] as usize
+    !unfit & (met == lists.counts[r as usize - 1] as usize)
 }
 
 // Whether that is so of both regions.

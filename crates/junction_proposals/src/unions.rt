@@ -38,9 +38,9 @@ impl Exteriors {
     fn with_incident(self, full: &[Option<Pair>; 256], divider: &Divider, j: u8) -> Exteriors
         ensures { result ≡ with_incident full.now divider.now.index (pair_form divider.now.union) self j }
     {
-        let pair = full[usize::from(j)];
+        let pair = full[j as usize];
         match pair {
-            Some(pair) if usize::from(j) != divider.index => self.with(exterior_of(
+            Some(pair) if j as usize != divider.index => self.with(exterior_of(
                 divider.union,
                 pair,
             )),
@@ -82,8 +82,8 @@ pub fn ports_pass(lists: &JunctionLists, divider: &Divider, one: bool) -> bool
         (pair_form divider.now.union) one }
 {
     divider.incidents.iter().all(|&j| {
-        usize::from(j) == divider.index
-            || port_passes(lists.boundaries, one, divider.index, usize::from(j))
+        (j as usize == divider.index)
+            | port_passes(lists.boundaries, one, divider.index, j as usize)
     })
 }
 

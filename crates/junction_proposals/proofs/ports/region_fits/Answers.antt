@@ -19,4 +19,5 @@ returns c =
     let xs = c.args.divider.now.incidents.now in
     let unfit = any_from_yields_List (is_unfit full c.args.divider.now.index p c.args.r) _ _ c.any-unfit.result c.any-unfit.ensures.ran (YieldsList-from_slice xs cc) (λ x b q k. search (rules, tests)) in
     let met = count_from_yields_List c.filter.result c.count-met.result c.count-met.ensures.ran (YieldsList-from_filter _ (names full c.args.r) (YieldsList-from_slice xs cc) c.filter.ensures.closure (λ x r q k. search (rules, tests))) in
-    ?
+    ap₂ (λ a b. not a && eqb b (get_or c.args.lists.now.counts.now (c.args.r - 1) 0)) (unfit ∙ any-unfit full p c.args.r c.requires.r_of_union c.args.divider.now.index c.args.lists.now.count c.requires.incidents)
+    (met ∙ count-named full p c.args.r c.requires.r_of_union c.args.lists.now.count c.requires.incidents)
