@@ -9,8 +9,8 @@ ghost use Rattle.interior_proposals.specs.Forest.{Parented, Rooted, Found, Joina
 ghost use Rattle.interior_proposals.specs.Given.{Given, Lent, SomeLent, flags_of, alone, links_of, CutJoinable, CutsJoinable, Prepared, Known};
 
 use context::PartitionContext;
-use context::pairs::NUMBERS_PER_PAIR;
 use geometry::boundaries::kind_at;
+use span_geometry::NUMBERS_PER_PAIR;
 
 // The parent of region r.
 pub fn parent_of(parents: &[u32], r: u32) -> u32
