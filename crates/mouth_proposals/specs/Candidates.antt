@@ -19,11 +19,11 @@ use Rattle.mouth_proposals.specs.declared.mouths.MouthKind.TheVariants as kind-o
 
 abbrev pub single_at : Pair → Option ℕ → Option Approach
 single_at p None = None
-single_at p (Some r) = Some (approach.Single (other_region r p) r)
+single_at p (Some r) = Some (approach.Single (record { outer = other_region r p; approach = r }))
 
 abbrev pub star_at : ℕ → Option ℕ → Option Approach
 star_at outer None = None
-star_at outer (Some r) = Some (approach.Star outer r)
+star_at outer (Some r) = Some (approach.Star (record { outer = outer; approach = r }))
 
 -- from the ramp's full pair and the mouth's shape
 abbrev pub approach_of : Option Pair → Option MouthShape → Option Approach
@@ -35,8 +35,8 @@ approach_of (Some q) (Some (star outer inner)) = star_at outer (one_of (filter (
 -- both regions are numbered from 1 to n
 abbrev pub Within : ℕ → Option Approach → Type 0
 Within n None = Unit {0}
-Within n (Some (approach.Single outer r)) = ((1 ≤ outer) × (outer ≤ n)) × ((1 ≤ r) × (r ≤ n))
-Within n (Some (approach.Star outer r)) = ((1 ≤ outer) × (outer ≤ n)) × ((1 ≤ r) × (r ≤ n))
+Within n (Some (approach.Single s)) = ((1 ≤ s.outer) × (s.outer ≤ n)) × ((1 ≤ s.approach) × (s.approach ≤ n))
+Within n (Some (approach.Star s)) = ((1 ≤ s.outer) × (s.outer ≤ n)) × ((1 ≤ s.approach) × (s.approach ≤ n))
 
 -- ---- proposals
 
@@ -111,6 +111,7 @@ module _ (C : Context) where
   unfoldable pub approach_mouth : ℕ → ℕ → Option Approach → Option MouthProposal
   unfolding single_fits star_fits proposal_of
   approach_mouth m a None = None
-  approach_mouth m a (Some (approach.Single outer r)) =
-      only_if (single_fits m a outer r) (proposal_of m a (Some outer) (cond ((broad_mouth C m a || overlay_only C m a) && eqb (incident_count C r) 2) broad plain))
-  approach_mouth m a (Some (approach.Star outer r)) = only_if (star_fits m a outer r) (proposal_of m a (Some outer) (cond (broad_mouth C m a) broad plain))
+  approach_mouth m a (Some (approach.Single s)) =
+      only_if (single_fits m a s.outer s.approach) (proposal_of m a (Some s.outer) (cond ((broad_mouth C m a || overlay_only C m a) && eqb (incident_count C s.approach) 2) broad plain))
+  approach_mouth m a (Some (approach.Star s)) =
+      only_if (star_fits m a s.outer s.approach) (proposal_of m a (Some s.outer) (cond (broad_mouth C m a) broad plain))

@@ -11,7 +11,7 @@ ghost use Rattle.mouth_proposals.specs.Outers.{mark_at, inner_fits, with_region}
 ghost use Rattle.mouth_proposals.specs.Candidates.{plain, broad, is_triangular, is_broad, Within, candidate_form, found_mouth, approach_mouth};
 ghost use Rattle.mouth_proposals.specs.Ends.{EndsOf, EndKnown};
 
-use crate::approaches::{Approach, approach_of};
+use crate::approaches::{Approach, Sides, approach_of};
 use crate::ends::{OtherEnds, Ramp, other_end_at};
 use crate::measures::{Measures, broad_mouth, nearby_representative, overlay_representative};
 use crate::regions::RegionMarks;
@@ -69,51 +69,43 @@ pub enum Outers {
 }
 
 // Whether every inner region of the star of these rows fits.
-fn inner_fit(
-    pairs: &[u32],
-    regions: RegionMarks,
-    first: usize,
-    end: usize,
-    outer: u32,
-    r: u32,
-) -> bool
+fn inner_fit(pairs: &[u32], regions: RegionMarks, first: usize, end: usize, sides: Sides) -> bool
     requires ordered { first ≤ end }
     requires named_rows { (k : ℕ) →
         first ≤ k →
         k < end →
         NamedRow pairs.now (length regions.counts.now) k × NamedRow pairs.now (length regions.marks.now) k }
-    ensures { result ≡ all (inner_fits regions.entry.marks.now regions.entry.counts.now outer r) (regions_of (pairs_between pairs.now first end)) }
+    ensures { result ≡ all (inner_fits regions.entry.marks.now regions.entry.counts.now sides.outer sides.approach) (regions_of (pairs_between pairs.now first end)) }
 {
     (first..end).all(|k| {
         let p = row_at(pairs, k);
-        regions.fits(outer, r, p.lo) & regions.fits(outer, r, p.hi)
+        regions.fits(sides, p.lo) & regions.fits(sides, p.hi)
     })
 }
 
-// The proposal of a mouth of one pair; `blocked` says that the ramp's other end is an incident of r.
+// The proposal of a mouth of one pair; `blocked` says that the ramp's other end is an incident of the approach.
 fn single_mouth(
     regions: RegionMarks,
-    outer: u32,
-    r: u32,
+    sides: Sides,
     blocked: bool,
     measures: Measures,
 ) -> Option<Mouth>
-    requires outer_named { (1 ≤ outer) × (outer ≤ length regions.marks.now) }
-    requires r_named { (1 ≤ r) × ((r ≤ length regions.marks.now) × (r ≤ length regions.counts.now)) }
+    requires outer_named { (1 ≤ sides.outer) × (sides.outer ≤ length regions.marks.now) }
+    requires approach_named { (1 ≤ sides.approach) × ((sides.approach ≤ length regions.marks.now) × (sides.approach ≤ length regions.counts.now)) }
     ensures { (C : Context) (m a : ℕ) →
         ShownIncidents C regions.entry.counts.now →
         ShownAnchored C regions.entry.marks.now →
-        (outer ≤ C.regions) × (r ≤ C.regions) →
-        blocked ≡ other_end_incident C a r →
+        (sides.outer ≤ C.regions) × (sides.approach ≤ C.regions) →
+        blocked ≡ other_end_incident C a sides.approach →
         measures.wide ≡ broad_mouth C m a →
         measures.overlay ≡ overlay_only C m a →
-        candidate_form C m a result ≡ approach_mouth C m a (Some (Approach.Single outer r)) }
+        candidate_form C m a result ≡ approach_mouth C m a (Some (Approach.Single sides)) }
 {
-    let two = regions.incident_count(r) == 2;
-    let kept_out = measures.overlay & (regions.is_anchored(outer) | !two);
-    let fits = !regions.is_anchored(r) & (!kept_out & !blocked);
+    let two = regions.incident_count(sides.approach) == 2;
+    let kept_out = measures.overlay & (regions.is_anchored(sides.outer) | !two);
+    let fits = !regions.is_anchored(sides.approach) & (!kept_out & !blocked);
     fits.then_some(Mouth {
-        outer: Some(outer),
+        outer: Some(sides.outer),
         kind: MouthKind::of_approach((measures.wide | measures.overlay) & two),
     })
 }
@@ -123,8 +115,7 @@ fn star_mouth(
     context: PartitionContext,
     regions: RegionMarks,
     m: usize,
-    outer: u32,
-    r: u32,
+    sides: Sides,
     blocked: bool,
     measures: Measures,
 ) -> Option<Mouth>
@@ -133,25 +124,25 @@ fn star_mouth(
         get_or context.starts.now m 0 ≤ k →
         k < get_or context.starts.now (m + 1) 0 →
         NamedRow context.pairs.now (length regions.counts.now) k × NamedRow context.pairs.now (length regions.marks.now) k }
-    requires r_named { (1 ≤ r) × (r ≤ length regions.counts.now) }
+    requires approach_named { (1 ≤ sides.approach) × (sides.approach ≤ length regions.counts.now) }
     ensures { (C : Context) (a : ℕ) →
         ShownPairs C context.entry.pairs.now context.entry.starts.now →
         ShownIncidents C regions.entry.counts.now →
         ShownAnchored C regions.entry.marks.now →
         m < C.count →
-        r ≤ C.regions →
-        blocked ≡ other_end_incident C a r →
+        sides.approach ≤ C.regions →
+        blocked ≡ other_end_incident C a sides.approach →
         measures.wide ≡ broad_mouth C m a →
         measures.overlay ≡ overlay_only C m a →
-        candidate_form C m a result ≡ approach_mouth C m a (Some (Approach.Star outer r)) }
+        candidate_form C m a result ≡ approach_mouth C m a (Some (Approach.Star sides)) }
 {
-    if measures.overlay | (regions.incident_count(r) != 2) | blocked {
+    if measures.overlay | (regions.incident_count(sides.approach) != 2) | blocked {
         return None;
     }
     let first = context.starts[m];
     let end = context.starts[m + 1];
-    inner_fit(context.pairs, regions, first, end, outer, r).then_some(Mouth {
-        outer: Some(outer),
+    inner_fit(context.pairs, regions, first, end, sides).then_some(Mouth {
+        outer: Some(sides.outer),
         kind: MouthKind::of_approach(measures.wide),
     })
 }
@@ -234,19 +225,13 @@ fn approach_mouth(
         candidate_form C m a result ≡ approach_mouth C m a approach }
 {
     match approach? {
-        Approach::Single(outer, r) => {
-            single_mouth(regions, outer, r, other_end_at(ends, r), measures)
+        Approach::Single(sides) => {
+            let blocked = other_end_at(ends, sides.approach);
+            single_mouth(regions, sides, blocked, measures)
         }
-        Approach::Star(outer, r) => {
-            star_mouth(
-                context,
-                regions,
-                m,
-                outer,
-                r,
-                other_end_at(ends, r),
-                measures,
-            )
+        Approach::Star(sides) => {
+            let blocked = other_end_at(ends, sides.approach);
+            star_mouth(context, regions, m, sides, blocked, measures)
         }
     }
 }
