@@ -1,5 +1,5 @@
 -- What a mouth and a ramp propose before the records of regions are looked at, as the code has it: the region outside, and a kind. Definitions only; assumes nothing.
-use Rattle.std.specs.Prelude.{ℕ, ◌≤◌, Bool, true, false, ◌&&◌, ◌||◌, [], ◌∷◌, Option, None, Some}
+use Rattle.std.specs.Prelude.{ℕ, ◌≡◌, ◌≤◌, Bool, true, false, ◌&&◌, ◌||◌, [], ◌∷◌, Option, None, Some}
 use Rattle.std.proofs.Math.Bool.{not, cond}
 use Rattle.std.proofs.Math.Dec.{eqb}
 use Rattle.std.specs.Float.Ieee.{lt}
@@ -11,6 +11,7 @@ use Rattle.definitions.specs.RampMouths.{MouthProposal, max_mouth_distance, reta
 use Rattle.mouth_proposals.specs.Rows.{inner_of, one_of}
 use Rattle.mouth_proposals.specs.declared.approaches.Approach.{Approach}
 use Rattle.mouth_proposals.specs.declared.approaches.Approach.TheVariants as approach
+use Rattle.mouth_proposals.specs.declared.measures.Measures.{Measures}
 use Rattle.mouth_proposals.specs.declared.mouths.Mouth.{Mouth}
 use Rattle.mouth_proposals.specs.declared.mouths.MouthKind.{MouthKind}
 use Rattle.mouth_proposals.specs.declared.mouths.MouthKind.TheVariants as kind-of
@@ -63,6 +64,12 @@ abbrev pub is_broad : MouthKind → Bool
 is_broad kind-of.Plain = false
 is_broad kind-of.Triangular = false
 is_broad kind-of.Broad = true
+
+-- what is measured of mouth m and ramp a
+pub record Measured (C : Context) (m a : ℕ) (measures : Measures) : Type 0 where
+  pub broad : measures.broad ≡ broad_mouth C m a
+  pub nearby : measures.nearby ≡ nearby_representative C m a
+  pub overlay : measures.overlay ≡ overlay_representative C m a
 
 module _ (C : Context) where
   -- of mouth m and ramp a; inner are the regions that the mouth's pairs name, but for the one outside

@@ -3,17 +3,17 @@ ghost use Rattle.std.specs.Prelude.{◌≡◌, Some, true, false, cond, ℕ, ◌
 ghost use Rattle.definitions.specs.Scan.{all};
 ghost use Rattle.definitions.specs.MouthShapes.{regions_of, distinct_regions};
 ghost use Rattle.definitions.specs.Context.{Context, full_cut, no_ramp};
-ghost use Rattle.definitions.specs.RampMouths.{other_end_incident, broad_mouth, overlay_only, triangle_mouth};
+ghost use Rattle.definitions.specs.RampMouths.{other_end_incident, triangle_mouth};
 ghost use Rattle.context.specs.Shown.{pairs_between, ShownTallies, ShownPairs, ShownIncidents, ShownAnchored};
 ghost use Rattle.context.specs.Rows.{Stretch, NamedRow};
 ghost use Rattle.mouth_proposals.specs.Lent.{PassShows, PassShown};
 ghost use Rattle.mouth_proposals.specs.Outers.{mark_at, inner_fits, with_region};
-ghost use Rattle.mouth_proposals.specs.Candidates.{plain, broad, is_triangular, is_broad, Within, candidate_form, found_mouth, approach_mouth};
+ghost use Rattle.mouth_proposals.specs.Candidates.{plain, broad, is_triangular, is_broad, Within, Measured, candidate_form, found_mouth, approach_mouth};
 ghost use Rattle.mouth_proposals.specs.Ends.{EndsOf, EndKnown};
 
 use crate::approaches::{Approach, Sides, approach_of};
 use crate::ends::{OtherEnds, Ramp, other_end_at};
-use crate::measures::{Measures, broad_mouth, nearby_representative, overlay_representative};
+use crate::measures::Measures;
 use crate::regions::RegionMarks;
 use crate::shapes::triangle_representative;
 use context::PartitionContext;
@@ -97,16 +97,16 @@ fn single_mouth(
         ShownAnchored C regions.entry.marks.now →
         (sides.outer ≤ C.regions) × (sides.approach ≤ C.regions) →
         blocked ≡ other_end_incident C a sides.approach →
-        measures.wide ≡ broad_mouth C m a →
-        measures.overlay ≡ overlay_only C m a →
+        Measured C m a measures →
         candidate_form C m a result ≡ approach_mouth C m a (Some (Approach.Single sides)) }
 {
+    let overlay = measures.overlay_only();
     let two = regions.incident_count(sides.approach) == 2;
-    let kept_out = measures.overlay & (regions.is_anchored(sides.outer) | !two);
+    let kept_out = overlay & (regions.is_anchored(sides.outer) | !two);
     let fits = !regions.is_anchored(sides.approach) & (!kept_out & !blocked);
     fits.then_some(Mouth {
         outer: Some(sides.outer),
-        kind: MouthKind::of_approach((measures.wide | measures.overlay) & two),
+        kind: MouthKind::of_approach((measures.broad | overlay) & two),
     })
 }
 
@@ -132,18 +132,17 @@ fn star_mouth(
         m < C.count →
         sides.approach ≤ C.regions →
         blocked ≡ other_end_incident C a sides.approach →
-        measures.wide ≡ broad_mouth C m a →
-        measures.overlay ≡ overlay_only C m a →
+        Measured C m a measures →
         candidate_form C m a result ≡ approach_mouth C m a (Some (Approach.Star sides)) }
 {
-    if measures.overlay | (regions.incident_count(sides.approach) != 2) | blocked {
+    if measures.overlay_only() | (regions.incident_count(sides.approach) != 2) | blocked {
         return None;
     }
     let first = context.starts[m];
     let end = context.starts[m + 1];
     inner_fit(context.pairs, regions, first, end, sides).then_some(Mouth {
         outer: Some(sides.outer),
-        kind: MouthKind::of_approach(measures.wide),
+        kind: MouthKind::of_approach(measures.broad),
     })
 }
 
@@ -220,8 +219,7 @@ fn approach_mouth(
         m < C.count →
         Within C.regions approach →
         EndKnown C a ends approach →
-        measures.wide ≡ broad_mouth C m a →
-        measures.overlay ≡ overlay_only C m a →
+        Measured C m a measures →
         candidate_form C m a result ≡ approach_mouth C m a approach }
 {
     match approach? {
@@ -265,18 +263,12 @@ pub fn mouth_candidate(
     if !triangle & approach.is_none() {
         return None;
     }
-    let wide = broad_mouth(context.boundaries, m, a);
-    let nearby = nearby_representative(context.boundaries, m, a);
-    let overlay = overlay_representative(context.boundaries, m, a);
-    if !(wide | nearby | overlay) {
+    let measures = Measures::of(context.boundaries, m, a);
+    if !measures.any() {
         return None;
     }
-    if nearby & triangle {
+    if measures.nearby & triangle {
         return triangle_mouth(context, regions, m);
     }
-    let measures = Measures {
-        wide,
-        overlay: overlay & !nearby & !wide,
-    };
     approach_mouth(context, regions, m, ramp.ends, approach, measures)
 }
