@@ -15,15 +15,14 @@ use crate::Region;
 use crate::runs::{mask_of, run_counts, sums};
 use elevations::{Dominance, dominance_of};
 use geometry::Point;
-
-const PIXELS_PER_WALK_CELL: u32 = 8;
+use span_geometry::PIXELS_PER_WALK_CELL;
 
 // An edge that lies `cells` cells from the map's left or upper edge, in pixels.
 fn edge(cells: usize) -> f64
     requires { cells ≤ max_side }
     ensures { result ≡ float (cells * pixels_per_walk_cell) }
 {
-    (cells as u32 * PIXELS_PER_WALK_CELL) as f64
+    (cells as u64 * PIXELS_PER_WALK_CELL) as f64
 }
 
 // The first cell sets an edge; each further one may move it out.
