@@ -27,14 +27,14 @@ module _ (C : Context) (m a outer r : ℕ) where
 
   pub single_by : {x z e k : Bool} → C.anchored r ≡ x → (overlay_only C m a && (C.anchored outer || not (eqb (incident_count C r) 2))) ≡ z → other_end_incident C a r ≡ e
       → ((broad_mouth C m a || overlay_only C m a) && eqb (incident_count C r) 2) ≡ k
-      → only_if (not x && (not z && not e)) (proposal_of C m a outer (cond k broad plain)) ≡ approach_mouth C m a (Some (approach.Single outer r))
+      → only_if (not x && (not z && not e)) (proposal_of C m a (Some outer) (cond k broad plain)) ≡ approach_mouth C m a (Some (approach.Single outer r))
   unfolding approach_mouth single_fits
-  single_by hx hz he hk = sym (λ i. only_if (not (hx i) && (not (hz i) && not (he i))) (proposal_of C m a outer (cond (hk i) broad plain)))
+  single_by hx hz he hk = sym (λ i. only_if (not (hx i) && (not (hz i) && not (he i))) (proposal_of C m a (Some outer) (cond (hk i) broad plain)))
 
   pub star_by : {o t f e w : Bool} → overlay_only C m a ≡ o → eqb (incident_count C r) 2 ≡ t → all fits_in (regions_of (C.pairs m)) ≡ f → other_end_incident C a r ≡ e → broad_mouth C m a ≡ w
-      → only_if (not o && (t && (f && not e))) (proposal_of C m a outer (cond w broad plain)) ≡ approach_mouth C m a (Some (approach.Star outer r))
+      → only_if (not o && (t && (f && not e))) (proposal_of C m a (Some outer) (cond w broad plain)) ≡ approach_mouth C m a (Some (approach.Star outer r))
   unfolding approach_mouth star_fits
-  star_by ho ht hf he hw = sym (λ i. only_if (not (ho i) && (ht i && (hf i && not (he i)))) (proposal_of C m a outer (cond (hw i) broad plain)))
+  star_by ho ht hf he hw = sym (λ i. only_if (not (ho i) && (ht i && (hf i && not (he i)))) (proposal_of C m a (Some outer) (cond (hw i) broad plain)))
 
 -- regions of pairs are numbered
 pub all-named-regions : {n : ℕ} {l : List Pair} → All (Named n) l → All (λ s. (1 ≤ s) × (s ≤ n)) (regions_of l)

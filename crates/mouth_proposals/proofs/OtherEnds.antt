@@ -9,10 +9,7 @@ use Rattle.definitions.specs.Limits.{numbers_per_boundary}
 use Rattle.definitions.specs.Grid.{Boundary}
 use Rattle.definitions.specs.Context.{Context, is_incident, no_ramp}
 use Rattle.context.specs.Shown.{ShownBoundaries}
-
--- boundary j is the other end of the ramp of a, and an incident of r
-abbrev pub is_other_end : Context → ℕ → ℕ → ℕ → Bool
-is_other_end C a r j = not (no_ramp C j) && eqb (C.boundary j).ramp_id (C.boundary a).ramp_id && not (eqb (C.boundary j).kind (C.boundary a).kind) && is_incident C j r
+use Rattle.mouth_proposals.specs.Ends.{is_other_end}
 
 -- the first three tests, of the list
 abbrev pub end_at : List ℕ → ℕ → ℕ → Bool

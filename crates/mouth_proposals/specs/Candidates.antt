@@ -3,7 +3,7 @@ use Rattle.std.specs.Prelude.{ℕ, ◌≤◌, Bool, true, false, ◌&&◌, ◌||
 use Rattle.std.proofs.Math.Bool.{not, cond}
 use Rattle.std.proofs.Math.Dec.{eqb}
 use Rattle.std.specs.Float.Ieee.{lt}
-use Rattle.definitions.specs.Scan.{all, filter, only_if}
+use Rattle.definitions.specs.Scan.{to_list, all, only_if, filter}
 use Rattle.definitions.specs.Grid.{Pair, contains}
 use Rattle.definitions.specs.MouthShapes.{MouthShape, single, star, regions_of, mouth_shape}
 use Rattle.definitions.specs.Context.{Context, full_cut, full_pair, other_region, incident_count, no_ramp}
@@ -40,6 +40,11 @@ Within n (Some (approach.Star outer r)) = ((1 ≤ outer) × (outer ≤ n)) × ((
 
 -- ---- proposals
 
+-- the region outside, if there is one, is numbered from 1 to n
+abbrev pub Numbered : ℕ → Option ℕ → Type 0
+Numbered n None = Unit {0}
+Numbered n (Some r) = (1 ≤ r) × (r ≤ n)
+
 abbrev pub plain : MouthKind
 plain = kind-of.Plain
 
@@ -60,14 +65,14 @@ is_broad kind-of.Triangular = false
 is_broad kind-of.Broad = true
 
 module _ (C : Context) where
-  -- of mouth m and ramp a; outer is 0 where no region is outside, and inner are the others that the mouth's pairs name
-  unfoldable pub proposal_of : ℕ → ℕ → ℕ → MouthKind → MouthProposal
-  unfolding filter inner_of separation_of
+  -- of mouth m and ramp a; inner are the regions that the mouth's pairs name, but for the one outside
+  unfoldable pub proposal_of : ℕ → ℕ → Option ℕ → MouthKind → MouthProposal
+  unfolding inner_of separation_of
   proposal_of m a outer kind =
       record {
         mouth_index = m;
         ramp_index = a;
-        outer = filter (λ r. not (eqb r 0)) (outer ∷ []);
+        outer = to_list outer;
         inner = inner_of outer (C.pairs m);
         is_triangle = is_triangular kind;
         two_port_broad_approach = is_broad kind;
@@ -107,5 +112,5 @@ module _ (C : Context) where
   unfolding single_fits star_fits proposal_of
   approach_mouth m a None = None
   approach_mouth m a (Some (approach.Single outer r)) =
-      only_if (single_fits m a outer r) (proposal_of m a outer (cond ((broad_mouth C m a || overlay_only C m a) && eqb (incident_count C r) 2) broad plain))
-  approach_mouth m a (Some (approach.Star outer r)) = only_if (star_fits m a outer r) (proposal_of m a outer (cond (broad_mouth C m a) broad plain))
+      only_if (single_fits m a outer r) (proposal_of m a (Some outer) (cond ((broad_mouth C m a || overlay_only C m a) && eqb (incident_count C r) 2) broad plain))
+  approach_mouth m a (Some (approach.Star outer r)) = only_if (star_fits m a outer r) (proposal_of m a (Some outer) (cond (broad_mouth C m a) broad plain))

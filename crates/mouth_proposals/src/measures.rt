@@ -18,6 +18,13 @@ const MAX_MOUTH_DISTANCE: f64 = 224.0;
 
 const MAX_OVERLAY_WIDTH_RATIO: f64 = 1.5;
 
+// What is measured of a mouth and a ramp: whether the mouth is broad, and whether it is an overlay only.
+#[derive(Clone, Copy)]
+pub struct Measures {
+    pub wide: bool,
+    pub overlay: bool,
+}
+
 fn width_of(boundaries: &[u64], i: usize) -> f64
     requires { Placed boundaries.now i }
     ensures { result ≡ of_bits binary64 (get_or boundaries.now (numbers_per_boundary * i + 4) 0) }

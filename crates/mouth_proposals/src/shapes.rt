@@ -1,5 +1,5 @@
 // The shape of a mouth, from its rows: `star` and `triangle_representative`.
-ghost use Rattle.std.specs.Prelude.{◌≡◌, true, [], ◌∷◌, ◌+◌, ◌*◌, ◌≤◌, ◌<◌, length, eqb};
+ghost use Rattle.std.specs.Prelude.{◌≡◌, true, cond, [], ◌∷◌, ◌+◌, ◌*◌, ◌≤◌, length, eqb, None, Some};
 ghost use Rattle.definitions.specs.Limits.{numbers_per_pair};
 ghost use Rattle.definitions.specs.Scan.{any, all, filter, only_if};
 ghost use Rattle.definitions.specs.Grid.{contains, pair_eq};
@@ -8,6 +8,7 @@ ghost use Rattle.context.specs.Shown.{pair_at, pairs_between};
 ghost use Rattle.context.specs.Rows.{Stretch, pair_form};
 ghost use Rattle.mouth_proposals.specs.Rows.{rows_of, shape_form};
 
+use context::PartitionContext;
 use context::pairs::{Pair, row_at};
 
 // MouthShape of ramp_boundaries.rs: of one pair, or a star about an outer region; `shape_form` of specs/Rows.antt gives the inner ones.
@@ -15,6 +16,17 @@ use context::pairs::{Pair, row_at};
 pub enum Shape {
     Single(Pair),
     Star(u32),
+}
+
+// The region of p whose answer is true, where just one is.
+pub fn region_of(p: Pair, lo: bool, hi: bool) -> Option<u32>
+    ensures { result ≡ cond lo (cond hi None (Some p.lo)) (cond hi (Some p.hi) None) }
+{
+    match (lo, hi) {
+        (true, false) => Some(p.lo),
+        (false, true) => Some(p.hi),
+        _ => None,
+    }
 }
 
 // Whether every row from `first` on, before `end`, names region r.
@@ -33,30 +45,25 @@ fn star_of(pairs: &[u32], first: usize, end: usize) -> Option<Shape>
     let p = row_at(pairs, first);
     let lo = in_all(pairs, first, end, p.lo);
     let hi = in_all(pairs, first, end, p.hi);
-    if lo {
-        if hi {
-            return None;
-        }
-        return Some(Shape::Star(p.lo));
-    }
-    if hi { Some(Shape::Star(p.hi)) } else { None }
+    let outer = region_of(p, lo, hi)?;
+    Some(Shape::Star(outer))
 }
 
 // The shape of mouth m, which is a full cut.
-pub fn star(pairs: &[u32], starts: &[usize; 257], m: usize) -> Option<Shape>
-    requires { Stretch pairs.now starts.now m }
-    ensures { shape_form (rows_of pairs.now starts.now m) result
-        ≡ mouth_shape true (rows_of pairs.now starts.now m) }
+pub fn star(context: PartitionContext, m: usize) -> Option<Shape>
+    requires { Stretch context.pairs.now context.starts.now m }
+    ensures { shape_form (rows_of context.entry.pairs.now context.entry.starts.now m) result
+        ≡ mouth_shape true (rows_of context.entry.pairs.now context.entry.starts.now m) }
 {
-    let first = starts[m];
-    let end = starts[m + 1];
+    let first = context.starts[m];
+    let end = context.starts[m + 1];
     if end - first == 0 {
         return None;
     }
     if end - first == 1 {
-        return Some(Shape::Single(row_at(pairs, first)));
+        return Some(Shape::Single(row_at(context.pairs, first)));
     }
-    star_of(pairs, first, end)
+    star_of(context.pairs, first, end)
 }
 
 // Whether two rows have three regions.
@@ -96,11 +103,13 @@ fn is_triangle(p: Pair, q: Pair, s: Pair, t: Pair) -> bool
 }
 
 // Whether mouth m and ramp a, both full cuts, form a triangle; its regions are those of the mouth's rows.
-pub fn triangle_representative(pairs: &[u32], starts: &[usize; 257], m: usize, a: usize) -> bool
-    requires { Stretch pairs.now starts.now m × Stretch pairs.now starts.now a }
-    ensures { triangle_representative (rows_of pairs.now starts.now m)
-        (rows_of pairs.now starts.now a) ≡ only_if result (distinct_regions (rows_of pairs.now starts.now m)) }
+pub fn triangle_representative(context: PartitionContext, m: usize, a: usize) -> bool
+    requires { Stretch context.pairs.now context.starts.now m × Stretch context.pairs.now context.starts.now a }
+    ensures { triangle_representative (rows_of context.entry.pairs.now context.entry.starts.now m)
+        (rows_of context.entry.pairs.now context.entry.starts.now a)
+        ≡ only_if result (distinct_regions (rows_of context.entry.pairs.now context.entry.starts.now m)) }
 {
+    let starts = context.starts;
     let mouth = starts[m];
     let ramp = starts[a];
     if starts[m + 1] - mouth != 2 {
@@ -110,9 +119,9 @@ pub fn triangle_representative(pairs: &[u32], starts: &[usize; 257], m: usize, a
         return false;
     }
     is_triangle(
-        row_at(pairs, mouth),
-        row_at(pairs, mouth + 1),
-        row_at(pairs, ramp),
-        row_at(pairs, ramp + 1),
+        row_at(context.pairs, mouth),
+        row_at(context.pairs, mouth + 1),
+        row_at(context.pairs, ramp),
+        row_at(context.pairs, ramp + 1),
     )
 }

@@ -13,7 +13,7 @@ returns-then-kind_at-eq0 c =
     record {
       bound = omega arith;
       still_roomy = c.requires.roomy;
-      filled = λ C S T. filled-empty (mouth_candidate C c.args.a) c.args.count (λ m. no_ramp_none C c.args.a m (kind-shown S.bounds c.args.a (below S.counted c.requires.place) ∙ ap (λ k. eqb k 0) (sym c.kind_at.ensures) ∙ eq-eqb _ 0 c.if-kind_at-eq0.true));
+      filled = λ C S T. filled-empty (mouth_candidate C c.args.a) c.args.context.count (λ m. no_ramp_none C c.args.a m (kind-shown S.bounds c.args.a (below S.counted c.requires.place) ∙ ap (λ k. eqb k 0) (sym c.kind_at.ensures) ∙ eq-eqb _ 0 c.if-kind_at-eq0.true));
     }
 
 pub full_cut-requires : goal.full_cut-requires
@@ -25,7 +25,7 @@ returns-then-not-full_cut c =
     record {
       bound = omega arith;
       still_roomy = c.requires.roomy;
-      filled = λ C S T. filled-empty (mouth_candidate C c.args.a) c.args.count (λ m. no_cut_none C c.args.a m (sym (c.full_cut.ensures C T (below S.counted c.requires.place)) ∙ not-true _ c.if-not-full_cut.true-raw));
+      filled = λ C S T. filled-empty (mouth_candidate C c.args.a) c.args.context.count (λ m. no_cut_none C c.args.a m (sym (c.full_cut.ensures C T (below S.counted c.requires.place)) ∙ not-true _ c.if-not-full_cut.true-raw));
     }
 
 pub find_other_ends-ends-requires : goal.find_other_ends-ends-requires

@@ -9,8 +9,8 @@ use Rattle.mouth_proposals.proofs.mouths.approach_mouth.Goals as goal
 pub single_mouth-requires : goal.single_mouth-requires
 single_mouth-requires c =
     let k = c.in_ok-outer.was ∙ ap Some c.in-Single.is in
-    let n = subst (Within (length c.args.counts.now)) k c.requires.approach_within.0 in
-    let t = subst (Within (length c.args.marks.now)) k c.requires.approach_within.1 in
+    let n = subst (Within (length c.args.regions.counts.now)) k c.requires.approach_within.0 in
+    let t = subst (Within (length c.args.regions.marks.now)) k c.requires.approach_within.1 in
     record {
       outer_named = t.0;
       r_named = (t.1.0, (t.1.1, n.1.1));
@@ -18,7 +18,7 @@ single_mouth-requires c =
 
 pub star_mouth-requires : goal.star_mouth-requires
 star_mouth-requires c =
-    let n = subst (Within (length c.args.counts.now)) (c.in_ok-outer.was ∙ ap Some c.in-Star.is) c.requires.approach_within.0 in
+    let n = subst (Within (length c.args.regions.counts.now)) (c.in_ok-outer.was ∙ ap Some c.in-Star.is) c.requires.approach_within.0 in
     record {
       stretch = c.requires.stretch;
       named_rows = c.requires.named_rows;
@@ -37,11 +37,11 @@ returns-in-Single c =
     let k = c.in_ok-outer.was ∙ ap Some c.in-Single.is in
     λ C a P I A l n e w o.
     let h = subst (Within C.regions) k n in
-    c.single_mouth.ensures C s.m a I A (h.0.1, h.1.1) (c.other_end_at-blocked.ensures ∙ subst (EndKnown C a s.ends) k e) w o ∙ ap (approach_mouth C s.m a) (sym k)
+    c.single_mouth.ensures C s.m a I A (h.0.1, h.1.1) (c.other_end_at.ensures ∙ subst (EndKnown C a s.ends) k e) w o ∙ ap (approach_mouth C s.m a) (sym k)
 
 pub returns-in-Star : goal.returns-in-Star
 returns-in-Star c =
     let s = c.args in
     let k = c.in_ok-outer.was ∙ ap Some c.in-Star.is in
     λ C a P I A l n e w o.
-    c.star_mouth.ensures C a P I A l (subst (Within C.regions) k n).1.1 (c.other_end_at-blocked-in-Star.ensures ∙ subst (EndKnown C a s.ends) k e) w o ∙ ap (approach_mouth C s.m a) (sym k)
+    c.star_mouth.ensures C a P I A l (subst (Within C.regions) k n).1.1 (c.other_end_at-in-Star.ensures ∙ subst (EndKnown C a s.ends) k e) w o ∙ ap (approach_mouth C s.m a) (sym k)

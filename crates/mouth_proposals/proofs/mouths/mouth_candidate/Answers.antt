@@ -21,7 +21,7 @@ pub returns-then-kind_at-ne0 : goal.returns-then-kind_at-ne0
 returns-then-kind_at-ne0 c =
     λ C S T ramp cut E.
     let m = c.args.m in
-    let a = c.args.a in
+    let a = c.args.ramp.boundary in
     let lm = below S.counted c.requires.places.0 in
     let la = below S.counted c.requires.places.1 in
     has_ramp_lem C a m ramp cut (kind-shown S.bounds m lm ∙ ap (λ k. eqb k 0) (sym c.kind_at.ensures) ∙ ne_eqb _ 0 c.if-kind_at-ne0.true)
@@ -34,7 +34,7 @@ pub returns-then-not-full_cut : goal.returns-then-not-full_cut
 returns-then-not-full_cut c =
     λ C S T ramp cut E.
     let m = c.args.m in
-    let a = c.args.a in
+    let a = c.args.ramp.boundary in
     let lm = below S.counted c.requires.places.0 in
     let la = below S.counted c.requires.places.1 in
     not_full C a m ramp cut (kind-shown S.bounds m lm ∙ ap (λ k. eqb k 0) (sym c.kind_at.ensures) ∙ eq-eqb _ 0 c.if-kind_at-ne0.false) (sym (c.full_cut.ensures C T lm) ∙ not-true _ c.if-not-full_cut.true-raw)
@@ -54,7 +54,7 @@ pub returns-then-triangle-is_none : goal.returns-then-triangle-is_none
 returns-then-triangle-is_none c =
     λ C S T ramp cut E.
     let m = c.args.m in
-    let a = c.args.a in
+    let a = c.args.ramp.boundary in
     let lm = below S.counted c.requires.places.0 in
     let la = below S.counted c.requires.places.1 in
     let h = both (not c.triangle_representative-triangle.result) c.is_none.result c.if-triangle-is_none.true in
@@ -77,7 +77,7 @@ pub returns-then-not-wide-nearby : goal.returns-then-not-wide-nearby
 returns-then-not-wide-nearby c =
     λ C S T ramp cut E.
     let m = c.args.m in
-    let a = c.args.a in
+    let a = c.args.ramp.boundary in
     let lm = below S.counted c.requires.places.0 in
     let la = below S.counted c.requires.places.1 in
     too_far C a m ramp cut (kind-shown S.bounds m lm ∙ ap (λ k. eqb k 0) (sym c.kind_at.ensures) ∙ eq-eqb _ 0 c.if-kind_at-ne0.false) (sym (c.full_cut.ensures C T lm) ∙ not-false _ c.if-not-full_cut.false-raw) (S.rows.named m lm) c.triangle_representative-triangle.result
@@ -90,7 +90,7 @@ triangle_mouth-requires c =
     let h = both c.nearby_representative-nearby.result c.triangle_representative-triangle.result c.if-nearby-triangle.true in record {
       places = (
         (stretch_at c.requires.shown c.requires.places.0).within,
-        sym (between-length c.args.pairs.now _ _)
+        sym (between-length c.args.context.pairs.now _ _)
             ∙ triangle_two _ _ _ _ c.triangle_representative-triangle.ensures h.1,
       );
       named_rows = λ k l u. (named-both c.requires.shown c.requires.places.0 k l u).1;
@@ -100,7 +100,7 @@ pub returns-then-nearby-triangle : goal.returns-then-nearby-triangle
 returns-then-nearby-triangle c =
     λ C S T ramp cut E.
     let m = c.args.m in
-    let a = c.args.a in
+    let a = c.args.ramp.boundary in
     let lm = below S.counted c.requires.places.0 in
     let la = below S.counted c.requires.places.1 in
     c.triangle_mouth.ensures C a S.rows S.anchored lm
@@ -114,7 +114,7 @@ approach_mouth-requires c =
     record {
       stretch = stretch_at c.requires.shown c.requires.places.0;
       named_rows = named-both c.requires.shown c.requires.places.0;
-      approach_within = named_in c.requires.shown c.requires.places.0 (full_pair c.requires.shown.context c.args.a)
+      approach_within = named_in c.requires.shown c.requires.places.0 (full_pair c.requires.shown.context c.args.ramp.boundary)
           (c.approach_of-approach.ensures c.requires.shown.context c.requires.shown.cuts c.requires.shown.shows.rows (below c.requires.shown.shows.counted c.requires.places.0) (below c.requires.shown.shows.counted c.requires.places.1));
     }
 
@@ -122,11 +122,11 @@ pub returns : goal.returns
 returns c =
     λ C S T ramp cut E.
     let m = c.args.m in
-    let a = c.args.a in
+    let a = c.args.ramp.boundary in
     let lm = below S.counted c.requires.places.0 in
     let la = below S.counted c.requires.places.1 in
     let k = c.approach_of-approach.ensures C T S.rows lm la in
-    c.approach_mouth.ensures C a S.rows S.incidents S.anchored lm (approach_named S.rows m lm (full_pair C a) k) (approach_known C a c.args.ends E (mouth_shape true (C.pairs m)) k)
+    c.approach_mouth.ensures C a S.rows S.incidents S.anchored lm (approach_named S.rows m lm (full_pair C a) k) (approach_known C a c.args.ramp.ends E (mouth_shape true (C.pairs m)) k)
     (c.broad_mouth-wide.ensures C S.bounds lm la)
     (overlay_only_lem C m a (c.broad_mouth-wide.ensures C S.bounds lm la) (c.nearby_representative-nearby.ensures C S.bounds lm la) (c.overlay_representative-overlay.ensures C S.bounds lm la))
     ∙ by_approach C a m ramp cut (kind-shown S.bounds m lm ∙ ap (λ k. eqb k 0) (sym c.kind_at.ensures) ∙ eq-eqb _ 0 c.if-kind_at-ne0.false) (sym (c.full_cut.ensures C T lm) ∙ not-false _ c.if-not-full_cut.false-raw) (S.rows.named m lm) c.triangle_representative-triangle.result

@@ -2,17 +2,19 @@
 use native.Mathlib.Omega.{arith}
 use mathlib.Core.Path.{refl, sym, ap, ◌∙◌}
 use borrow.Author.Tests.{eq-eqb, ne_eqb, not-true, not-false}
+use Rattle.std.specs.Prelude.{Some}
 use Rattle.definitions.specs.Scan.{all}
 use Rattle.definitions.specs.MouthShapes.{regions_of}
 use Rattle.mouth_proposals.specs.Outers.{inner_fits}
+use Rattle.mouth_proposals.specs.Candidates.{proposal_of}
 use Rattle.mouth_proposals.proofs.Fitting.{star_by, two_shown, fits-shown}
 use Rattle.mouth_proposals.proofs.mouths.star_mouth.Goals as goal
 
-pub returns-then-overlay : goal.returns-then-overlay
-returns-then-overlay c =
+pub returns-then-measures : goal.returns-then-measures
+returns-then-measures c =
     λ C a P I A l n b w o.
     star_by C c.args.m a c.args.outer c.args.r
-    (sym o ∙ c.if-overlay.true)
+    (sym o ∙ c.if-measures.true)
     (refl)
     (refl)
     (refl)
@@ -22,19 +24,11 @@ pub returns-then-incident_count-ne2 : goal.returns-then-incident_count-ne2
 returns-then-incident_count-ne2 c =
     λ C a P I A l n b w o.
     star_by C c.args.m a c.args.outer c.args.r
-    (sym o ∙ c.if-overlay.false)
+    (sym o ∙ c.if-measures.false)
     (two_shown A I c.args.r c.requires.r_named.0 n c.incident_count.ensures ∙ ne_eqb _ 2 c.if-incident_count-ne2.true)
     (refl)
     (refl)
     (refl)
-
-pub bounds-starts-m : goal.bounds-starts-m
-bounds-starts-m c =
-    omega (arith, c.requires.stretch.within)
-
-pub bounds-starts-m-2 : goal.bounds-starts-m-2
-bounds-starts-m-2 c =
-    omega (arith, c.requires.stretch.within)
 
 pub inner_fit-requires : goal.inner_fit-requires
 inner_fit-requires c =
@@ -47,10 +41,10 @@ pub returns-then-not-inner_fit : goal.returns-then-not-inner_fit
 returns-then-not-inner_fit c =
     λ C a P I A l n b w o.
     star_by C c.args.m a c.args.outer c.args.r
-    (sym o ∙ c.if-overlay.false)
+    (sym o ∙ c.if-measures.false)
     (two_shown A I c.args.r c.requires.r_named.0 n c.incident_count.ensures ∙ eq-eqb _ 2 c.if-incident_count-ne2.false)
     (fits-shown A I c.args.m c.args.outer c.args.r (P.named c.args.m l)
-    ∙ ap (λ l. all (inner_fits c.args.marks.now c.args.counts.now c.args.outer c.args.r) (regions_of l)) (P.at c.args.m l)
+    ∙ ap (λ l. all (inner_fits c.args.regions.marks.now c.args.regions.counts.now c.args.outer c.args.r) (regions_of l)) (P.at c.args.m l)
     ∙ sym c.inner_fit.ensures ∙ not-true _ c.if-not-inner_fit.true-raw)
     (refl)
     (refl)
@@ -59,34 +53,23 @@ pub returns-then-blocked : goal.returns-then-blocked
 returns-then-blocked c =
     λ C a P I A l n b w o.
     star_by C c.args.m a c.args.outer c.args.r
-    (sym o ∙ c.if-overlay.false)
+    (sym o ∙ c.if-measures.false)
     (two_shown A I c.args.r c.requires.r_named.0 n c.incident_count.ensures ∙ eq-eqb _ 2 c.if-incident_count-ne2.false)
     (fits-shown A I c.args.m c.args.outer c.args.r (P.named c.args.m l)
-    ∙ ap (λ l. all (inner_fits c.args.marks.now c.args.counts.now c.args.outer c.args.r) (regions_of l)) (P.at c.args.m l)
+    ∙ ap (λ l. all (inner_fits c.args.regions.marks.now c.args.regions.counts.now c.args.outer c.args.r) (regions_of l)) (P.at c.args.m l)
     ∙ sym c.inner_fit.ensures ∙ not-false _ c.if-not-inner_fit.false-raw)
     (sym b ∙ c.if-blocked.true)
     (refl)
 
-pub returns-then-wide : goal.returns-then-wide
-returns-then-wide c =
+pub returns : goal.returns
+returns c =
     λ C a P I A l n b w o.
-    star_by C c.args.m a c.args.outer c.args.r
-    (sym o ∙ c.if-overlay.false)
+    ap (λ k. Some (proposal_of C c.args.m a (Some c.args.outer) k)) c.of_approach.ensures
+    ∙ star_by C c.args.m a c.args.outer c.args.r
+    (sym o ∙ c.if-measures.false)
     (two_shown A I c.args.r c.requires.r_named.0 n c.incident_count.ensures ∙ eq-eqb _ 2 c.if-incident_count-ne2.false)
     (fits-shown A I c.args.m c.args.outer c.args.r (P.named c.args.m l)
-    ∙ ap (λ l. all (inner_fits c.args.marks.now c.args.counts.now c.args.outer c.args.r) (regions_of l)) (P.at c.args.m l)
+    ∙ ap (λ l. all (inner_fits c.args.regions.marks.now c.args.regions.counts.now c.args.outer c.args.r) (regions_of l)) (P.at c.args.m l)
     ∙ sym c.inner_fit.ensures ∙ not-false _ c.if-not-inner_fit.false-raw)
     (sym b ∙ c.if-blocked.false)
-    (sym w ∙ c.if-wide.true)
-
-pub returns-else-wide : goal.returns-else-wide
-returns-else-wide c =
-    λ C a P I A l n b w o.
-    star_by C c.args.m a c.args.outer c.args.r
-    (sym o ∙ c.if-overlay.false)
-    (two_shown A I c.args.r c.requires.r_named.0 n c.incident_count.ensures ∙ eq-eqb _ 2 c.if-incident_count-ne2.false)
-    (fits-shown A I c.args.m c.args.outer c.args.r (P.named c.args.m l)
-    ∙ ap (λ l. all (inner_fits c.args.marks.now c.args.counts.now c.args.outer c.args.r) (regions_of l)) (P.at c.args.m l)
-    ∙ sym c.inner_fit.ensures ∙ not-false _ c.if-not-inner_fit.false-raw)
-    (sym b ∙ c.if-blocked.false)
-    (sym w ∙ c.if-wide.false)
+    (sym w)
