@@ -105,20 +105,11 @@ fn rows_split(names: &[u32], pairs: &[u32], first: usize, end: usize, r: u32) ->
         Inside C r rs names.now →
         result ≡ all (λ p. eqb (inside_count rs p) 1) (pairs_between pairs.now first end) }
 {
-    for k in first..end {
+    (first..end).all(|k| {
         let a = parent_of(names, smaller_at(pairs, k)) == r;
         let b = parent_of(names, larger_at(pairs, k)) == r;
-        if (a & b) | (!a & !b) {
-            return false;
-        }
-    }
-    true
-}
-
-fn choose(b: bool, x: u32, y: u32) -> u32
-    ensures { result ≡ cond b x y }
-{
-    if b { x } else { y }
+        a != b
+    })
 }
 
 // A row with no region named r names one exterior and one leaf, which gets the name. Whether it does.
@@ -137,10 +128,10 @@ fn expand_row(names: &mut [u32], marks: &[u16], lo: u32, hi: u32, r: u32) -> boo
     }
     let a = is_exterior(marks, lo);
     let b = is_exterior(marks, hi);
-    if (a & b) | (!a & !b) {
+    if a == b {
         return false;
     }
-    let leaf = choose(a, hi, lo);
+    let leaf = if a { hi } else { lo };
     if !is_leaf(marks, leaf) {
         return false;
     }

@@ -2,7 +2,7 @@
 use Prim.Native.Nat.{ℕ}
 use native.Mathlib.Omega.{arith}
 use mathlib.Core.Path.{◌≡◌, refl, sym, ap, ◌∙◌, subst}
-use mathlib.Core.Bool.{Bool, true, false, ◌||◌, cond, false≢true}
+use mathlib.Core.Bool.{Bool, true, false, ◌||◌, cond}
 use Rattle.std.specs.Prelude.{Option, None, Some}
 use mathlib.Core.List.{List, [], ◌∷◌}
 use lib.Dec.{eqb}
@@ -21,10 +21,6 @@ use Rattle.mouth_proposals.specs.declared.approaches.Approach.{Approach}
 use Rattle.mouth_proposals.specs.declared.ends.OtherEnds.{OtherEnds}
 
 module _ (C : Context) (a : ℕ) where
-  -- without a full pair no region is asked for
-  pub none_asked : None ≡ full_pair C a → EndsOf C a None
-  none_asked e = record { at = λ r h. absurd (false≢true (ap (λ o. holds o (contains r)) e ∙ h)) }
-
   pub both_found : (q : Pair) {x y : Bool} → Some q ≡ full_pair C a → x ≡ other_end_incident C a q.lo → y ≡ other_end_incident C a q.hi → EndsOf C a (Some (record { lo = q.lo; at_lo = x; at_hi = y }))
   both_found q {x} {y} e f g = record { at = λ r h. go r (eqb q.lo r) refl (ap (λ o. holds o (contains r)) e ∙ h) }
     where

@@ -1,20 +1,19 @@
 -- What is found of a mouth and a ramp is made of the regions of the mouth's pairs, by `proposal_of` or as a triangle; the region outside is a region of the map. Assumes
 -- nothing.
 use Rattle.mouth_proposals.specs.declared.mouths.MouthKind.{MouthKind}
-use Prim.Native.Nat.{ℕ, ◌≤◌, zero-le}
+use Prim.Native.Nat.{ℕ, ◌≤◌}
 use mathlib.Core.Path.{◌≡◌, refl, sym, ap, subst}
 use mathlib.Core.Bool.{Bool, true, false, not, ◌&&◌, ◌||◌, cond}
 use Rattle.std.specs.Prelude.{Option, None, Some}
 use mathlib.Core.List.{List, [], ◌∷◌}
 use lib.ListN.{length}
 use lib.Dec.{eqb, leb}
-use borrow.Author.Tests.{eqb-true}
 use Rattle.definitions.specs.Scan.{to_list, any, all, filter, only_if}
 use Rattle.definitions.specs.Grid.{Pair, contains, pair_eq}
 use Rattle.definitions.specs.MouthShapes.{distinct_regions, mouth_shape, triangle_representative}
 use Rattle.definitions.specs.Context.{Context, full_cut, full_pair, incident_count, no_ramp}
 use Rattle.definitions.specs.RampMouths.{MouthProposal, broad_mouth, nearby_representative, overlay_representative, overlay_only, separation_of, shaped_mouth, triangle_mouth, triangle, triangle_or}
-use Rattle.laws.specs.ListLaws.Lists.{All, done, more, all_map, all_filter}
+use Rattle.laws.specs.ListLaws.Lists.{All, done, more, all_filter}
 use Rattle.laws.specs.ListLaws.Options.{OnO, absent, present, on_only, on_cond}
 use Rattle.laws.specs.ListLaws.NumberLists.{all-add_all}
 use Rattle.mouth_proposals.specs.Candidates.{Within, approach_of, Numbered, broad, plain, single_fits, star_fits, proposal_of, approach_mouth, found_mouth}

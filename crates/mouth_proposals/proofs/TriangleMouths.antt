@@ -1,5 +1,5 @@
 -- The proposal of a triangle, by how many of its regions are anchored. Assumes nothing.
-use Prim.Native.Nat.{ℕ, suc, ◌≤◌}
+use Prim.Native.Nat.{ℕ, suc}
 use native.Mathlib.Omega.{arith}
 use mathlib.Core.Path.{◌≡◌, refl, sym, ap, ◌∙◌, subst}
 use mathlib.Core.Bool.{Bool, true, false, not, ◌||◌, cond, or-false, true≢false}
@@ -13,7 +13,7 @@ use Rattle.definitions.specs.Grid.{Pair}
 use Rattle.definitions.specs.MouthShapes.{regions_of, distinct_regions}
 use Rattle.definitions.specs.Context.{Context}
 use Rattle.definitions.specs.RampMouths.{MouthProposal, separation_of, triangle_mouth}
-use Rattle.laws.specs.ListLaws.Lists.{All, done, more, all_map, all_both, all_filter}
+use Rattle.laws.specs.ListLaws.Lists.{All, done, more, all_map}
 use Rattle.laws.specs.ListLaws.Members.{filter_passes}
 use Rattle.laws.specs.ListLaws.ListsAsSets.{filter-add_all}
 use Rattle.laws.specs.ListLaws.Scans.{filter_ext}

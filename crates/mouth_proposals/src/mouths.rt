@@ -109,17 +109,10 @@ fn single_mouth(
         measures.overlay ≡ overlay_only C m a →
         candidate_form C m a result ≡ approach_mouth C m a (Some (Approach.Single outer r)) }
 {
-    if regions.is_anchored(r) {
-        return None;
-    }
     let two = regions.incident_count(r) == 2;
-    if measures.overlay & (regions.is_anchored(outer) | !two) {
-        return None;
-    }
-    if blocked {
-        return None;
-    }
-    Some(Mouth {
+    let kept_out = measures.overlay & (regions.is_anchored(outer) | !two);
+    let fits = !regions.is_anchored(r) & (!kept_out & !blocked);
+    fits.then_some(Mouth {
         outer: Some(outer),
         kind: MouthKind::of_approach((measures.wide | measures.overlay) & two),
     })
@@ -152,21 +145,12 @@ fn star_mouth(
         measures.overlay ≡ overlay_only C m a →
         candidate_form C m a result ≡ approach_mouth C m a (Some (Approach.Star outer r)) }
 {
-    if measures.overlay {
-        return None;
-    }
-    if regions.incident_count(r) != 2 {
+    if measures.overlay | (regions.incident_count(r) != 2) | blocked {
         return None;
     }
     let first = context.starts[m];
     let end = context.starts[m + 1];
-    if !inner_fit(context.pairs, regions, first, end, outer, r) {
-        return None;
-    }
-    if blocked {
-        return None;
-    }
-    Some(Mouth {
+    inner_fit(context.pairs, regions, first, end, outer, r).then_some(Mouth {
         outer: Some(outer),
         kind: MouthKind::of_approach(measures.wide),
     })

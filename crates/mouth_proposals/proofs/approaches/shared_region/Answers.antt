@@ -1,6 +1,6 @@
 -- `approaches::shared_region` meets its contract: which of the two regions the mouth's rows name. Assumes nothing.
-use mathlib.Core.Path.{sym, ap, ◌∙◌}
-use mathlib.Core.Bool.{not, ◌&&◌}
+use mathlib.Core.Path.{sym, ◌∙◌}
+use mathlib.Core.Bool.{◌&&◌}
 use Rattle.context.specs.Rows.{pair_form}
 use Rattle.mouth_proposals.proofs.ApproachLaws.{shared_is}
 use Rattle.mouth_proposals.proofs.approaches.shared_region.Goals as goal

@@ -6,29 +6,16 @@ use lib.Ieee.{binary64, lt, to_bits}
 use Rattle.definitions.specs.RampMouths.{max_mouth_distance}
 use Rattle.mouth_proposals.specs.Candidates.{candidate_form}
 use Rattle.mouth_proposals.specs.Listed.{candidate}
-use Rattle.mouth_proposals.proofs.SafeLists.{below, placed_at}
+use Rattle.mouth_proposals.proofs.SafeLists.{below}
 use Rattle.mouth_proposals.proofs.OuterWithin.{outer-inside}
 use Rattle.mouth_proposals.proofs.CandidateLaws.{separation-number, roomy-put, none_found, far-found, near-found, filled_none, filled_more}
 use Rattle.mouth_proposals.proofs.candidates.push_mouth.Goals as goal
-
-pub separation_of-separation-requires : goal.separation_of-separation-requires
-separation_of-separation-requires c =
-    (placed_at c.requires.shown c.requires.places.1.0, placed_at c.requires.shown c.requires.places.1.1)
 
 pub bits_of-requires : goal.bits_of-requires
 bits_of-requires c =
     let L = c.requires.shown in
     separation-number L.context c.args.m c.args.ramp.boundary
     (c.separation_of-separation.ensures L.context L.shows.bounds (below L.shows.counted c.requires.places.1.0) (below L.shows.counted c.requires.places.1.1))
-
-pub of-requires : goal.of-requires
-of-requires c =
-    let L = c.requires.shown in
-    (omega (arith, c.requires.places.1.0, L.shows.counted, L.shows.bounds.few), omega (arith, c.requires.places.1.1, L.shows.counted, L.shows.bounds.few))
-
-pub overflow_add-result : goal.overflow_add-result
-overflow_add-result c =
-    omega (arith, c.requires.places.0)
 
 pub returns-in-None : goal.returns-in-None
 returns-in-None c =

@@ -13,15 +13,6 @@ pub loop-m-init : goal.loop-m-init
 loop-m-init c =
     (search rules, (omega arith, (c.requires.roomy, λ C S T ramp cut E. filled-start (mouth_candidate C c.args.ramp.boundary))))
 
-pub push_mouth-n-requires : goal.push_mouth-n-requires
-push_mouth-n-requires c =
-    let at = c.loop-m in
-    record {
-      shown = c.requires.shown;
-      roomy = at.invariant.1.1.0;
-      places = (omega (arith, at.invariant.1.0, c.loop-m-test.true, c.requires.shown.shows.bounds.few, c.requires.shown.shows.counted), (c.loop-m-test.true, c.requires.place));
-    }
-
 pub loop-m-preserved : goal.loop-m-preserved
 loop-m-preserved c =
     let at = c.loop-m in (

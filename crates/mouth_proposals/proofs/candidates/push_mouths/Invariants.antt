@@ -1,5 +1,5 @@
 -- `candidates::push_mouths` meets its contract. The invariant: the entries are the candidates of the mouths passed, at most one a mouth. Assumes nothing.
-use Prim.Native.Nat.{◌-◌, ◌≤◌}
+use Prim.Native.Nat.{◌≤◌}
 use mathlib.Core.Path.{◌≡◌}
 use mathlib.Core.Bool.{true, false}
 use Rattle.definitions.specs.Scan.{collect}

@@ -1,29 +1,9 @@
 -- `mouths::approach_mouth` meets its contract, by the approach. Assumes nothing.
 use mathlib.Core.Path.{sym, ap, ◌∙◌, subst}
 use Rattle.std.specs.Prelude.{Some}
-use lib.ListN.{length}
 use Rattle.mouth_proposals.specs.Candidates.{Within, candidate_form, approach_mouth}
 use Rattle.mouth_proposals.specs.Ends.{EndKnown}
 use Rattle.mouth_proposals.proofs.mouths.approach_mouth.Goals as goal
-
-pub single_mouth-requires : goal.single_mouth-requires
-single_mouth-requires c =
-    let k = c.in_ok-outer.was ∙ ap Some c.in-Single.is in
-    let n = subst (Within (length c.args.regions.counts.now)) k c.requires.approach_within.0 in
-    let t = subst (Within (length c.args.regions.marks.now)) k c.requires.approach_within.1 in
-    record {
-      outer_named = t.0;
-      r_named = (t.1.0, (t.1.1, n.1.1));
-    }
-
-pub star_mouth-requires : goal.star_mouth-requires
-star_mouth-requires c =
-    let n = subst (Within (length c.args.regions.counts.now)) (c.in_ok-outer.was ∙ ap Some c.in-Star.is) c.requires.approach_within.0 in
-    record {
-      stretch = c.requires.stretch;
-      named_rows = c.requires.named_rows;
-      r_named = n.1;
-    }
 
 pub returns-in_err-outer : goal.returns-in_err-outer
 unfolding approach_mouth

@@ -8,7 +8,7 @@ use Rattle.definitions.specs.MouthShapes.{mouth_shape}
 use Rattle.definitions.specs.Context.{full_pair}
 use Rattle.laws.specs.ListLaws.Tests.{both}
 use Rattle.mouth_proposals.proofs.FoundMouths.{triangle_two, has_ramp_lem, not_full, no_shape, too_far, by_triangle, by_approach}
-use Rattle.mouth_proposals.proofs.SafeLists.{below, placed_at, stretch_at, tallies_at, named-both, kind-shown, triangle-shown, overlay_only_lem, named_in, approach_named}
+use Rattle.mouth_proposals.proofs.SafeLists.{below, stretch_at, tallies_at, named-both, kind-shown, triangle-shown, overlay_only_lem, named_in, approach_named}
 use Rattle.mouth_proposals.proofs.KnownEnds.{approach_known}
 use Rattle.context.proofs.FullPairs.{between-length}
 use Rattle.mouth_proposals.proofs.mouths.mouth_candidate.Goals as goal
@@ -25,10 +25,6 @@ returns-then-kind_at-ne0 c =
     let lm = below S.counted c.requires.places.0 in
     let la = below S.counted c.requires.places.1 in
     has_ramp_lem C a m ramp cut (kind-shown S.bounds m lm ∙ ap (λ k. eqb k 0) (sym c.kind_at.ensures) ∙ ne_eqb _ 0 c.if-kind_at-ne0.true)
-
-pub full_cut-requires : goal.full_cut-requires
-full_cut-requires c =
-    tallies_at c.requires.shown c.requires.places.0
 
 pub returns-then-not-full_cut : goal.returns-then-not-full_cut
 returns-then-not-full_cut c =
@@ -60,18 +56,6 @@ returns-then-triangle-is_none c =
     let h = both (not c.triangle_representative-triangle.result) c.is_none.result c.if-triangle-is_none.true in
     no_shape C a m ramp cut (kind-shown S.bounds m lm ∙ ap (λ k. eqb k 0) (sym c.kind_at.ensures) ∙ eq-eqb _ 0 c.if-kind_at-ne0.false) (sym (c.full_cut.ensures C T lm) ∙ not-false _ c.if-not-full_cut.false-raw) (S.rows.named m lm) c.triangle_representative-triangle.result
     (triangle-shown S.rows m a lm la c.triangle_representative-triangle.result c.triangle_representative-triangle.ensures) c.approach_of-approach.result (c.approach_of-approach.ensures C T S.rows lm la) (not-true _ h.0) (none_of _ (c.is_none.ensures ∙ ap not h.1))
-
-pub broad_mouth-wide-requires : goal.broad_mouth-wide-requires
-broad_mouth-wide-requires c =
-    (placed_at c.requires.shown c.requires.places.0, placed_at c.requires.shown c.requires.places.1)
-
-pub nearby_representative-nearby-requires : goal.nearby_representative-nearby-requires
-nearby_representative-nearby-requires c =
-    (placed_at c.requires.shown c.requires.places.0, placed_at c.requires.shown c.requires.places.1)
-
-pub overlay_representative-overlay-requires : goal.overlay_representative-overlay-requires
-overlay_representative-overlay-requires c =
-    (placed_at c.requires.shown c.requires.places.0, placed_at c.requires.shown c.requires.places.1)
 
 pub returns-then-not-wide-nearby : goal.returns-then-not-wide-nearby
 returns-then-not-wide-nearby c =
