@@ -13,19 +13,15 @@ returns-then-kind_at-eq0 c =
     record {
       bound = omega arith;
       still_roomy = c.requires.roomy;
-      filled = λ C S T. filled-empty (mouth_candidate C c.args.a) c.args.count (λ m. no_ramp_none C c.args.a m (kind-shown S.bounds c.args.a (below S.counted c.requires.place) ∙ ap (λ k. eqb k 0) (sym c.kind_at.ensures) ∙ eq-eqb _ 0 c.if-kind_at-eq0.true));
+      filled = λ C S T. filled-empty (mouth_candidate C c.args.a) c.args.context.count (λ m. no_ramp_none C c.args.a m (kind-shown S.bounds c.args.a (below S.counted c.requires.place) ∙ ap (λ k. eqb k 0) (sym c.kind_at.ensures) ∙ eq-eqb _ 0 c.if-kind_at-eq0.true));
     }
-
-pub full_cut-requires : goal.full_cut-requires
-full_cut-requires c =
-    tallies_at c.requires.shown c.requires.place
 
 pub returns-then-not-full_cut : goal.returns-then-not-full_cut
 returns-then-not-full_cut c =
     record {
       bound = omega arith;
       still_roomy = c.requires.roomy;
-      filled = λ C S T. filled-empty (mouth_candidate C c.args.a) c.args.count (λ m. no_cut_none C c.args.a m (sym (c.full_cut.ensures C T (below S.counted c.requires.place)) ∙ not-true _ c.if-not-full_cut.true-raw));
+      filled = λ C S T. filled-empty (mouth_candidate C c.args.a) c.args.context.count (λ m. no_cut_none C c.args.a m (sym (c.full_cut.ensures C T (below S.counted c.requires.place)) ∙ not-true _ c.if-not-full_cut.true-raw));
     }
 
 pub find_other_ends-ends-requires : goal.find_other_ends-ends-requires
@@ -34,14 +30,6 @@ find_other_ends-ends-requires c =
       sizes = (rows-counted c.requires.shown, c.requires.place);
       tallies_room = tallies_at c.requires.shown c.requires.place;
       stretches = λ i l. stretch_at c.requires.shown l;
-    }
-
-pub push_mouths-requires : goal.push_mouths-requires
-push_mouths-requires c =
-    record {
-      shown = c.requires.shown;
-      roomy = c.requires.roomy;
-      place = c.requires.place;
     }
 
 pub returns : goal.returns
