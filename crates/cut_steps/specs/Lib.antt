@@ -6,3 +6,6 @@ pub mod Extents
 pub mod Columns
 pub mod Crossed
 pub mod Marking
+pub mod Visits
+pub mod Walks
+pub mod MarkVisits
