@@ -9,3 +9,4 @@ pub mod Marking
 pub mod Visits
 pub mod Walks
 pub mod MarkVisits
+pub mod Among
