@@ -26,6 +26,13 @@ const ENDS_AFTER: u64 = 11;
 
 const BEGINS_BEFORE: u64 = 4;
 
+// The first number where the test holds, else the second.
+fn pick(test: bool, first: usize, second: usize) -> usize
+    ensures { result ≡ cond test first second }
+{
+    if test { first } else { second }
+}
+
 // A span on a grid, and its strip.
 #[derive(Clone, Copy)]
 pub struct SpanWalk<'a> {
@@ -40,10 +47,10 @@ impl SpanWalk<'_> {
         ensures x { result.x ≡ cond self.now.strip.columns k m }
         ensures y { result.y ≡ cond self.now.strip.columns m k }
     {
-        if self.strip.columns {
-            WalkPosition { x: k, y: m }
-        } else {
-            WalkPosition { x: m, y: k }
+        let columns = self.strip.columns;
+        WalkPosition {
+            x: pick(columns, k, m),
+            y: pick(columns, m, k),
         }
     }
 
@@ -51,22 +58,14 @@ impl SpanWalk<'_> {
     fn length(&self) -> usize
         ensures { result ≡ major_side self.now.strip self.now.grid.width self.now.grid.height }
     {
-        if self.strip.columns {
-            self.grid.width
-        } else {
-            self.grid.height
-        }
+        pick(self.strip.columns, self.grid.width, self.grid.height)
     }
 
     // How many cells each of them has.
     fn breadth(&self) -> usize
         ensures { result ≡ minor_side self.now.strip self.now.grid.width self.now.grid.height }
     {
-        if self.strip.columns {
-            self.grid.height
-        } else {
-            self.grid.width
-        }
+        pick(self.strip.columns, self.grid.height, self.grid.width)
     }
 }
 
