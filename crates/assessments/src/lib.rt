@@ -114,11 +114,11 @@ impl StepVisitor for Assessing<'_> {
     ghost visited = { AssessVisited };
 
     // Which of the changes of sides are of steps, the masks say.
-    fn crossed_directions(&self, walk: &SpanWalk, cell: WalkPosition, changes: u16) -> u16 {
+    fn crossed_directions(&self, walk: SpanWalk, cell: WalkPosition, changes: u16) -> u16 {
         changes & self.masks[cell.y * walk.grid.width + cell.x]
     }
 
-    fn visit(&mut self, walk: &SpanWalk, cell: WalkPosition, directions: u16) {
+    fn visit(&mut self, walk: SpanWalk, cell: WalkPosition, directions: u16) {
         if directions == 0 {
             return;
         }

@@ -35,12 +35,12 @@ impl StepVisitor for Marking<'_> {
 
     ghost visited = { MarkVisited };
 
-    fn crossed_directions(&self, walk: &SpanWalk, cell: WalkPosition, changes: u16) -> u16 {
+    fn crossed_directions(&self, walk: SpanWalk, cell: WalkPosition, changes: u16) -> u16 {
         crossed_directions(walk.grid, walk.g, cell, changes)
     }
 
     // Each cut step has its bit at this cell, the smaller of its two.
-    fn visit(&mut self, walk: &SpanWalk, cell: WalkPosition, directions: u16) {
+    fn visit(&mut self, walk: SpanWalk, cell: WalkPosition, directions: u16) {
         let c = cell.y * walk.grid.width + cell.x;
         self.masks[c] = self.masks[c] | directions;
     }

@@ -43,9 +43,9 @@ pub struct SpanWalk<'a> {
 
 impl SpanWalk<'_> {
     // The cell at m across column, or row, k.
-    fn cell(&self, k: usize, m: usize) -> WalkPosition
-        ensures x { result.x ≡ cond self.now.strip.columns k m }
-        ensures y { result.y ≡ cond self.now.strip.columns m k }
+    fn cell(self, k: usize, m: usize) -> WalkPosition
+        ensures x { result.x ≡ cond self.entry.strip.columns k m }
+        ensures y { result.y ≡ cond self.entry.strip.columns m k }
     {
         let columns = self.strip.columns;
         WalkPosition {
@@ -55,15 +55,15 @@ impl SpanWalk<'_> {
     }
 
     // How many columns, or rows, the grid has.
-    fn length(&self) -> usize
-        ensures { result ≡ major_side self.now.strip self.now.grid.width self.now.grid.height }
+    fn length(self) -> usize
+        ensures { result ≡ major_side self.entry.strip self.entry.grid.width self.entry.grid.height }
     {
         pick(self.strip.columns, self.grid.width, self.grid.height)
     }
 
     // How many cells each of them has.
-    fn breadth(&self) -> usize
-        ensures { result ≡ minor_side self.now.strip self.now.grid.width self.now.grid.height }
+    fn breadth(self) -> usize
+        ensures { result ≡ minor_side self.entry.strip self.entry.grid.width self.entry.grid.height }
     {
         pick(self.strip.columns, self.grid.height, self.grid.width)
     }
@@ -78,29 +78,29 @@ pub trait StepVisitor {
     ghost visited: { Map → List Pair → ℕ → Self → Self → Type 0 };
 
     // The directions in which a cell between the span's ends has cut steps, where its changes of sides are given.
-    fn crossed_directions(&self, walk: &SpanWalk, cell: WalkPosition, changes: u16) -> u16
-        requires asked { CellIn walk.now cell }
-        requires crossed { Crossed (segment_of walk.now.g) (at cell.x cell.y) changes }
-        requires is_ready { ready (walk_map walk.now) (cell_steps walk.now cell) 1 self.now }
-        ensures { CutDirections walk.now.grid.width walk.now.grid.height walk.now.grid.cells.now (segment_of walk.now.g) cell.x cell.y result };
+    fn crossed_directions(&self, walk: SpanWalk, cell: WalkPosition, changes: u16) -> u16
+        requires asked { CellIn walk cell }
+        requires crossed { Crossed (segment_of walk.g) (at cell.x cell.y) changes }
+        requires is_ready { ready (walk_map walk) (cell_steps walk cell) 1 self.now }
+        ensures { CutDirections walk.entry.grid.width walk.entry.grid.height walk.entry.grid.cells.now (segment_of walk.entry.g) cell.x cell.y result };
 
     // Visits the cut steps of a cell, whose directions are given.
-    fn visit(&mut self, walk: &SpanWalk, cell: WalkPosition, directions: u16)
-        requires asked { CellIn walk.now cell }
-        requires directions { CutDirections walk.now.grid.width walk.now.grid.height walk.now.grid.cells.now
-            (segment_of walk.now.g) cell.x cell.y directions }
-        requires is_ready { ready (walk_map walk.now) (cell_steps walk.now cell) 1 self.old }
-        ensures { visited (walk_map walk.now) (cell_steps walk.now cell) 1 self.old self.new };
+    fn visit(&mut self, walk: SpanWalk, cell: WalkPosition, directions: u16)
+        requires asked { CellIn walk cell }
+        requires directions { CutDirections walk.grid.width walk.grid.height walk.grid.cells.now
+            (segment_of walk.g) cell.x cell.y directions }
+        requires is_ready { ready (walk_map walk) (cell_steps walk cell) 1 self.old }
+        ensures { visited (walk_map walk.entry) (cell_steps walk.entry cell) 1 self.old self.new };
 
     // What each `impl` proves of the two.
     ghost laws: { VisitLaws ready visited };
 }
 
 // Visits the cut steps of one cell. Most cells have none.
-fn walk_cell<V: StepVisitor>(walk: &SpanWalk, visitor: &mut V, cell: WalkPosition)
-    requires asked { CellIn walk.now cell }
-    requires is_ready { V.ready (walk_map walk.now) (cell_steps walk.now cell) 1 visitor.old }
-    ensures { V.visited (walk_map walk.now) (cell_steps walk.now cell) 1 visitor.old visitor.new }
+fn walk_cell<V: StepVisitor>(walk: SpanWalk, visitor: &mut V, cell: WalkPosition)
+    requires asked { CellIn walk cell }
+    requires is_ready { V.ready (walk_map walk) (cell_steps walk cell) 1 visitor.old }
+    ensures { V.visited (walk_map walk.entry) (cell_steps walk.entry cell) 1 visitor.old visitor.new }
 {
     if !is_near(walk.grid, walk.g, cell) {
         return;
@@ -110,10 +110,10 @@ fn walk_cell<V: StepVisitor>(walk: &SpanWalk, visitor: &mut V, cell: WalkPositio
 }
 
 // Visits the cut steps of the candidates in column, or row, k. Those beyond the span have none, and are not asked.
-fn walk_column<V: StepVisitor>(walk: &SpanWalk, visitor: &mut V, k: usize)
-    requires asked { ColumnIn walk.now k }
-    requires is_ready { V.ready (walk_map walk.now) (column_steps walk.now k) max_side visitor.old }
-    ensures { V.visited (walk_map walk.now) (column_steps walk.now k) max_side visitor.old visitor.new }
+fn walk_column<V: StepVisitor>(walk: SpanWalk, visitor: &mut V, k: usize)
+    requires asked { ColumnIn walk k }
+    requires is_ready { V.ready (walk_map walk) (column_steps walk k) max_side visitor.old }
+    ensures { V.visited (walk_map walk.entry) (column_steps walk.entry k) max_side visitor.old visitor.new }
 {
     let range = near_range(walk.g, walk.strip, k as u64, walk.breadth() as u64);
     for m in range.first as usize..range.last as usize + 1 {
@@ -133,16 +133,16 @@ fn is_placed(beyond: usize, limit: usize) -> bool
 
 // Visits the cut steps of the cell at `beyond` - 2 across column, or row, k, if there is one. Its changes of sides are given.
 fn walk_across<V: StepVisitor>(
-    walk: &SpanWalk,
+    walk: SpanWalk,
     visitor: &mut V,
     k: usize,
     beyond: usize,
     changes: u16,
 )
-    requires asked { ColumnIn walk.now k }
-    requires changes { CrossedAt (segment_of walk.now.g) walk.now.strip k beyond changes }
-    requires is_ready { V.ready (walk_map walk.now) (across_steps walk.now k beyond) 1 visitor.old }
-    ensures { V.visited (walk_map walk.now) (across_steps walk.now k beyond) 1 visitor.old visitor.new }
+    requires asked { ColumnIn walk k }
+    requires changes { CrossedAt (segment_of walk.g) walk.strip k beyond changes }
+    requires is_ready { V.ready (walk_map walk) (across_steps walk k beyond) 1 visitor.old }
+    ensures { V.visited (walk_map walk.entry) (across_steps walk.entry k beyond) 1 visitor.old visitor.new }
 {
     if changes == 0 {
         return;
@@ -157,17 +157,17 @@ fn walk_across<V: StepVisitor>(
 
 // Visits the cut steps of the candidates in column, or row, k, by the first places past the line there and beside it: those of four cells.
 fn walk_crossing<V: StepVisitor>(
-    walk: &SpanWalk,
+    walk: SpanWalk,
     visitor: &mut V,
     k: usize,
     before: usize,
     here: usize,
     after: usize,
 )
-    requires asked { ColumnIn walk.now k }
-    requires follows { FollowsIn walk.now.strip (segment_of walk.now.g) k before here after }
-    requires is_ready { V.ready (walk_map walk.now) (column_steps walk.now k) max_side visitor.old }
-    ensures { V.visited (walk_map walk.now) (column_steps walk.now k) max_side visitor.old visitor.new }
+    requires asked { ColumnIn walk k }
+    requires follows { FollowsIn walk.strip (segment_of walk.g) k before here after }
+    requires is_ready { V.ready (walk_map walk) (column_steps walk k) max_side visitor.old }
+    ensures { V.visited (walk_map walk.entry) (column_steps walk.entry k) max_side visitor.old visitor.new }
 {
     let columns = walk.strip.columns;
     let back = before + 2 - here;
@@ -179,11 +179,11 @@ fn walk_crossing<V: StepVisitor>(
 }
 
 // Visits the cut steps of the candidates in the columns, or rows, from `from` on before `to`, which are between the span's ends.
-fn walk_between<V: StepVisitor>(walk: &SpanWalk, visitor: &mut V, from: usize, to: usize)
-    requires asked { ColumnsIn walk.now from to }
-    requires between { BetweenAsked (segment_of walk.now.g) walk.now.strip from to × (from < to) }
-    requires is_ready { V.ready (walk_map walk.now) (columns_steps walk.now from to) (max_side * (to - from)) visitor.old }
-    ensures { V.visited (walk_map walk.now) (columns_steps walk.now from to) (max_side * (to - from)) visitor.old visitor.new }
+fn walk_between<V: StepVisitor>(walk: SpanWalk, visitor: &mut V, from: usize, to: usize)
+    requires asked { ColumnsIn walk from to }
+    requires between { BetweenAsked (segment_of walk.g) walk.strip from to × (from < to) }
+    requires is_ready { V.ready (walk_map walk) (columns_steps walk from to) (max_side * (to - from)) visitor.old }
+    ensures { V.visited (walk_map walk.entry) (columns_steps walk.entry from to) (max_side * (to - from)) visitor.old visitor.new }
 {
     let strip = walk.strip;
     let tie = tie_of(walk.g, strip);
@@ -247,11 +247,11 @@ fn part_end(parts: Parts, k: usize) -> usize
 }
 
 // Visits the cut steps of a part: by the line between the span's ends, and of a single column, or row, those of every candidate.
-fn walk_part<V: StepVisitor>(walk: &SpanWalk, visitor: &mut V, from: usize, to: usize)
-    requires asked { ColumnsIn walk.now from to }
-    requires part { PartAsked (segment_of walk.now.g) walk.now.strip from to }
-    requires is_ready { V.ready (walk_map walk.now) (columns_steps walk.now from to) (max_side * (to - from)) visitor.old }
-    ensures { V.visited (walk_map walk.now) (columns_steps walk.now from to) (max_side * (to - from)) visitor.old visitor.new }
+fn walk_part<V: StepVisitor>(walk: SpanWalk, visitor: &mut V, from: usize, to: usize)
+    requires asked { ColumnsIn walk from to }
+    requires part { PartAsked (segment_of walk.g) walk.strip from to }
+    requires is_ready { V.ready (walk_map walk) (columns_steps walk from to) (max_side * (to - from)) visitor.old }
+    ensures { V.visited (walk_map walk.entry) (columns_steps walk.entry from to) (max_side * (to - from)) visitor.old visitor.new }
 {
     if to <= from + 1 {
         walk_column(walk, visitor, from);
@@ -277,7 +277,7 @@ pub fn walk_span<V: StepVisitor>(grid: TerrainGrid, g: SpanGeometry, visitor: &m
     // called at two places.
     while k < parts.end {
         let next = part_end(parts, k);
-        walk_part(&walk, visitor, k, next);
+        walk_part(walk, visitor, k, next);
         k = next;
     }
 }

@@ -11,14 +11,14 @@ use Rattle.cut_steps.proofs.walk.walk_across.Goals as goal
 pub returns-then-changes-eq0 : goal.returns-then-changes-eq0
 returns-then-changes-eq0 g c =
     let a = c.args in
-    let walk = a.walk.now in
+    let walk = a.walk in
     visited_none g.met.V.StepVisitor.laws (walk_map walk) 1 a.visitor.now
     (unchanged walk.grid.width walk.grid.height walk.grid.cells.now (segment_of walk.g) walk.strip a.k a.beyond c.requires.changes c.if-changes-eq0.true)
 
 pub returns-then-not-is_placed : goal.returns-then-not-is_placed
 returns-then-not-is_placed g c =
     let a = c.args in
-    let walk = a.walk.now in
+    let walk = a.walk in
     let not_in = is_placed_as walk.strip walk.grid.width walk.grid.height a.beyond c.breadth.ensures c.is_placed.ensures c.if-not-is_placed.true in
     visited_none g.met.V.StepVisitor.laws (walk_map walk) 1 a.visitor.now (sym (none_there (walk_map walk) (segment_of walk.g) walk.strip a.k a.beyond not_in))
 
@@ -28,7 +28,7 @@ overflow_sub-beyond g c = placed_back c.args.beyond c.breadth.result c.is_placed
 pub crossed_directions-directions-requires : goal.crossed_directions-directions-requires
 crossed_directions-directions-requires g c =
     let a = c.args in
-    let walk = a.walk.now in
+    let walk = a.walk in
     let cell = c.cell-cell.ensures in
     let p = placed_cell a.beyond c.requires.asked.1 c.breadth.ensures c.is_placed.ensures c.if-not-is_placed.false cell.x cell.y in
     record {
@@ -40,7 +40,7 @@ crossed_directions-directions-requires g c =
 pub visit-requires : goal.visit-requires
 visit-requires g c =
     let a = c.args in
-    let walk = a.walk.now in
+    let walk = a.walk in
     let cell = c.cell-cell.ensures in
     let p = placed_cell a.beyond c.requires.asked.1 c.breadth.ensures c.is_placed.ensures c.if-not-is_placed.false cell.x cell.y in
     record {
@@ -52,7 +52,7 @@ visit-requires g c =
 pub returns : goal.returns
 returns g c =
     let a = c.args in
-    let walk = a.walk.now in
+    let walk = a.walk in
     let cell = c.cell-cell.ensures in
     let p = placed_cell a.beyond c.requires.asked.1 c.breadth.ensures c.is_placed.ensures c.if-not-is_placed.false cell.x cell.y in
     visited_as g.met.V.StepVisitor.laws (walk_map walk) (one_there (walk_map walk) (segment_of walk.g) walk.strip a.k a.beyond p.is_in cell.x cell.y) c.visit.ensures

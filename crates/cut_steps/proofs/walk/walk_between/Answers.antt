@@ -26,7 +26,7 @@ tie_of-tie-requires g c = c.requires.between.0.strip
 pub overflow_sub-from : goal.overflow_sub-from
 overflow_sub-from g c =
     let p = c.requires.between in
-    from_some c.args.walk.now.strip c.args.from c.args.to p.0.inside p.1
+    from_some c.args.walk.strip c.args.from c.args.to p.0.inside p.1
 
 pub first_place-before-requires : goal.first_place-before-requires
 first_place-before-requires g c =
@@ -35,19 +35,19 @@ first_place-before-requires g c =
     let f = c.args.from in
     let l = line asked.1.usable p.0.strip asked.0.sound c.tie_of-tie.ensures in
     let column = column_in asked.0.narrow asked.0.short (column-asked asked.1 (le_refl f) p.1) in
-    (l.0, between-before c.args.walk.now.strip f c.args.to p.0.inside p.1, l.2, one_before column)
+    (l.0, between-before c.args.walk.strip f c.args.to p.0.inside p.1, l.2, one_before column)
 
 pub overflow_sub-from-2 : goal.overflow_sub-from-2
 overflow_sub-from-2 g c =
     let p = c.requires.between in
-    from_some c.args.walk.now.strip c.args.from c.args.to p.0.inside p.1
+    from_some c.args.walk.strip c.args.from c.args.to p.0.inside p.1
 
 pub next_place-here-requires : goal.next_place-here-requires
 next_place-here-requires g c =
     let a = c.args in
     let asked = c.requires.asked in
     let p = c.requires.between in
-    let t = a.walk.now.strip in
+    let t = a.walk.strip in
     record {
       line = line asked.1.usable p.0.strip asked.0.sound c.tie_of-tie.ensures;
       between = (between-before t a.from a.to p.0.inside p.1, between_first t a.from a.to p.0.inside p.1, c.first_place-before.ensures);
@@ -56,7 +56,7 @@ next_place-here-requires g c =
 pub loop-k-init : goal.loop-k-init
 loop-k-init g c =
     let a = c.args in
-    let walk = a.walk.now in
+    let walk = a.walk in
     let p = c.requires.between in
     let some : 1 ≤ a.from = from_some walk.strip a.from a.to p.0.inside p.1 in
     (passing-start g.met.V.StepVisitor.laws (walk_map walk) (column_steps walk) max_side a.from a.to, c.first_place-before.ensures, next_from some c.next_place-here.ensures.crossing, c.next_place-here.ensures.close)
@@ -67,7 +67,7 @@ next_place-after-requires g c =
     let asked = c.requires.asked in
     let p = c.requires.between in
     let i = c.loop-k.invariant in
-    let t = a.walk.now.strip in
+    let t = a.walk.strip in
     record {
       line = line asked.1.usable p.0.strip asked.0.sound c.tie_of-tie.ensures;
       between = (between_at t a.from a.to p.0.inside p.1 i.0.from_k c.loop-k-test.true, between-after t a.from a.to p.0.inside p.1 i.0.from_k c.loop-k-test.true, i.2);
@@ -76,7 +76,7 @@ next_place-after-requires g c =
 pub walk_crossing-requires : goal.walk_crossing-requires
 walk_crossing-requires g c =
     let a = c.args in
-    let walk = a.walk.now in
+    let walk = a.walk in
     let asked = c.requires.asked in
     let i = c.loop-k.invariant in
     record {
@@ -88,7 +88,7 @@ walk_crossing-requires g c =
 pub loop-k-preserved : goal.loop-k-preserved
 loop-k-preserved g c =
     let a = c.args in
-    let walk = a.walk.now in
+    let walk = a.walk in
     let i = c.loop-k.invariant in (
       passing-more g.met.V.StepVisitor.laws (walk_map walk) (column_steps walk) max_side a.from a.to i.0 c.loop-k-test.true c.walk_crossing.ensures,
       now-before i.2,
@@ -99,5 +99,5 @@ loop-k-preserved g c =
 pub returns : goal.returns
 returns g c =
     let a = c.args in
-    let walk = a.walk.now in
+    let walk = a.walk in
     passing-done g.met.V.StepVisitor.laws (walk_map walk) (column_steps walk) max_side a.from a.to c.loop-k.invariant.0 c.loop-k-test.false (le_refl _)

@@ -15,13 +15,13 @@ near_range-range-requires g c = let p = c.requires.asked in (p.0.sound, p.1.usab
 
 pub loop-m-init : goal.loop-m-init
 loop-m-init g c =
-    let walk = c.args.walk.now in
+    let walk = c.args.walk in
     let r = c.near_range-range.result in
     passing-start g.met.V.StepVisitor.laws (walk_map walk) (cut_across (walk_map walk) (segment_of walk.g) walk.strip.columns c.args.k) 1 r.first (r.last + 1)
 
 pub walk_cell-requires : goal.walk_cell-requires
 walk_cell-requires g c =
-    let walk = c.args.walk.now in
+    let walk = c.args.walk in
     let M = walk_map walk in
     let k = c.args.k in
     let r = c.near_range-range.result in
@@ -37,7 +37,7 @@ walk_cell-requires g c =
 
 pub loop-m-preserved : goal.loop-m-preserved
 loop-m-preserved g c =
-    let walk = c.args.walk.now in
+    let walk = c.args.walk in
     let M = walk_map walk in
     let k = c.args.k in
     let r = c.near_range-range.result in
@@ -46,7 +46,7 @@ loop-m-preserved g c =
 
 pub returns : goal.returns
 returns g c =
-    let walk = c.args.walk.now in
+    let walk = c.args.walk in
     let M = walk_map walk in
     let k = c.args.k in
     let r = c.near_range-range.result in

@@ -54,7 +54,7 @@ overflow_sub-ahead g c = omega (arith, c.requires.follows.follows.close-after.do
 pub loop-j-init : goal.loop-j-init
 loop-j-init g c =
     let a = c.args in
-    let walk = a.walk.now in
+    let walk = a.walk in
     let M = walk_map walk in
     let P : Passing g.V.StepVisitor.visited M (across_steps walk a.k) 1 a.here (a.here + 4) a.visitor.now a.visitor.now a.here = passing-start g.met.V.StepVisitor.laws M (across_steps walk a.k) 1 a.here (a.here + 4) in
     let e : a.here ≡ a.here + 0 = omega arith in
@@ -71,7 +71,7 @@ overflow_add-here g c = omega (arith, (sizes c.requires.follows).here_small, c.l
 pub walk_across-requires : goal.walk_across-requires
 walk_across-requires g c =
     let a = c.args in
-    let walk = a.walk.now in
+    let walk = a.walk in
     let M = walk_map walk in
     let joined = four-joined walk.grid.width walk.grid.height walk.grid.cells.now (segment_of walk.g) c.requires.asked.1 c.requires.follows in
     record {
@@ -83,7 +83,7 @@ walk_across-requires g c =
 pub loop-j-preserved : goal.loop-j-preserved
 loop-j-preserved g c =
     let a = c.args in
-    let walk = a.walk.now in
+    let walk = a.walk in
     let M = walk_map walk in
     let j = c.loop-j.j in
     let e : a.here + j + 1 ≡ a.here + (j + 1) = omega arith in
@@ -93,7 +93,7 @@ loop-j-preserved g c =
 pub returns : goal.returns
 returns g c =
     let a = c.args in
-    let walk = a.walk.now in
+    let walk = a.walk in
     let M = walk_map walk in
     let joined = four-joined walk.grid.width walk.grid.height walk.grid.cells.now (segment_of walk.g) c.requires.asked.1 c.requires.follows in
     visited_as g.met.V.StepVisitor.laws M (sym joined) (passing-done g.met.V.StepVisitor.laws M (across_steps walk a.k) 1 a.here (a.here + 4) c.loop-j.invariant.1 (omega (arith, c.loop-j-test.false)) (four_few a.here))
