@@ -1,5 +1,5 @@
--- Steps assessed one after the other: none, a list behind another, and one step, whose cells share a label or do not. Assumes nothing.
-use Prim.Native.Nat.{ℕ, ◌+◌, min, max}
+-- One step assessed behind others, whose cells share a label or do not. Assumes nothing.
+use Prim.Native.Nat.{ℕ, ◌+◌, ◌≤◌, min, max}
 use mathlib.Core.Path.{◌≡◌, refl, sym, ap, ◌∙◌, subst}
 use mathlib.Core.Bool.{Bool, true, false, not, cond}
 use mathlib.Core.List.{List, [], ◌∷◌, ◌++◌, append_assoc, append-nil}
@@ -13,21 +13,10 @@ use Rattle.laws.specs.ListLaws.Lists.{filter-append}
 use Rattle.laws.specs.RegionLaws.PairLaws.{pairs_of_ascending, pairs_of-step}
 use Rattle.laws.specs.RegionLaws.PairRows.{rows_for}
 use Rattle.assessments.specs.Held.{pair_of, Held, Adds}
-use Rattle.assessments.specs.Assess.{Gathered, Assesses}
+use Rattle.assessments.specs.Assess.{max_cell_edges, Gathered, Assesses}
+use Rattle.assessments.specs.Assessing.{CountingIn, AssessesIn, CellsRoom, less_room}
+use Rattle.assessments.specs.declared.Assessing.{Assessing}
 use Rattle.assessments.specs.declared.BoundaryAssessment.{BoundaryAssessment}
-
-module _ {labels : List ℕ} {span first : ℕ} where
-  pub assesses_none : {a : BoundaryAssessment} {now : List ℕ} → Assesses labels span first [] a now a now
-  assesses_none {a} {now} = record { each = λ before old es G. subst (λ l. Gathered labels span first before old l a now) (sym (append-nil es)) G }
-
-  pub assesses-both :
-      {es fs : List Pair} {a b c : BoundaryAssessment} {now now' now'' : List ℕ}
-      → Assesses labels span first es a now b now' → Assesses labels span first fs b now' c now'' → Assesses labels span first (es ++ fs) a now c now''
-  assesses-both {es} {fs} {c = c} {now'' = now''} A B =
-      record { each = λ before old l G. subst (λ m. Gathered labels span first before old m c now'') (append_assoc l es fs) (B.each before old (l ++ es) (A.each before old l G)) }
-
-  pub assesses_same : {es fs : List Pair} {a b : BoundaryAssessment} {now now' : List ℕ} → es ≡ fs → Assesses labels span first es a now b now' → Assesses labels span first fs a now b now'
-  assesses_same {a = a} {b} {now} {now'} e A = subst (λ l. Assesses labels span first l a now b now') e A
 
 -- ---- one step
 
@@ -84,3 +73,16 @@ module _ {labels : List ℕ} {span first : ℕ} {a : BoundaryAssessment} {now : 
               (A before old (pairs_of labels es) (record { ascends = pairs_of_ascending labels es; begins = G.begins; held = G.held }));
         };
       }
+
+-- ---- and several
+
+pub assessed_as : {E F : List Pair} (s t : Assessing) → E ≡ F → AssessesIn E s t → AssessesIn F s t
+assessed_as s t e a = subst (λ l. AssessesIn l s t) e a
+
+pub room_none : (s : Assessing) (m : ℕ) → CellsRoom (m + 1) s → CellsRoom m s
+room_none s m r = less_room m (m + 1) (omega arith) r
+
+-- the steps of a cell are eight at most
+pub room_after : {n : ℕ} (s t : Assessing) → CountingIn n t → t.found.removed ≤ s.found.removed + max_cell_edges → (m : ℕ) → CellsRoom (m + 1) s → CellsRoom m t
+room_after s t C h m r =
+    record { counting = record { rows = C.rows; fewer = C.fewer; few = omega (arith, h, r.left) }; left = omega (arith, h, r.left) }

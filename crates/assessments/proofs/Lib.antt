@@ -2,7 +2,5 @@ mod Insertion
 mod Holding
 mod Gathering
 mod Directions
-mod Turns
-mod Passing
 mod Joining
 mod Spans

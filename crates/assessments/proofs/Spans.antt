@@ -13,13 +13,12 @@ use Rattle.definitions.specs.Partition.{is_separated, pairs_of}
 use Rattle.span_geometry.specs.declared.SpanGeometry.{SpanGeometry}
 use Rattle.span_geometry.specs.Shapes.{segment_of, Made}
 use Rattle.grid_steps.specs.Walk.{grid_of}
-use Rattle.cut_steps.specs.Contract.{Checked}
 use Rattle.cut_steps.specs.CutSteps.{cut_span}
 use Rattle.cut_steps.proofs.Spans.{cut_listed}
 use Rattle.laws.specs.RegionLaws.PairRows.{rows_for}
 use Rattle.assessments.specs.Held.{room_of, Held}
-use Rattle.assessments.specs.Assess.{nothing, max_edges, Counting, Gathered, Assesses, Lent}
-use Rattle.assessments.specs.Contract.{AssessAsked, Answers, SpansAssessed}
+use Rattle.assessments.specs.Assess.{nothing, max_edges, Counting, Gathered, Assesses}
+use Rattle.assessments.specs.Contract.{Answers, SpansAssessed}
 use Rattle.assessments.specs.declared.BoundaryAssessment.{BoundaryAssessment}
 use Rattle.std.specs.Prelude.{Option, None, Some}
 use Rattle.laws.specs.ListLaws.Overwritten.{overwrite_more}
@@ -41,9 +40,6 @@ module _ (w h : ℕ) (cells spans labels : List ℕ) where
   unfolding tallies_below gather
   tallies-length zero = refl
   tallies-length (suc n) = length-append (tallies_below n) _ ∙ omega (arith, tallies-length n)
-
-pub lent : {w h : ℕ} {cells masks spans labels tallies : List ℕ} → Checked w h cells spans → AssessAsked w h cells masks spans labels tallies → Lent w h cells labels
-lent C A = record { wide = C.wide; narrow = C.narrow; tall = C.tall; short = C.short; cells_long = C.cells_long; labels_long = A.labels_long }
 
 -- ---- before span s
 

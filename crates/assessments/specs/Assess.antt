@@ -8,6 +8,7 @@ use Rattle.grid_steps.specs.Masks.{bit_of}
 use Rattle.grid_steps.specs.Walk.{grid_of}
 use Rattle.grid_steps.specs.Inner.{Inside}
 use Rattle.cut_steps.specs.CutSteps.{is_set}
+use Rattle.cut_steps.specs.Walks.{max_cells}
 use Rattle.laws.specs.RegionLaws.PairRows.{rows_for}
 use Rattle.assessments.specs.Held.{Held, Counted}
 use Rattle.assessments.specs.declared.BoundaryAssessment.{BoundaryAssessment}
@@ -18,11 +19,8 @@ use Rattle.assessments.specs.declared.BoundaryAssessment.{BoundaryAssessment}
 abbrev pub max_cell_edges : ℕ
 max_cell_edges = 8
 
-abbrev pub max_line_edges : ℕ
-max_line_edges = max_cell_edges * max_side
-
 abbrev pub max_edges : ℕ
-max_edges = max_line_edges * max_side
+max_edges = max_cell_edges * max_cells
 
 -- the counts so far are at most so much, and the rows of the span begin at `first`
 pub record Counting (pairs : List ℕ) (first most : ℕ) (a : BoundaryAssessment) : Type 0 where
@@ -61,12 +59,3 @@ pub record Leads (w h x y mask : ℕ) : Type 0 where
   pub in_x : x < w
   pub in_y : y < h
   pub lands : (d : Position) → d.x ≤ 2 → d.y ≤ 2 → is_set mask (bit_of d) ≡ true → Inside w h x y d.x d.y
-
--- what is lent and not written
-pub record Lent (w h : ℕ) (cells labels : List ℕ) : Type 0 where
-  pub wide : 1 ≤ w
-  pub narrow : w ≤ max_side
-  pub tall : 1 ≤ h
-  pub short : h ≤ max_side
-  pub cells_long : length cells ≡ h * w
-  pub labels_long : h * w ≤ length labels

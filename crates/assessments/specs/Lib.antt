@@ -1,3 +1,4 @@
 pub mod Held
 pub mod Assess
 pub mod Contract
+pub mod Assessing

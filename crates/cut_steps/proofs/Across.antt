@@ -18,12 +18,11 @@ use Rattle.line_crossings.proofs.NearLine.{near-line}
 use Rattle.grid_steps.specs.Masks.{bit_of}
 use Rattle.grid_steps.specs.Walk.{grid_of}
 use Rattle.cut_steps.specs.CutSteps.{cut_from}
-use Rattle.cut_steps.specs.Cell.{CellAsked, Far}
-use Rattle.cut_steps.specs.Columns.{ColumnAsked, cut_across, cut_column, cell_at}
+use Rattle.cut_steps.specs.Cell.{Far}
+use Rattle.cut_steps.specs.Columns.{ColumnAsked, cut_across, cut_column, cell_in, cell_at}
 use Rattle.cut_steps.specs.Crossed.{Crossed, changes_at, CrossedAt, cut_two_back, FollowsIn}
 use Rattle.cut_steps.proofs.Trimmed.{places-joined}
 use Rattle.cut_steps.specs.Prefixes.{concat_map_lem}
-use Rattle.cut_steps.specs.Marking.{MarkAsked}
 use Rattle.cut_steps.proofs.Onward.{zero_bit}
 use Rattle.cut_steps.proofs.Cells.{far-directions}
 use Rattle.cut_steps.proofs.Changes.{follows_at, follows-far}
@@ -34,7 +33,7 @@ use Rattle.cut_steps.proofs.Marks.{no_cut}
 pub is_placed_as : (t : Strip) (w h b : ℕ) {n : ℕ} {r v : Bool} → n ≡ cond t.columns h w → r ≡ (leb 2 b && ltb (b - 2) n) → r ≡ v → (leb 2 b && ltb (b - 2) (minor_side t w h)) ≡ v
 is_placed_as t w h b e f g = ap (λ n. leb 2 b && ltb (b - 2) n) (sym e) ∙ sym f ∙ g
 
-pub placed : (b limit : ℕ) → (leb 2 b && ltb (b - 2) limit) ≡ true → (2 ≤ b) × (b - 2 < limit)
+placed : (b limit : ℕ) → (leb 2 b && ltb (b - 2) limit) ≡ true → (2 ≤ b) × (b - 2 < limit)
 placed b limit e =
     let p = both (leb 2 b) (ltb (b - 2) limit) e in
     (leb-true 2 b p.0, ltb-true (b - 2) limit p.1)
@@ -49,8 +48,22 @@ module _ (M : Map) (g : Segment) (t : Strip) (k b : ℕ) where
 pub across-crossed : (g : Segment) (t : Strip) (k b : ℕ) {changes x y : ℕ} → CrossedAt g t k b changes → 2 ≤ b → x ≡ cond t.columns k (b - 2) → y ≡ cond t.columns (b - 2) k → Crossed g (at x y) changes
 across-crossed g t k b {changes} C h i j = subst⁻¹ (λ p. Crossed g p changes) (cell_at t.columns k (b - 2) i j) (C h)
 
-pub across-asked : {w h : ℕ} {cells was : List ℕ} {g : SpanGeometry} {x y : ℕ} → MarkAsked w h cells was g → (x < w) × (y < h) → CellAsked w h cells g x y
-across-asked A i = record { narrow = A.narrow; short = A.short; cells_long = A.cells_long; sound = A.sound; in_x = i.0; in_y = i.1 }
+pub placed_back : (b n : ℕ) {r : Bool} → r ≡ (leb 2 b && ltb (b - 2) n) → r ≡ true → 2 ≤ b
+placed_back b n f r = (placed b n (sym f ∙ r)).0
+
+-- the cell at two less than b, where there is one
+pub record Placed (w h : ℕ) (t : Strip) (k b x y : ℕ) : Type 0 where
+  pub back : 2 ≤ b
+  pub is_in : (leb 2 b && ltb (b - 2) (minor_side t w h)) ≡ true
+  pub in_x : x < w
+  pub in_y : y < h
+
+pub placed_cell : {w h : ℕ} {t : Strip} {k : ℕ} (b : ℕ) {x y n : ℕ} {r : Bool} → ColumnAsked w h t k → n ≡ minor_side t w h → r ≡ (leb 2 b && ltb (b - 2) n) → r ≡ true → x ≡ cond t.columns k (b - 2) → y ≡ cond t.columns (b - 2) k → Placed w h t k b x y
+placed_cell {w} {h} {t} b C e f r i j =
+    let is_in = is_placed_as t w h b e f r in
+    let place = placed b (minor_side t w h) is_in in
+    let inside = cell_in t.columns i j C.column place.1 in
+    record { back = place.0; is_in = is_in; in_x = inside.0; in_y = inside.1 }
 
 -- a cell without a change of sides has no cut step
 pub unchanged : (w h : ℕ) (cells : List ℕ) (g : Segment) (t : Strip) (k b : ℕ) {changes : ℕ} → CrossedAt g t k b changes → changes ≡ 0 → [] ≡ cut_two_back (grid_of w h cells) g t k b

@@ -56,15 +56,12 @@ module _ {w h : ℕ} {cells : List ℕ} {g : SpanGeometry} {x y : ℕ} (A : Cell
   pub in_limits : Sound g × (x < max_side) × (y < max_side)
   in_limits = (A.sound, omega (arith, A.in_x, A.narrow), omega (arith, A.in_y, A.short))
 
-  pub walks : get_or cells (y * w + x) 0 % 2 ≡ 1 → walkable (grid_of w h cells) (at x y) ≡ true
-  walks e = walkable_at_lem w h cells x y A.in_x A.in_y ∙ eq-eqb _ _ e
-
-  -- a cell that is not walkable
-  pub no_directions : (s : Segment) → (get_or cells (y * w + x) 0 % 2 ≡ 1 → ⊥) → CutDirections w h cells s x y 0
-  no_directions s n = record { small = omega arith; bits = no_bits (grid_of w h cells) s (at x y) (no_step (grid_of w h cells) s (at x y) (walkable_at_lem w h cells x y A.in_x A.in_y ∙ ne_eqb _ _ n)) }
-
   pub onward-asked : (dx dy : ℕ) → dx ≤ 2 → dy ≤ 2 → 4 < dy * 3 + dx → walkable (grid_of w h cells) (at x y) ≡ true → OnwardAsked w h cells g x y dx dy
   onward-asked dx dy a b c e = record { cell = A; walks = e; near_x = a; near_y = b; onward = c }
+
+-- a cell that is not walkable
+pub no_directions : (w h : ℕ) (cells : List ℕ) (s : Segment) (x y : ℕ) → walkable (grid_of w h cells) (at x y) ≡ false → CutDirections w h cells s x y 0
+no_directions w h cells s x y n = record { small = omega arith; bits = no_bits (grid_of w h cells) s (at x y) (no_step (grid_of w h cells) s (at x y) n) }
 
 -- the four directions decide
 pub four-directions :

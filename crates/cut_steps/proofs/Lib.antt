@@ -7,7 +7,9 @@ mod Steps
 pub mod Cells
 mod Sides
 pub mod Marks
-mod Walking
+pub mod Among
+mod Passing
+mod Walks
 pub mod Beyond
 pub mod Across
 pub mod SpanParts

@@ -1,11 +1,10 @@
--- Marking adds to the bits of the masks: nothing (`marked_none`), one step after another (`marked-then`), and in one write the cut steps of a cell (`cell-marked`), which are
--- those of its directions that are cut (`cut-among`). The four directions to larger numbers are all of them (`four-cut`). Assumes nothing.
+-- Marking adds to the bits of the masks, in one write the cut steps of a cell (`cell-marked`), which are those of its directions that are cut (`cut-among`). The four directions to larger numbers are all of them (`four-cut`). Assumes nothing.
 use Prim.Native.Nat.{ℕ, zero, suc, ◌+◌, ◌*◌, ◌≤◌, ◌<◌, min, max}
 use native.Mathlib.Omega.{arith}
 use mathlib.Core.Path.{◌≡◌, refl, sym, ap, ap₂, ◌∙◌, subst}
 use mathlib.Core.Bool.{Bool, true, false, ◌&&◌, ◌||◌, cond, and-false, or-false, or_assoc}
 use mathlib.Core.List.{List, [], ◌∷◌, ◌++◌, append_assoc, append-nil, map, Memᴰ}
-use lib.ListN.{get_or, set, length-set}
+use lib.ListN.{length, get_or, set, length-set}
 use lib.Seq.{drop-set-lt}
 use lib.Arith.{digits_lt}
 use lib.Bits.{bit_or}
@@ -28,31 +27,8 @@ use Rattle.grid_steps.proofs.MarkStep.{one_direction}
 use Rattle.cut_steps.specs.CutSteps.{is_cut_onward, cut_from, cut_toward}
 use Rattle.cut_steps.proofs.CutLaws.{cut_from-directions}
 use Rattle.cut_steps.specs.Cell.{CellAsked, CutBits, CutDirections}
-use Rattle.cut_steps.specs.Marking.{MarkAsked, Marked}
+use Rattle.cut_steps.specs.Marking.{Marked}
 use Rattle.cut_steps.proofs.Onward.{not-onward, zero_bit}
-
-or_in : (a o x y : Bool) → ((a || (o && x)) || (o && y)) ≡ (a || (o && (x || y)))
-or_in a true x y = or_assoc a x y
-or_in a false x y = or-false (a || false)
-
-module _ {M : Map} where
-  pub marked_none : {l : List ℕ} → Marked M l l []
-  unfolding any
-  marked_none {l} = record { bits = λ c d i a b. sym (ap (λ t. cut_bit l c (bit_of d) || t) (and-false (is_onward M c d)) ∙ or-false _); long = refl; rest = refl }
-
-  pub marked-then : {k l m : List ℕ} {E F : List Pair} → Marked M k l E → Marked M l m F → Marked M k m (E ++ F)
-  marked-then {k} {l} {m} {E} {F} a b =
-      record {
-        bits = λ c d i p q.
-            let f = pair_eq (step_pair M c d) in
-            b.bits c d i p q ∙ ap (λ t. t || is_onward_in M F c d) (a.bits c d i p q) ∙ or_in (cut_bit k c (bit_of d)) (is_onward M c d) (any f E) (any f F)
-            ∙ ap (λ t. cut_bit k c (bit_of d) || (is_onward M c d && t)) (sym (any_append f E F));
-        long = b.long ∙ a.long;
-        rest = b.rest ∙ a.rest;
-      }
-
-  pub marked_as : {k l : List ℕ} {E F : List Pair} → E ≡ F → Marked M k l E → Marked M k l F
-  marked_as {k} {l} e a = subst (Marked M k l) e a
 
 -- ---- the cut steps of a cell
 
@@ -161,25 +137,16 @@ module _ (M : Map) (g : Segment) (p : Position) where
       none : (x y : ℕ) → x ≤ 2 → y ≤ 2 → T x y ≡ []
       none x y h k = toward_none (at x y) (sym (bits (at x y) h k) ∙ zero_bit (y * 3 + x))
 
--- ---- the code's calls for one cell
+-- ---- the cut steps of a cell, in one write
 
-pub cell-asked : {w h : ℕ} {cells was : List ℕ} {g : SpanGeometry} {x y : ℕ} → MarkAsked w h cells was g × (x < w) × (y < h) → CellAsked w h cells g x y
-cell-asked A = record { narrow = A.0.narrow; short = A.0.short; cells_long = A.0.cells_long; sound = A.0.sound; in_x = A.1; in_y = A.2 }
-
-module _ {w h : ℕ} {cells was : List ℕ} {g : SpanGeometry} {x y r : ℕ} (A : MarkAsked w h cells was g × (x < w) × (y < h)) (D : CutDirections w h cells (segment_of g) x y r) where
-  abbrev G : Map
-  G = grid_of w h cells
-
-  pub cell_none : r ≡ 0 → Marked G was was (cut_from G (segment_of g) (at x y))
-  cell_none e = marked_as (sym (no_cut G (segment_of g) (at x y) (subst (CutBits G (segment_of g) (at x y)) e D.bits))) marked_none
-
-  pub cell-marked : Marked G was (set was (y * w + x) (bit_or (get_or was (y * w + x) 0) r)) (cut_from G (segment_of g) (at x y))
-  cell-marked =
-      let inside : y * w + x < h * w = digits_lt A.2 A.1 in
+module _ {w h : ℕ} {cells : List ℕ} {g : SpanGeometry} {x y r : ℕ} (A : CellAsked w h cells g x y) (D : CutDirections w h cells (segment_of g) x y r) where
+  pub cell-marked : (was : List ℕ) → h * w ≤ length was → Marked (grid_of w h cells) was (set was (y * w + x) (bit_or (get_or was (y * w + x) 0) r)) (cut_from (grid_of w h cells) (segment_of g) (at x y))
+  cell-marked was masks_long =
+      let inside : y * w + x < h * w = digits_lt A.in_y A.in_x in
       record {
         bits = λ c d i a b.
-            more_bits was (y * w + x) r (omega (arith, inside, A.0.masks_long)) c (bit_of d) ∙ ap (λ t. cut_bit was c (bit_of d) || (eqb c (y * w + x) && t)) (D.bits d a b)
-            ∙ sym (ap (λ t. cut_bit was c (bit_of d) || t) (cut-among G (segment_of g) (at x y) A.1 c d a b));
+            more_bits was (y * w + x) r (omega (arith, inside, masks_long)) c (bit_of d) ∙ ap (λ t. cut_bit was c (bit_of d) || (eqb c (y * w + x) && t)) (D.bits d a b)
+            ∙ sym (ap (λ t. cut_bit was c (bit_of d) || t) (cut-among (grid_of w h cells) (segment_of g) (at x y) A.in_x c d a b));
         long = length-set was (y * w + x) _;
         rest = drop-set-lt (h * w) was (y * w + x) _ inside;
       }

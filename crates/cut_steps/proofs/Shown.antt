@@ -1,4 +1,4 @@
--- What masks show of steps they show of a part of them (`shown_at`, `shown-part`). Where they show the cut steps of a cell between a span's ends, the
+-- Where masks show the cut steps of a cell between a span's ends, the
 -- bits that its changes of sides and its mask have in common are its cut directions (`shown-directions`). Assumes nothing.
 use Prim.Native.Nat.{ℕ, ◌+◌, ◌*◌, ◌≤◌, ◌<◌}
 use native.Mathlib.Omega.{arith}
@@ -32,37 +32,6 @@ use Rattle.cut_steps.proofs.Marks.{cut_step, cut-among}
 module _ {M : Map} {masks : List ℕ} where
   pub shown_as : {E F : List Pair} → E ≡ F → Shown M masks E → Shown M masks F
   shown_as e S = subst (Shown M masks) e S
-
-  -- ---- a part of the steps
-
-  fewer : {E F : List Pair} → ((f : Pair → Bool) → any f F ≡ true → any f E ≡ true) → Shown M masks E → Shown M masks F
-  fewer {E} {F} sub S =
-      record {
-        long = S.long;
-        steps = S.steps;
-        bits = λ c d i a b e.
-            let f = pair_eq (step_pair M c d) in
-            let t = both (is_onward M c d) (any f F) e in
-            S.bits c d i a b (ap₂ ◌&&◌ t.0 (sub f t.1));
-      }
-
-  shown-left : (E F : List Pair) → Shown M masks (E ++ F) → Shown M masks E
-  shown-left E F S = fewer (λ f e. any_append f E F ∙ ap (λ t. t || any f F) e) S
-
-  shown-right : (E F : List Pair) → Shown M masks (E ++ F) → Shown M masks F
-  shown-right E F S = fewer (λ f e. any_append f E F ∙ or_right (any f E) (any f F) e) S
-
-  -- of lists joined
-  module _ (f : ℕ → List Pair) {from to : ℕ} (S : Shown M masks (concat_map f (up_to from to))) where
-    pub shown_at : {k : ℕ} → from ≤ k → k < to → Shown M masks (f k)
-    shown_at {k} a b =
-        shown-right (concat_map f (up_to from k)) (f k)
-        (shown_as (concat_more f from k a) (shown-left (concat_map f (up_to from (k + 1))) (concat_map f (up_to (k + 1) to)) (shown_as (sym (concat-split f from (k + 1) to (omega arith) (omega arith))) S)))
-
-    pub shown-part : {k next : ℕ} → from ≤ k → k ≤ next → next ≤ to → Shown M masks (concat_map f (up_to k next))
-    shown-part {k} {next} a b c =
-        shown-left (concat_map f (up_to k next)) (concat_map f (up_to next to))
-        (shown_as (sym (concat-split f k next to b c)) (shown-right (concat_map f (up_to from k)) (concat_map f (up_to k to)) (shown_as (sym (concat-split f from k to a (omega arith))) S)))
 
 -- ---- the cut directions of a cell
 

@@ -21,14 +21,16 @@ use Rattle.laws.specs.ListLaws.Below.{below_at}
 use Rattle.span_geometry.specs.declared.SpanGeometry.{SpanGeometry}
 use Rattle.span_geometry.specs.Shapes.{max_pixel, segment_of, Made}
 use Rattle.span_geometry.proofs.Canonical.{canonical-differ}
+use Rattle.grid_steps.specs.declared.grid.TerrainGrid.{TerrainGrid}
 use Rattle.grid_steps.specs.Masks.{bit_of, step_pair, is_onward, is_onward_in, OnwardBits}
 use Rattle.grid_steps.specs.Walk.{grid_of}
 use Rattle.grid_steps.proofs.Bits.{no_bit}
 use Rattle.cut_steps.specs.CutSteps.{cut_span}
 use Rattle.cut_steps.specs.Contract.{SpanMap, Checked}
 use Rattle.cut_steps.proofs.CutLaws.{cut_all-spans}
-use Rattle.cut_steps.specs.Marking.{MarkAsked, SpanAsked, SpanAtAsked, Marked, Shown, SpansMarked}
-use Rattle.cut_steps.proofs.Marks.{marked_as, marked-then}
+use Rattle.cut_steps.specs.Walks.{SpanIn}
+use Rattle.cut_steps.specs.Marking.{SpanAtAsked, Marked, Shown, SpansMarked}
+use Rattle.cut_steps.specs.MarkVisits.{marked_as, marked-then}
 
 -- the cut steps of span i of the list
 abbrev pub cut_listed : ℕ → ℕ → List ℕ → List ℕ → ℕ → List Pair
@@ -51,16 +53,17 @@ module _ {w h : ℕ} {cells spans : List ℕ} (C : Checked w h cells spans) {i :
       record { there = l; x0 = a.0; y0 = a.1; x1 = b.0; y1 = b.1 }
 
   module _ {g : SpanGeometry} (G : Made (segment_at spans (numbers_per_span * i)) g) where
-    pub span-asked : SpanAsked w h g
-    span-asked = record { wide = C.wide; tall = C.tall; differ = ap endpoints_differ G.segment ∙ canonical-differ (segment_at spans (numbers_per_span * i)) ∙ C.differ i l }
-
-    pub mark-asked : {was : List ℕ} → h * w ≤ length was → {now : List ℕ} {E : List Pair} → Marked (grid_of w h cells) was now E → MarkAsked w h cells now g
-    mark-asked a m = record { narrow = C.narrow; short = C.short; cells_long = C.cells_long; masks_long = omega (arith, m.long); sound = G.sound }
+    pub differs : endpoints_differ (segment_of g) ≡ true
+    differs = ap endpoints_differ G.segment ∙ canonical-differ (segment_at spans (numbers_per_span * i)) ∙ C.differ i l
 
     pub spans_more : {was now next : List ℕ} → Marked (grid_of w h cells) was now (gather i (cut_listed w h cells spans)) → Marked (grid_of w h cells) now next (cut_span (grid_of w h cells) (segment_of g)) → Marked (grid_of w h cells) was next (gather (i + 1) (cut_listed w h cells spans))
     unfolding gather
     spans_more m a =
         marked_as (ap (λ s. gather i (cut_listed w h cells spans) ++ cut_span (grid_of w h cells) s) G.segment ∙ ap (λ n. gather n (cut_listed w h cells spans)) (sym (add-one i))) (marked-then m a)
+
+pub span-asked : (grid : TerrainGrid) {spans : List ℕ} → Checked grid.width grid.height grid.cells.now spans → {i : ℕ} → i < length spans / numbers_per_span → {g : SpanGeometry} → Made (segment_at spans (numbers_per_span * i)) g → SpanIn grid g
+span-asked grid C l G =
+    record { grid_sound = record { narrow = C.narrow; short = C.short; cells_long = C.cells_long; sound = G.sound }; wide = C.wide; tall = C.tall; differ = differs C l G }
 
 -- ---- all spans
 

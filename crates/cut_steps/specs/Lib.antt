@@ -6,3 +6,7 @@ pub mod Extents
 pub mod Columns
 pub mod Crossed
 pub mod Marking
+pub mod Visits
+pub mod Walks
+pub mod MarkVisits
+pub mod Among

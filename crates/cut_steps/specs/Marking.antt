@@ -13,19 +13,6 @@ use Rattle.cut_steps.specs.Contract.{SpanMap}
 
 -- ---- what is lent
 
-pub record MarkAsked (w h : ℕ) (cells masks : List ℕ) (g : SpanGeometry) : Type 0 where
-  pub narrow : w ≤ max_side
-  pub short : h ≤ max_side
-  pub cells_long : length cells ≡ h * w
-  pub masks_long : h * w ≤ length masks
-  pub sound : Sound g
-
--- a span whose endpoints differ, and a map that is not empty
-pub record SpanAsked (w h : ℕ) (g : SpanGeometry) : Type 0 where
-  pub wide : 1 ≤ w
-  pub tall : 1 ≤ h
-  pub differ : endpoints_differ (segment_of g) ≡ true
-
 -- a span of a list, with coordinates up to the greatest of a map
 pub record SpanAtAsked (spans : List ℕ) (i : ℕ) : Type 0 where
   pub there : i < length spans / numbers_per_span

@@ -3,13 +3,13 @@ ghost use Rattle.std.specs.Prelude.{◌≡◌, true, false, cond, ◌+◌, ◌*�
 ghost use Rattle.definitions.specs.Limits.{max_side};
 ghost use Rattle.definitions.specs.Grid.{at, walkable, is_step};
 ghost use Rattle.span_geometry.specs.Shapes.{Sound, segment_of};
-ghost use Rattle.grid_steps.specs.Walk.{grid_of};
+ghost use Rattle.grid_steps.specs.Grids.{terrain_of};
 ghost use Rattle.grid_steps.specs.Inner.{Inner};
 ghost use Rattle.cut_steps.specs.CutSteps.{is_cut_onward, is_set};
 ghost use Rattle.cut_steps.specs.Crossed.{InGrid, Crossed, steps_onward, changes_at, SideWord};
 ghost use Rattle.cut_steps.specs.Cell.{CellAsked, OnwardAsked, CutDirections, side_of, Uncut, Far, max_reach, onward_mask};
 
-use grid_steps::{is_inner, is_inside, is_step};
+use grid_steps::grid::{Direction, EAST, SOUTH, SOUTH_EAST, SOUTH_WEST, TerrainGrid, WalkPosition};
 use span_geometry::numbers::not_negative;
 use span_geometry::segments::{cell_center, cross};
 use span_geometry::{PIXELS_PER_WALK_CELL, SpanGeometry};
@@ -22,115 +22,111 @@ fn exceeds(z: i64, bound: u64) -> bool
     z.unsigned_abs() > bound
 }
 
-// The side of the span's line on which the centre of (x, y) lies, as `cross` gives it.
-fn side_of(g: SpanGeometry, x: usize, y: usize) -> i64
-    requires { Sound g × (x < max_side) × (y < max_side) }
-    ensures { result ≡ side_of (segment_of g) (at x y) }
+// The side of the span's line on which the centre of a cell lies, as `cross` gives it.
+fn side_of(g: SpanGeometry, cell: WalkPosition) -> i64
+    requires { Sound g × (cell.x < max_side) × (cell.y < max_side) }
+    ensures { result ≡ side_of (segment_of g) (at cell.x cell.y) }
 {
-    cross(g.a, g.b, cell_center(x as u64, y as u64))
+    cross(g.a, g.b, cell_center(cell.x as u64, cell.y as u64))
 }
 
-// Whether (x, y) is so far from the span's line that the centre of every neighbour of larger number lies on the same side of it: a step changes the side value by at
+// Whether a cell is so far from the span's line that the centre of every neighbour of larger number lies on the same side of it: a step changes the side value by at
 // most 8 pixels times both extents of the span. On the positive side its extent along y is enough: the first endpoint is not to the right of the second, so that a
 // step to the south never lowers the value.
-fn is_far(g: SpanGeometry, x: usize, y: usize) -> bool
-    requires { Sound g × (x < max_side) × (y < max_side) }
-    ensures { result ≡ true → Far (segment_of g) (at x y) }
+fn is_far(g: SpanGeometry, cell: WalkPosition) -> bool
+    requires { Sound g × (cell.x < max_side) × (cell.y < max_side) }
+    ensures { result ≡ true → Far (segment_of g) (at cell.x cell.y) }
 {
-    let side = side_of(g, x, y);
+    let side = side_of(g, cell);
     let run = g.max_x - g.min_x;
     let rise = g.max_y - g.min_y;
     exceeds(side, PIXELS_PER_WALK_CELL * (run + rise))
         | (not_negative(side) & exceeds(side, PIXELS_PER_WALK_CELL * rise))
 }
 
-// Whether (x, y) is so far from the span's line that the centre of its neighbour to the east lies on the same side of it.
-fn is_far_eastward(g: SpanGeometry, x: usize, y: usize) -> bool
-    requires { Sound g × (x < max_side) × (y < max_side) }
-    ensures { result ≡ true → Uncut (segment_of g) (at x y) (at 2 1) }
+// Whether a cell is so far from the span's line that the centre of its neighbour to the east lies on the same side of it.
+fn is_far_eastward(g: SpanGeometry, cell: WalkPosition) -> bool
+    requires { Sound g × (cell.x < max_side) × (cell.y < max_side) }
+    ensures { result ≡ true → Uncut (segment_of g) (at cell.x cell.y) (at 2 1) }
 {
-    exceeds(side_of(g, x, y), PIXELS_PER_WALK_CELL * (g.max_y - g.min_y))
+    exceeds(side_of(g, cell), PIXELS_PER_WALK_CELL * (g.max_y - g.min_y))
 }
 
-// Whether the cell south of (x, y) is there and walkable. Every step to the next row asks for it.
-fn walks_south(width: usize, height: usize, cells: &[u8], x: usize, y: usize) -> bool
-    requires { (width ≤ max_side) × (height ≤ max_side) × (length cells.now ≡ height * width) × (x < width) × (y < height) }
-    ensures { result ≡ walkable (grid_of width height cells.now) (at x (y + 1)) }
+// Whether the cell (x, y) of the grid is walkable.
+fn is_walkable(grid: TerrainGrid, x: usize, y: usize) -> bool
+    requires { InGrid grid.width grid.height grid.cells.now x y }
+    ensures { result ≡ walkable (terrain_of grid.entry) (at x y) }
 {
-    if height <= y + 1 {
-        return false;
-    }
-    cells[(y + 1) * width + x] % 2 == 1
+    grid.cells[y * grid.width + x] % 2 == 1
 }
 
-// Whether (x, y) is walkable and may have a cut step to a cell of larger number: of most candidates these tests say that it has none.
-pub fn is_near(
-    width: usize,
-    height: usize,
-    cells: &[u8],
-    g: SpanGeometry,
-    x: usize,
-    y: usize,
-) -> bool
-    requires { CellAsked width height cells.now g x y }
-    ensures where_true { result ≡ true → walkable (grid_of width height cells.now) (at x y) ≡ true }
-    ensures where_false { result ≡ false → CutDirections width height cells.now (segment_of g) x y 0 }
+// Whether the cell south of a cell is there and walkable. Every step to the next row asks for it.
+fn walks_south(grid: TerrainGrid, cell: WalkPosition) -> bool
+    requires { InGrid grid.width grid.height grid.cells.now cell.x cell.y }
+    ensures { result ≡ walkable (terrain_of grid.entry) (at cell.x (cell.y + 1)) }
 {
-    if cells[y * width + x] % 2 != 1 {
+    if grid.height <= cell.y + 1 {
         return false;
     }
-    if is_far(g, x, y) {
+    is_walkable(grid, cell.x, cell.y + 1)
+}
+
+// Whether a cell is walkable and may have a cut step to a cell of larger number: of most candidates these tests say that it has none.
+pub fn is_near(grid: TerrainGrid, g: SpanGeometry, cell: WalkPosition) -> bool
+    requires { CellAsked grid.width grid.height grid.cells.now g cell.x cell.y }
+    ensures where_true { result ≡ true → walkable (terrain_of grid.entry) (at cell.x cell.y) ≡ true }
+    ensures where_false { result ≡ false →
+        CutDirections grid.entry.width grid.entry.height grid.entry.cells.now (segment_of g) cell.x cell.y 0 }
+{
+    if !is_walkable(grid, cell.x, cell.y) {
         return false;
     }
-    if walks_south(width, height, cells, x, y) {
+    if is_far(g, cell) {
+        return false;
+    }
+    if walks_south(grid, cell) {
         return true;
     }
-    !is_far_eastward(g, x, y)
+    !is_far_eastward(g, cell)
 }
 
-// Whether the step from the walkable (x, y) in a direction to cells of larger number is there and is cut.
+// Whether the step from a walkable cell in a direction to cells of larger number is there and is cut.
 fn is_cut_onward(
-    width: usize,
-    height: usize,
-    cells: &[u8],
+    grid: TerrainGrid,
     g: SpanGeometry,
     inner: bool,
-    x: usize,
-    y: usize,
-    dx: usize,
-    dy: usize,
+    cell: WalkPosition,
+    direction: Direction,
 ) -> bool
-    requires asked { OnwardAsked width height cells.now g x y dx dy }
-    requires inner_cell { inner ≡ true → Inner width height x y }
-    ensures { result ≡ is_cut_onward (grid_of width height cells.now) (segment_of g) (at x y) (at dx dy) }
+    requires asked { OnwardAsked grid.width grid.height grid.cells.now g cell.x cell.y direction.dx direction.dy }
+    requires inner_cell { inner ≡ true → Inner grid.width grid.height cell.x cell.y }
+    ensures { result ≡ is_cut_onward (terrain_of grid.entry) (segment_of g) (at cell.x cell.y) (at direction.dx direction.dy) }
 {
-    if !is_inside(inner, width, height, x, y, dx, dy) {
+    if !grid.is_inside(inner, cell, direction) {
         return false;
     }
-    if !is_step(width, height, cells, x, y, dx, dy) {
+    if !grid.is_step(cell, direction) {
         return false;
     }
-    g.cuts(x as u64, y as u64, (x + dx - 1) as u64, (y + dy - 1) as u64)
+    let WalkPosition { x, y } = cell;
+    g.cuts(
+        x as u64,
+        y as u64,
+        (x + direction.dx - 1) as u64,
+        (y + direction.dy - 1) as u64,
+    )
 }
 
-// Whether the step east from the walkable (x, y) is there and is cut. Beside a flat span most are ruled out by the first test.
-fn is_cut_east(
-    width: usize,
-    height: usize,
-    cells: &[u8],
-    g: SpanGeometry,
-    inner: bool,
-    x: usize,
-    y: usize,
-) -> bool
-    requires asked { OnwardAsked width height cells.now g x y 2 1 }
-    requires inner_cell { inner ≡ true → Inner width height x y }
-    ensures { result ≡ is_cut_onward (grid_of width height cells.now) (segment_of g) (at x y) (at 2 1) }
+// Whether the step east from a walkable cell is there and is cut. Beside a flat span most are ruled out by the first test.
+fn is_cut_east(grid: TerrainGrid, g: SpanGeometry, inner: bool, cell: WalkPosition) -> bool
+    requires asked { OnwardAsked grid.width grid.height grid.cells.now g cell.x cell.y 2 1 }
+    requires inner_cell { inner ≡ true → Inner grid.width grid.height cell.x cell.y }
+    ensures { result ≡ is_cut_onward (terrain_of grid.entry) (segment_of g) (at cell.x cell.y) (at 2 1) }
 {
-    if is_far_eastward(g, x, y) {
+    if is_far_eastward(g, cell) {
         return false;
     }
-    is_cut_onward(width, height, cells, g, inner, x, y, 2, 1)
+    is_cut_onward(grid, g, inner, cell, EAST)
 }
 
 // The value where the test holds, else 0.
@@ -147,47 +143,33 @@ fn onward_mask(east: bool, south_west: bool, south: bool, south_east: bool) -> u
     value_if(east, 32) + value_if(south_west, 64) + value_if(south, 128) + value_if(south_east, 256)
 }
 
-// The directions of the walkable (x, y) in which a step leads to a cell of larger number and is cut, a bit for each.
-pub fn cut_directions(
-    width: usize,
-    height: usize,
-    cells: &[u8],
-    g: SpanGeometry,
-    x: usize,
-    y: usize,
-) -> u16
-    requires asked { CellAsked width height cells.now g x y }
-    requires walkable_cell { walkable (grid_of width height cells.now) (at x y) ≡ true }
-    ensures { CutDirections width height cells.now (segment_of g) x y result }
+// The directions of a walkable cell in which a step leads to a cell of larger number and is cut, a bit for each.
+pub fn cut_directions(grid: TerrainGrid, g: SpanGeometry, cell: WalkPosition) -> u16
+    requires asked { CellAsked grid.width grid.height grid.cells.now g cell.x cell.y }
+    requires walkable_cell { walkable (terrain_of grid) (at cell.x cell.y) ≡ true }
+    ensures { CutDirections grid.entry.width grid.entry.height grid.entry.cells.now (segment_of g) cell.x cell.y result }
 {
-    let inner = is_inner(width, height, x, y);
+    let inner = grid.is_inner(cell);
     onward_mask(
-        is_cut_east(width, height, cells, g, inner, x, y),
-        is_cut_onward(width, height, cells, g, inner, x, y, 0, 2),
-        is_cut_onward(width, height, cells, g, inner, x, y, 1, 2),
-        is_cut_onward(width, height, cells, g, inner, x, y, 2, 2),
+        is_cut_east(grid, g, inner, cell),
+        is_cut_onward(grid, g, inner, cell, SOUTH_WEST),
+        is_cut_onward(grid, g, inner, cell, SOUTH),
+        is_cut_onward(grid, g, inner, cell, SOUTH_EAST),
     )
 }
 
-// Whether the cell (x, y) of the grid is walkable.
-fn is_walkable(width: usize, height: usize, cells: &[u8], x: usize, y: usize) -> bool
-    requires { InGrid width height cells.now x y }
-    ensures { result ≡ walkable (grid_of width height cells.now) (at x y) }
+// The steps from a walkable cell to cells of larger number, a bit for each, where all cells about it but those of the row before are in the grid.
+fn steps_inside(grid: TerrainGrid, cell: WalkPosition) -> u16
+    requires asked { InGrid grid.width grid.height grid.cells.now cell.x cell.y × (walkable (terrain_of grid) (at cell.x cell.y) ≡ true) }
+    requires inside { (1 ≤ cell.x) × (cell.x + 1 < grid.width) × (cell.y + 1 < grid.height) }
+    ensures { result ≡ steps_onward (terrain_of grid.entry) (at cell.x cell.y) }
 {
-    cells[y * width + x] % 2 == 1
-}
-
-// The steps from the walkable (x, y) to cells of larger number, a bit for each, where all cells about it but those of the row before are in the grid.
-fn steps_inside(width: usize, height: usize, cells: &[u8], x: usize, y: usize) -> u16
-    requires asked { InGrid width height cells.now x y × (walkable (grid_of width height cells.now) (at x y) ≡ true) }
-    requires inside { (1 ≤ x) × (x + 1 < width) × (y + 1 < height) }
-    ensures { result ≡ steps_onward (grid_of width height cells.now) (at x y) }
-{
-    let east = is_walkable(width, height, cells, x + 1, y);
-    let south = is_walkable(width, height, cells, x, y + 1);
-    let west = is_walkable(width, height, cells, x - 1, y);
-    let south_west = is_walkable(width, height, cells, x - 1, y + 1);
-    let south_east = is_walkable(width, height, cells, x + 1, y + 1);
+    let WalkPosition { x, y } = cell;
+    let east = is_walkable(grid, x + 1, y);
+    let south = is_walkable(grid, x, y + 1);
+    let west = is_walkable(grid, x - 1, y);
+    let south_west = is_walkable(grid, x - 1, y + 1);
+    let south_east = is_walkable(grid, x + 1, y + 1);
     onward_mask(
         east,
         south_west & west & south,
@@ -196,39 +178,31 @@ fn steps_inside(width: usize, height: usize, cells: &[u8], x: usize, y: usize) -
     )
 }
 
-// Whether the step from the walkable (x, y) in a direction is there.
-fn is_there(
-    width: usize,
-    height: usize,
-    cells: &[u8],
-    x: usize,
-    y: usize,
-    dx: usize,
-    dy: usize,
-) -> bool
-    requires asked { InGrid width height cells.now x y × (walkable (grid_of width height cells.now) (at x y) ≡ true) }
-    requires near { (dx ≤ 2) × (dy ≤ 2) }
-    ensures { result ≡ is_step (grid_of width height cells.now) (at x y) (at dx dy) }
+// Whether the step from a walkable cell in a direction is there.
+fn is_there(grid: TerrainGrid, cell: WalkPosition, direction: Direction) -> bool
+    requires asked { InGrid grid.width grid.height grid.cells.now cell.x cell.y × (walkable (terrain_of grid) (at cell.x cell.y) ≡ true) }
+    requires near { (direction.dx ≤ 2) × (direction.dy ≤ 2) }
+    ensures { result ≡ is_step (terrain_of grid.entry) (at cell.x cell.y) (at direction.dx direction.dy) }
 {
-    if !is_inside(false, width, height, x, y, dx, dy) {
+    if !grid.is_inside(false, cell, direction) {
         return false;
     }
-    is_step(width, height, cells, x, y, dx, dy)
+    grid.is_step(cell, direction)
 }
 
-// The steps from the walkable (x, y) to cells of larger number, a bit for each.
-fn steps_onward(width: usize, height: usize, cells: &[u8], x: usize, y: usize) -> u16
-    requires { InGrid width height cells.now x y × (walkable (grid_of width height cells.now) (at x y) ≡ true) }
-    ensures { result ≡ steps_onward (grid_of width height cells.now) (at x y) }
+// The steps from a walkable cell to cells of larger number, a bit for each.
+fn steps_onward(grid: TerrainGrid, cell: WalkPosition) -> u16
+    requires { InGrid grid.width grid.height grid.cells.now cell.x cell.y × (walkable (terrain_of grid) (at cell.x cell.y) ≡ true) }
+    ensures { result ≡ steps_onward (terrain_of grid.entry) (at cell.x cell.y) }
 {
-    if (1 <= x) & (x + 1 < width) & (y + 1 < height) {
-        return steps_inside(width, height, cells, x, y);
+    if (1 <= cell.x) & (cell.x + 1 < grid.width) & (cell.y + 1 < grid.height) {
+        return steps_inside(grid, cell);
     }
     onward_mask(
-        is_there(width, height, cells, x, y, 2, 1),
-        is_there(width, height, cells, x, y, 0, 2),
-        is_there(width, height, cells, x, y, 1, 2),
-        is_there(width, height, cells, x, y, 2, 2),
+        is_there(grid, cell, EAST),
+        is_there(grid, cell, SOUTH_WEST),
+        is_there(grid, cell, SOUTH),
+        is_there(grid, cell, SOUTH_EAST),
     )
 }
 
@@ -278,25 +252,22 @@ pub fn side_changes(columns: bool, back: usize, ahead: usize, j: usize) -> u16
     (places % 16 * 32) as u16
 }
 
-// The directions of (x, y) in which a step leads to a cell of larger number and is cut, a bit for each, of a cell between the span's ends whose changes
+// The directions of a cell in which a step leads to a cell of larger number and is cut, a bit for each. The cell is between the span's ends, and its changes
 // of sides are given.
 pub fn crossed_directions(
-    width: usize,
-    height: usize,
-    cells: &[u8],
+    grid: TerrainGrid,
     g: SpanGeometry,
-    x: usize,
-    y: usize,
+    cell: WalkPosition,
     changes: u16,
 ) -> u16
-    requires asked { CellAsked width height cells.now g x y }
-    requires crossed { Crossed (segment_of g) (at x y) changes }
-    ensures { CutDirections width height cells.now (segment_of g) x y result }
+    requires asked { CellAsked grid.width grid.height grid.cells.now g cell.x cell.y }
+    requires crossed { Crossed (segment_of g) (at cell.x cell.y) changes }
+    ensures { CutDirections grid.entry.width grid.entry.height grid.entry.cells.now (segment_of g) cell.x cell.y result }
 {
-    if !is_walkable(width, height, cells, x, y) {
+    if !is_walkable(grid, cell.x, cell.y) {
         return 0;
     }
-    changes & steps_onward(width, height, cells, x, y)
+    changes & steps_onward(grid, cell)
 }
 
 // Whether bit k of a mask is set.

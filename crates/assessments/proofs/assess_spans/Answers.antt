@@ -9,7 +9,7 @@ use Rattle.grid_steps.specs.Walk.{grid_of}
 use Rattle.cut_steps.specs.CutSteps.{cut_span}
 use Rattle.cut_steps.proofs.Spans.{span_at-asked, span-asked}
 use Rattle.cut_steps.proofs.Shown.{shown_as}
-use Rattle.assessments.proofs.Spans.{lent, before_first, before_next, all_there, all-over}
+use Rattle.assessments.proofs.Spans.{before_first, before_next, all_there, all-over}
 use Rattle.assessments.proofs.assess_spans.Goals as goal
 
 pub loop-s-init : goal.loop-s-init
@@ -26,8 +26,8 @@ overflow_cast-s c =
 pub assess_span-a-requires : goal.assess_span-a-requires
 assess_span-a-requires c =
     let G = c.span_at-g.ensures in
-    let shown = shown_as (ap (cut_span (grid_of c.args.width c.args.height c.args.cells.now)) (sym G.segment)) (c.requires.asked.shown c.loop-s.s c.loop-s-test.true) in
-    record { lent = (lent c.requires.checked c.requires.asked, G.sound, (span-asked c.requires.checked c.loop-s-test.true G).differ, shown); first_within = c.loop-s.invariant.1.counted }
+    let shown = shown_as (ap (cut_span (grid_of c.args.grid.width c.args.grid.height c.args.grid.cells.now)) (sym G.segment)) (c.requires.asked.shown c.loop-s.s c.loop-s-test.true) in
+    record { asked = span-asked c.args.grid c.requires.checked c.loop-s-test.true G; labels_long = c.requires.asked.labels_long; shown = shown; first_within = c.loop-s.invariant.1.counted }
 
 pub overflow_mul-at : goal.overflow_mul-at
 overflow_mul-at c =

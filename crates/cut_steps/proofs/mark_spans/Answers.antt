@@ -1,8 +1,8 @@
 -- `mark_spans` meets its contract. The loop's invariant: the cut steps of the spans below i are marked. Assumes nothing.
 use native.Mathlib.Omega.{arith}
 use Rattle.definitions.specs.Scan.{gather}
-use Rattle.cut_steps.proofs.Marks.{marked_none}
-use Rattle.cut_steps.proofs.Spans.{span_at-asked, span-asked, mark-asked, spans_more, spans-done}
+use Rattle.cut_steps.specs.MarkVisits.{marked_none}
+use Rattle.cut_steps.proofs.Spans.{span_at-asked, span-asked, spans_more, spans-done}
 use Rattle.cut_steps.proofs.mark_spans.Goals as goal
 
 pub loop-i-init : goal.loop-i-init
@@ -14,8 +14,7 @@ span_at-requires c = span_at-asked c.requires.checked (omega (arith, c.loop-i-te
 
 pub mark_span-requires : goal.mark_span-requires
 mark_span-requires c =
-    let g = c.span_at.ensures in
-    (mark-asked c.requires.checked c.loop-i-test.true g c.requires.sizes.0 c.loop-i.invariant.1, span-asked c.requires.checked c.loop-i-test.true g)
+    record { asked = span-asked c.args.grid c.requires.checked c.loop-i-test.true c.span_at.ensures; masks_long = omega (arith, c.requires.sizes.0, c.loop-i.invariant.1.long) }
 
 pub loop-i-preserved : goal.loop-i-preserved
 loop-i-preserved c =

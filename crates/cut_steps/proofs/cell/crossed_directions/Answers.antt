@@ -13,8 +13,8 @@ use Rattle.cut_steps.proofs.cell.crossed_directions.Goals as goal
 pub returns-then-not-is_walkable : goal.returns-then-not-is_walkable
 returns-then-not-is_walkable c =
     let a = c.args in
-    let M = grid_of a.width a.height a.cells.now in
-    record { small = omega arith; bits = no_bits M (segment_of a.g) (at a.x a.y) (no_step M (segment_of a.g) (at a.x a.y) (sym c.is_walkable.ensures ∙ not-true _ c.if-not-is_walkable.true-raw)) }
+    let M = grid_of a.grid.width a.grid.height a.grid.cells.now in
+    record { small = omega arith; bits = no_bits M (segment_of a.g) (at a.cell.x a.cell.y) (no_step M (segment_of a.g) (at a.cell.x a.cell.y) (sym c.is_walkable.ensures ∙ not-true _ c.if-not-is_walkable.true-raw)) }
 
 pub steps_onward-requires : goal.steps_onward-requires
 steps_onward-requires c = (in_grid_of c.requires.asked, sym c.is_walkable.ensures ∙ not-false _ c.if-not-is_walkable.false-raw)

@@ -12,7 +12,7 @@ is_far_eastward-requires c = in_limits c.requires.asked.cell
 pub returns-then-is_far_eastward : goal.returns-then-is_far_eastward
 returns-then-is_far_eastward c =
     let a = c.args in
-    clear_of (grid_of a.width a.height a.cells.now) (segment_of a.g) (at a.x a.y) (at 2 1) (c.is_far_eastward.ensures c.if-is_far_eastward.true)
+    clear_of (grid_of a.grid.width a.grid.height a.grid.cells.now) (segment_of a.g) (at a.cell.x a.cell.y) (at 2 1) (c.is_far_eastward.ensures c.if-is_far_eastward.true)
 
 pub is_cut_onward-requires : goal.is_cut_onward-requires
 is_cut_onward-requires c = c.requires

@@ -11,4 +11,4 @@ not_negative-requires c = tt
 
 pub returns : goal.returns
 returns c =
-    far-span c.requires.0 (at c.args.x c.args.y) (to_z-of_z {w = w64} (record { sfits = c.side_of-side.type_inv }) ∙ c.side_of-side.ensures) refl refl c.exceeds.ensures c.not_negative.ensures c.exceeds-2.ensures
+    far-span c.requires.0 (at c.args.cell.x c.args.cell.y) (to_z-of_z {w = w64} (record { sfits = c.side_of-side.type_inv }) ∙ c.side_of-side.ensures) refl refl c.exceeds.ensures c.not_negative.ensures c.exceeds-2.ensures

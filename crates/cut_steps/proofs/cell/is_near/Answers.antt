@@ -3,23 +3,20 @@
 use native.Mathlib.Omega.{arith}
 use mathlib.Core.Path.{sym, ◌∙◌}
 use mathlib.Core.Bool.{true≢false, false≢true}
-use borrow.Author.Tests.{not-false}
+use borrow.Author.Tests.{not-true, not-false}
+use Rattle.definitions.specs.Grid.{at}
 use Rattle.span_geometry.specs.Shapes.{segment_of}
-use Rattle.cut_steps.proofs.Cells.{in_grid, in_limits, walks, no_directions, far-directions, east-directions}
+use Rattle.cut_steps.proofs.Cells.{in_limits, no_directions, far-directions, east-directions}
+use Rattle.cut_steps.proofs.Steps.{in_grid_of}
 use Rattle.cut_steps.proofs.cell.is_near.Goals as goal
 
-pub overflow_mul-y : goal.overflow_mul-y
-overflow_mul-y c = omega (arith, in_grid c.requires)
+pub is_walkable-requires : goal.is_walkable-requires
+is_walkable-requires c = in_grid_of c.requires
 
-pub overflow_add-y : goal.overflow_add-y
-overflow_add-y c = omega (arith, in_grid c.requires)
-
-pub bounds-cells-y : goal.bounds-cells-y
-bounds-cells-y c = omega (arith, in_grid c.requires, c.requires.cells_long)
-
-pub returns-then-cells-y-ne1 : goal.returns-then-cells-y-ne1
-returns-then-cells-y-ne1 c =
-    record { where_true = λ e. absurd (false≢true e); where_false = λ e. no_directions c.requires (segment_of c.args.g) c.if-cells-y-ne1.true }
+pub returns-then-not-is_walkable : goal.returns-then-not-is_walkable
+returns-then-not-is_walkable c =
+    let a = c.args in
+    record { where_true = λ e. absurd (false≢true e); where_false = λ e. no_directions a.grid.width a.grid.height a.grid.cells.now (segment_of a.g) a.cell.x a.cell.y (sym c.is_walkable.ensures ∙ not-true _ c.if-not-is_walkable.true-raw) }
 
 pub is_far-requires : goal.is_far-requires
 is_far-requires c = in_limits c.requires
@@ -27,11 +24,14 @@ is_far-requires c = in_limits c.requires
 pub returns-then-is_far : goal.returns-then-is_far
 returns-then-is_far c =
     let a = c.args in
-    record { where_true = λ e. absurd (false≢true e); where_false = λ e. far-directions a.width a.height a.cells.now (segment_of a.g) a.x a.y (c.is_far.ensures c.if-is_far.true) }
+    record { where_true = λ e. absurd (false≢true e); where_false = λ e. far-directions a.grid.width a.grid.height a.grid.cells.now (segment_of a.g) a.cell.x a.cell.y (c.is_far.ensures c.if-is_far.true) }
+
+pub walks_south-requires : goal.walks_south-requires
+walks_south-requires c = in_grid_of c.requires
 
 pub returns-then-walks_south : goal.returns-then-walks_south
 returns-then-walks_south c =
-    record { where_true = λ e. walks c.requires c.if-cells-y-ne1.false; where_false = λ e. absurd (true≢false e) }
+    record { where_true = λ e. sym c.is_walkable.ensures ∙ not-false _ c.if-not-is_walkable.false-raw; where_false = λ e. absurd (true≢false e) }
 
 pub is_far_eastward-requires : goal.is_far_eastward-requires
 is_far_eastward-requires c =
@@ -40,4 +40,7 @@ is_far_eastward-requires c =
 pub returns : goal.returns
 returns c =
     let a = c.args in
-    record { where_true = λ e. walks c.requires c.if-cells-y-ne1.false; where_false = λ e. east-directions a.width a.height a.cells.now (segment_of a.g) a.x a.y (sym c.walks_south.ensures ∙ c.if-walks_south.false) (c.is_far_eastward.ensures (not-false _ e)) }
+    record {
+      where_true = λ e. sym c.is_walkable.ensures ∙ not-false _ c.if-not-is_walkable.false-raw;
+      where_false = λ e. east-directions a.grid.width a.grid.height a.grid.cells.now (segment_of a.g) a.cell.x a.cell.y (sym c.walks_south.ensures ∙ c.if-walks_south.false) (c.is_far_eastward.ensures (not-false _ e));
+    }

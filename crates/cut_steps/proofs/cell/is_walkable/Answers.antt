@@ -11,10 +11,10 @@ overflow_mul-result c = omega (arith, in_cells c.requires)
 pub overflow_add-result : goal.overflow_add-result
 overflow_add-result c = omega (arith, in_cells c.requires)
 
-pub bounds-cells-y : goal.bounds-cells-y
-bounds-cells-y c = omega (arith, in_cells c.requires, c.requires.cells_long)
+pub bounds-grid-y : goal.bounds-grid-y
+bounds-grid-y c = omega (arith, in_cells c.requires, c.requires.cells_long)
 
 pub returns : goal.returns
 returns c =
     let a = c.args in
-    sym (walkable_at_lem a.width a.height a.cells.now a.x a.y c.requires.in_x c.requires.in_y)
+    sym (walkable_at_lem a.grid.width a.grid.height a.grid.cells.now a.x a.y c.requires.in_x c.requires.in_y)

@@ -15,4 +15,4 @@ returns c =
     let south-west = c.is_walkable-south_west.ensures in
     let south-east = c.is_walkable-south_east.ensures in
     c.onward_mask.ensures ∙ (λ i. onward_mask (east i) (south-west i && west i && south i) (south i) (south-east i && east i && south i))
-    ∙ inside-steps (grid_of a.width a.height a.cells.now) a.x a.y c.requires.asked.1 c.requires.inside.0
+    ∙ inside-steps (grid_of a.grid.width a.grid.height a.grid.cells.now) a.cell.x a.cell.y c.requires.asked.1 c.requires.inside.0

@@ -8,10 +8,10 @@ use Rattle.cut_steps.proofs.cell.steps_onward.Goals as goal
 pub steps_inside-requires : goal.steps_inside-requires
 steps_inside-requires c =
     let a = c.args in
-    record { asked = c.requires; inside = tests a.x a.width a.y a.height c.if-x-width.true }
+    record { asked = c.requires; inside = tests a.cell.x a.grid.width a.cell.y a.grid.height c.if-cell-grid.true }
 
-pub returns-then-x-width : goal.returns-then-x-width
-returns-then-x-width c = c.steps_inside.ensures
+pub returns-then-cell-grid : goal.returns-then-cell-grid
+returns-then-cell-grid c = c.steps_inside.ensures
 
 pub returns : goal.returns
 unfolding steps_onward

@@ -1,0 +1,85 @@
+// The grid of a map, as lent, its cells and the directions of its steps, those of `neighbors` of lib.rs.
+ghost use Rattle.std.specs.Prelude.{◌≡◌, true, ◌≤◌, ◌<◌};
+ghost use Rattle.definitions.specs.Grid.{at, is_step};
+ghost use Rattle.grid_steps.specs.Grids.{terrain_of};
+ghost use Rattle.grid_steps.specs.Inner.{Nearby, Inner, Inside, Says, Stepping};
+
+// `TerrainGrid` of lib.rs: its sides, and a byte for each cell, row by row.
+#[derive(Clone, Copy)]
+pub struct TerrainGrid<'a> {
+    pub width: usize,
+    pub height: usize,
+    pub cells: &'a [u8],
+}
+
+// `WalkPosition` of lib.rs: a cell.
+#[derive(Clone, Copy)]
+pub struct WalkPosition {
+    pub x: usize,
+    pub y: usize,
+}
+
+// A direction, moved by (1, 1): each number is 0, 1 or 2.
+#[derive(Clone, Copy)]
+pub struct Direction {
+    pub dx: usize,
+    pub dy: usize,
+}
+
+// The four directions to cells of larger number.
+pub const EAST: Direction = Direction { dx: 2, dy: 1 };
+
+pub const SOUTH_WEST: Direction = Direction { dx: 0, dy: 2 };
+
+pub const SOUTH: Direction = Direction { dx: 1, dy: 2 };
+
+pub const SOUTH_EAST: Direction = Direction { dx: 2, dy: 2 };
+
+impl TerrainGrid<'_> {
+    // Whether every neighbour of a cell is in the grid.
+    pub fn is_inner(self, cell: WalkPosition) -> bool
+        requires { (self.width ≤ 1024) × (self.height ≤ 1024) × (cell.x < self.width) × (cell.y < self.height) }
+        ensures { result ≡ true → Inner self.entry.width self.entry.height cell.x cell.y }
+    {
+        1 <= cell.x && 1 <= cell.y && cell.x + 1 < self.width && cell.y + 1 < self.height
+    }
+
+    // Whether the position in a direction of a cell is in the grid; it is where `inner` says that every neighbour is.
+    pub fn is_inside(self, inner: bool, cell: WalkPosition, direction: Direction) -> bool
+        requires nearby { Nearby self.width self.height cell.x cell.y direction.dx direction.dy }
+        requires inner_cell { inner ≡ true → Inner self.width self.height cell.x cell.y }
+        ensures { Says result (Inside self.entry.width self.entry.height cell.x cell.y direction.dx direction.dy) }
+    {
+        if inner {
+            return true;
+        }
+        let Direction { dx, dy } = direction;
+        if cell.x + dx < 1 {
+            return false;
+        }
+        if cell.y + dy < 1 {
+            return false;
+        }
+        if self.width < cell.x + dx {
+            return false;
+        }
+        cell.y + dy <= self.height
+    }
+
+    // Whether a step joins a walkable cell and its neighbour in a direction. Of a straight step the two side cells are the two cells themselves.
+    pub fn is_step(self, cell: WalkPosition, direction: Direction) -> bool
+        requires { Stepping self.width self.height self.cells.now cell.x cell.y direction.dx direction.dy }
+        ensures { result ≡ is_step (terrain_of self.entry) (at cell.x cell.y) (at direction.dx direction.dy) }
+    {
+        let WalkPosition { x, y } = cell;
+        let i = x + direction.dx - 1;
+        let j = y + direction.dy - 1;
+        if self.cells[j * self.width + i] % 2 != 1 {
+            return false;
+        }
+        if self.cells[y * self.width + i] % 2 != 1 {
+            return false;
+        }
+        self.cells[j * self.width + x] % 2 == 1
+    }
+}
