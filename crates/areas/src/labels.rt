@@ -1,8 +1,10 @@
 // The regions of a map cut by spans: the masks of cut steps, then the labels of what they leave joined.
-ghost use Rattle.std.specs.Prelude.{◌*◌, ◌≤◌, length};
+ghost use Rattle.std.specs.Prelude.{◌*◌, ◌≡◌, ◌≤◌, length};
 ghost use Rattle.cut_steps.specs.Contract.{Checked};
 ghost use Rattle.areas.specs.Labelled.{LabelledAs};
+ghost use Rattle.areas.specs.Lists.{SameReferences};
 
+use crate::lists::PartitionLists;
 use cut_steps::mark_spans;
 use row_runs::label_cells;
 
@@ -12,17 +14,17 @@ pub fn label_regions(
     height: usize,
     cells: &[u8],
     spans: &[u64],
-    labels: &mut [u32],
-    masks: &mut [u16],
-    queue: &mut [u32],
+    lists: &mut PartitionLists,
 ) -> usize
     requires checked { Checked width height cells.now spans.now }
-    requires room { (height * width ≤ length labels.old) × (height * width ≤ length masks.old) × (height * width ≤ length queue.old) }
-    ensures { LabelledAs width height cells.now spans.now labels.old masks.old queue.old
-        labels.new masks.new queue.new result }
+    requires room { (height * width ≤ length lists.old.labels.now) × (height * width ≤ length lists.old.masks.now) × (height * width ≤ length lists.old.queue.now) }
+    ensures labelled { LabelledAs width height cells.now spans.now lists.old.labels.now lists.old.masks.now lists.old.queue.now
+        lists.new.labels.now lists.new.masks.now lists.new.queue.now result }
+    ensures others { (lists.new.tallies.now ≡ lists.old.tallies.now) × (lists.new.pairs.now ≡ lists.old.pairs.now) }
+    ensures same { SameReferences lists.old lists.new }
 {
     let needed = height * width;
-    masks[..needed].fill(0);
-    mark_spans(width, height, cells, spans, masks);
-    label_cells(width, height, cells, masks, labels, queue)
+    lists.masks[..needed].fill(0);
+    mark_spans(width, height, cells, spans, lists.masks);
+    label_cells(width, height, cells, lists.masks, lists.labels, lists.queue)
 }

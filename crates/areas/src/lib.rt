@@ -4,15 +4,18 @@
 
 pub mod checked;
 pub mod labels;
+pub mod lists;
 
 ghost use Rattle.std.specs.Prelude.{length};
 ghost use Rattle.areas.specs.Contract.{given, Ran};
 ghost use Rattle.areas.specs.Divided.{Divided};
 ghost use Rattle.areas.specs.Fit.{Fit};
+ghost use Rattle.areas.specs.Lists.{of_lists, SameReferences};
 
 use assessments::assess_spans;
 use checked::checks_before;
 use labels::label_regions;
+use lists::PartitionLists;
 use refusals::{Cause, Refusal};
 
 // The partition of lists that no check before it refuses. Where there are more pairs than rows, the answer is refusal 12.
@@ -21,26 +24,31 @@ fn divide(
     height: usize,
     cells: &[u8],
     spans: &[u64],
-    labels: &mut [u32],
-    masks: &mut [u16],
-    queue: &mut [u32],
-    tallies: &mut [u32],
-    pairs: &mut [u32],
+    lists: &mut PartitionLists,
 ) -> Result<usize, Refusal>
-    requires { Fit width height cells.now spans.now (length labels.old) (length masks.old) (length queue.old) (length tallies.old) }
-    ensures { Divided width height cells.now spans.now labels.old masks.old queue.old
-        tallies.old pairs.old result labels.new masks.new queue.new tallies.new
-        pairs.new }
+    requires { Fit width height cells.now spans.now
+        (length lists.old.labels.now) (length lists.old.masks.now) (length lists.old.queue.now) (length lists.old.tallies.now) }
+    ensures divided { of_lists (of_lists (Divided width height cells.now spans.now) lists.old result) lists.new }
+    ensures same { SameReferences lists.old lists.new }
 {
     let needed = height * width;
-    let regions = label_regions(width, height, cells, spans, labels, masks, queue);
-    queue[..needed].fill(0);
-    let rows = assess_spans(width, height, cells, &*masks, spans, labels, tallies, pairs);
-    masks[..needed].fill(0);
+    let regions = label_regions(width, height, cells, spans, lists);
+    lists.queue[..needed].fill(0);
+    let rows = assess_spans(
+        width,
+        height,
+        cells,
+        &*lists.masks,
+        spans,
+        lists.labels,
+        lists.tallies,
+        lists.pairs,
+    );
+    lists.masks[..needed].fill(0);
     match rows {
         Some(_) => Ok(regions),
         None => {
-            pairs.fill(0);
+            lists.pairs.fill(0);
             Err(Refusal {
                 cause: Cause::Pairs,
                 place: 0,
@@ -55,35 +63,11 @@ pub fn partition(
     height: u64,
     cells: &[u8],
     spans: &[u64],
-    labels: &mut [u32],
-    masks: &mut [u16],
-    queue: &mut [u32],
-    tallies: &mut [u32],
-    pairs: &mut [u32],
+    lists: &mut PartitionLists,
 ) -> Result<usize, Refusal>
-    ensures { Ran (given width height cells.now spans.now labels.old masks.old queue.old
-        tallies.old pairs.old) result labels.new masks.new queue.new tallies.new
-        pairs.new }
+    ensures ran { of_lists (Ran (of_lists (given width height cells.now spans.now) lists.old) result) lists.new }
+    ensures same { SameReferences lists.old lists.new }
 {
-    checks_before(
-        width,
-        height,
-        cells,
-        spans,
-        labels.len(),
-        masks.len(),
-        queue.len(),
-        tallies.len(),
-    )?;
-    divide(
-        width as usize,
-        height as usize,
-        cells,
-        spans,
-        labels,
-        masks,
-        queue,
-        tallies,
-        pairs,
-    )
+    checks_before(width, height, cells, spans, &*lists)?;
+    divide(width as usize, height as usize, cells, spans, lists)
 }

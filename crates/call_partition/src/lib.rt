@@ -3,14 +3,19 @@
 
 #![tactic(auto)]
 
+pub mod asked;
 pub mod checked;
 pub mod scratch;
 
 ghost use Rattle.std.specs.Prelude.{length};
 ghost use Rattle.areas.specs.Fit.{Fit};
+ghost use Rattle.areas.specs.Lists.{of_lists, SameReferences};
+ghost use Rattle.call_partition.specs.Asking.{of_asked};
 ghost use Rattle.call_partition.specs.Prepared.{PreparedAs, DividedAs};
 
 use areas::labels::label_regions;
+use areas::lists::PartitionLists;
+use asked::Asked;
 use assessments::{TALLIES_PER_SPAN, assess_spans};
 use checked::checks_before;
 use checks::limits::NUMBERS_PER_SPAN;
@@ -32,33 +37,39 @@ pub fn divide(
     cells: &[u8],
     spans: &[u64],
     room: usize,
-    labels: &mut [u32],
-    masks: &mut [u16],
-    queue: &mut [u32],
-    tallies: &mut [u32],
-    pairs: &mut [u32],
+    lists: &mut PartitionLists,
 ) -> Result<Ready, Refusal>
-    requires { Fit width height cells.now spans.now (length labels.old) (length masks.old) (length queue.old) (length tallies.old) }
-    ensures { DividedAs width height cells.now spans.now room labels.old masks.old
-        queue.old tallies.old pairs.old result
-        labels.new masks.new queue.new tallies.new pairs.new }
+    requires { Fit width height cells.now spans.now
+        (length lists.old.labels.now) (length lists.old.masks.now) (length lists.old.queue.now) (length lists.old.tallies.now) }
+    ensures divided { of_lists (of_lists (DividedAs width height cells.now spans.now room) lists.old result) lists.new }
+    ensures same { SameReferences lists.old lists.new }
 {
     let needed = height * width;
-    let regions = label_regions(width, height, cells, spans, labels, masks, queue);
+    let regions = label_regions(width, height, cells, spans, lists);
     if room < regions {
-        clear_scratch(masks, queue, needed);
+        clear_scratch(lists.masks, lists.queue, needed);
         let filled = TALLIES_PER_SPAN * (spans.len() / NUMBERS_PER_SPAN);
-        tallies[..filled].fill(0);
+        lists.tallies[..filled].fill(0);
         return Err(Refusal {
             cause: Cause::Regions,
             place: 0,
         });
     }
-    match assess_spans(width, height, cells, &*masks, spans, labels, tallies, pairs) {
+    let rows = assess_spans(
+        width,
+        height,
+        cells,
+        &*lists.masks,
+        spans,
+        lists.labels,
+        lists.tallies,
+        lists.pairs,
+    );
+    match rows {
         Some(rows) => Ok(Ready { regions, rows }),
         None => {
-            clear_scratch(masks, queue, needed);
-            pairs.fill(0);
+            clear_scratch(lists.masks, lists.queue, needed);
+            lists.pairs.fill(0);
             Err(Refusal {
                 cause: Cause::Pairs,
                 place: 0,
@@ -70,48 +81,21 @@ pub fn divide(
 // All that comes before the records: `room` records and an output of length `output` are lent.
 pub fn prepare(
     pass: u64,
-    width: u64,
-    height: u64,
-    cells: &[u8],
-    spans: &[u64],
-    boundaries: &[u64],
-    anchors: &[u64],
+    asked: Asked,
     room: usize,
     output: usize,
-    labels: &mut [u32],
-    masks: &mut [u16],
-    queue: &mut [u32],
-    tallies: &mut [u32],
-    pairs: &mut [u32],
+    lists: &mut PartitionLists,
 ) -> Result<Ready, Refusal>
-    ensures { PreparedAs pass width height cells.now spans.now boundaries.now anchors.now room
-        output labels.old masks.old queue.old tallies.old pairs.old result
-        labels.new masks.new queue.new tallies.new pairs.new }
+    ensures prepared { of_lists (of_lists (of_asked (PreparedAs pass) asked.entry room output) lists.old result) lists.new }
+    ensures same { SameReferences lists.old lists.new }
 {
-    checks_before(
-        pass,
-        width,
-        height,
-        cells,
-        spans,
-        boundaries,
-        anchors,
-        labels.len(),
-        masks.len(),
-        queue.len(),
-        tallies.len(),
-        output,
-    )?;
+    checks_before(pass, asked, &*lists, output)?;
     divide(
-        width as usize,
-        height as usize,
-        cells,
-        spans,
+        asked.width as usize,
+        asked.height as usize,
+        asked.cells,
+        asked.spans,
         room,
-        labels,
-        masks,
-        queue,
-        tallies,
-        pairs,
+        lists,
     )
 }
