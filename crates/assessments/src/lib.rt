@@ -23,6 +23,7 @@ ghost use Rattle.assessments.specs.Contract.{AssessAsked, SpansAssessed};
 use cut_steps::cell::{cut_directions, is_near, is_set, side_changes};
 use cut_steps::extents::near_range;
 use cut_steps::{NUMBERS_PER_SPAN, is_placed, part_end, parts_of, pick, span_at};
+use grid_steps::grid::TerrainGrid;
 use line_crossings::{first_place, next_place, tie_of};
 use region_pairs::{NUMBERS_PER_PAIR, put_pair};
 use span_geometry::SpanGeometry;
@@ -451,25 +452,33 @@ fn assess_span(
 // Assesses every span by the labels of the partition and the masks of cut steps: two tallies a span, and the rows of pairs as far as there is room. Gives how many rows
 // there are, or none where they are more than the list has room for.
 pub fn assess_spans(
-    width: usize,
-    height: usize,
-    cells: &[u8],
+    grid: TerrainGrid,
     masks: &[u16],
     spans: &[u64],
     labels: &[u32],
     tallies: &mut [u32],
     pairs: &mut [u32],
 ) -> Option<usize>
-    requires checked { Checked width height cells.now spans.now }
-    requires asked { AssessAsked width height cells.now masks.now spans.now labels.now tallies.old }
-    ensures { SpansAssessed width height cells.now spans.now labels.now tallies.old
+    requires checked { Checked grid.width grid.height grid.cells.now spans.now }
+    requires asked { AssessAsked grid.width grid.height grid.cells.now masks.now spans.now labels.now tallies.old }
+    ensures { SpansAssessed grid.entry.width grid.entry.height grid.entry.cells.now spans.now labels.now tallies.old
         pairs.old tallies.new pairs.new result }
 {
     let count = spans.len() / NUMBERS_PER_SPAN;
     let mut end = 0;
     for s in 0..count {
         let g = span_at(spans, s);
-        let a = assess_span(width, height, cells, masks, labels, pairs, g, s as u32, end);
+        let a = assess_span(
+            grid.width,
+            grid.height,
+            grid.cells,
+            masks,
+            labels,
+            pairs,
+            g,
+            s as u32,
+            end,
+        );
         let at = TALLIES_PER_SPAN * s;
         tallies[at] = a.removed;
         tallies[at + 1] = a.separated;

@@ -20,6 +20,7 @@ ghost use Rattle.cut_steps.specs.Marking.{MarkAsked, SpanAsked, SpanAtAsked, Mar
 
 use cell::{crossed_directions, cut_directions, is_near, side_changes};
 use extents::{near_axis, near_range};
+use grid_steps::grid::TerrainGrid;
 use line_crossings::{first_place, next_place, tie_of};
 use span_geometry::strips::Strip;
 use span_geometry::{PIXELS_PER_WALK_CELL, SpanGeometry};
@@ -316,13 +317,19 @@ pub fn span_at(spans: &[u64], i: usize) -> SpanGeometry
 }
 
 // The cut steps of all spans, in masks of zeros.
-pub fn mark_spans(width: usize, height: usize, cells: &[u8], spans: &[u64], masks: &mut [u16])
-    requires checked { Checked width height cells.now spans.now }
-    requires sizes { (height * width ≤ length masks.old) × ((c : ℕ) → c < height * width → get_or masks.old c 0 ≡ 0) }
-    ensures { SpansMarked width height cells.now spans.now masks.old masks.new }
+pub fn mark_spans(grid: TerrainGrid, spans: &[u64], masks: &mut [u16])
+    requires checked { Checked grid.width grid.height grid.cells.now spans.now }
+    requires sizes { (grid.height * grid.width ≤ length masks.old) × ((c : ℕ) → c < grid.height * grid.width → get_or masks.old c 0 ≡ 0) }
+    ensures { SpansMarked grid.entry.width grid.entry.height grid.entry.cells.now spans.now masks.old masks.new }
 {
     let count = spans.len() / NUMBERS_PER_SPAN;
     for i in 0..count {
-        mark_span(width, height, cells, span_at(spans, i), masks);
+        mark_span(
+            grid.width,
+            grid.height,
+            grid.cells,
+            span_at(spans, i),
+            masks,
+        );
     }
 }

@@ -2,6 +2,8 @@
 
 #![tactic(auto)]
 
+pub mod grid;
+
 ghost use Rattle.std.specs.Prelude.{◌≡◌, true, ◌≤◌, ◌<◌, length};
 ghost use Rattle.definitions.specs.Grid.{at, is_step};
 ghost use Rattle.grid_steps.specs.Masks.{cut_bit};

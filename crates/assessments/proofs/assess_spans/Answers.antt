@@ -26,7 +26,7 @@ overflow_cast-s c =
 pub assess_span-a-requires : goal.assess_span-a-requires
 assess_span-a-requires c =
     let G = c.span_at-g.ensures in
-    let shown = shown_as (ap (cut_span (grid_of c.args.width c.args.height c.args.cells.now)) (sym G.segment)) (c.requires.asked.shown c.loop-s.s c.loop-s-test.true) in
+    let shown = shown_as (ap (cut_span (grid_of c.args.grid.width c.args.grid.height c.args.grid.cells.now)) (sym G.segment)) (c.requires.asked.shown c.loop-s.s c.loop-s-test.true) in
     record { lent = (lent c.requires.checked c.requires.asked, G.sound, (span-asked c.requires.checked c.loop-s-test.true G).differ, shown); first_within = c.loop-s.invariant.1.counted }
 
 pub overflow_mul-at : goal.overflow_mul-at

@@ -5,4 +5,4 @@ use Rattle.assessments.proofs.Spans.{Before}
 use Rattle.assessments.proofs.assess_spans.Given as goal
 
 abbrev pub invariant-loop-s : goal.invariant-loop-s
-invariant-loop-s l = (l.s ≤ l.count) × Before l.width l.height l.cells l.spans l.labels l.initial.tallies l.initial.pairs l.s l.tallies l.pairs l.end
+invariant-loop-s l = (l.s ≤ l.count) × Before l.grid.width l.grid.height l.grid.cells.now l.spans l.labels l.initial.tallies l.initial.pairs l.s l.tallies l.pairs l.end

@@ -8,7 +8,7 @@ use Rattle.cut_steps.proofs.mark_spans.Given as goal
 
 abbrev pub invariant-loop-i : goal.invariant-loop-i
 invariant-loop-i l =
-    (l.i ≤ l.count) × Marked (grid_of l.width l.height l.cells) l.initial.masks l.masks (gather l.i (cut_listed l.width l.height l.cells l.spans))
+    (l.i ≤ l.count) × Marked (grid_of l.grid.width l.grid.height l.grid.cells.now) l.initial.masks l.masks (gather l.i (cut_listed l.grid.width l.grid.height l.grid.cells.now l.spans))
 
 abbrev pub decreases-loop-i : goal.decreases-loop-i
 decreases-loop-i l = l.count - l.i
