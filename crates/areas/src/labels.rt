@@ -1,30 +1,36 @@
 // The regions of a map cut by spans: the masks of cut steps, then the labels of what they leave joined.
-ghost use Rattle.std.specs.Prelude.{◌*◌, ◌≡◌, ◌≤◌, length};
+ghost use Rattle.std.specs.Prelude.{◌*◌, ◌≤◌, length};
 ghost use Rattle.cut_steps.specs.Contract.{Checked};
 ghost use Rattle.areas.specs.Labelled.{LabelledAs};
-ghost use Rattle.areas.specs.Lists.{SameReferences};
 
-use crate::lists::PartitionLists;
 use cut_steps::mark_spans;
+use grid_steps::grid::TerrainGrid;
 use row_runs::label_cells;
 
 // Labels every region and returns how many there are. The queue is left with the stretches of each row, the masks with the cut steps.
+// Kept: three lists, and not `PartitionLists`, of whose other two a promise would have to say that they are left as they were.
 pub fn label_regions(
-    width: usize,
-    height: usize,
-    cells: &[u8],
+    grid: TerrainGrid,
     spans: &[u64],
-    lists: &mut PartitionLists,
+    labels: &mut [u32],
+    masks: &mut [u16],
+    queue: &mut [u32],
 ) -> usize
-    requires checked { Checked width height cells.now spans.now }
-    requires room { (height * width ≤ length lists.old.labels.now) × (height * width ≤ length lists.old.masks.now) × (height * width ≤ length lists.old.queue.now) }
-    ensures labelled { LabelledAs width height cells.now spans.now lists.old.labels.now lists.old.masks.now lists.old.queue.now
-        lists.new.labels.now lists.new.masks.now lists.new.queue.now result }
-    ensures others { (lists.new.tallies.now ≡ lists.old.tallies.now) × (lists.new.pairs.now ≡ lists.old.pairs.now) }
-    ensures same { SameReferences lists.old lists.new }
+    requires checked { Checked grid.width grid.height grid.cells.now spans.now }
+    requires room { (grid.height * grid.width ≤ length labels.old) × (grid.height * grid.width ≤ length masks.old)
+        × (grid.height * grid.width ≤ length queue.old) }
+    ensures { LabelledAs grid.entry.width grid.entry.height grid.entry.cells.now spans.now labels.old masks.old queue.old
+        labels.new masks.new queue.new result }
 {
-    let needed = height * width;
-    lists.masks[..needed].fill(0);
-    mark_spans(width, height, cells, spans, lists.masks);
-    label_cells(width, height, cells, lists.masks, lists.labels, lists.queue)
+    let needed = grid.height * grid.width;
+    masks[..needed].fill(0);
+    mark_spans(grid, spans, masks);
+    label_cells(
+        grid.width,
+        grid.height,
+        grid.cells,
+        masks,
+        labels,
+        queue,
+    )
 }

@@ -5,46 +5,46 @@
 pub mod checked;
 pub mod labels;
 pub mod lists;
+pub mod scratch;
 
 ghost use Rattle.std.specs.Prelude.{length};
 ghost use Rattle.areas.specs.Contract.{given, Ran};
 ghost use Rattle.areas.specs.Divided.{Divided};
 ghost use Rattle.areas.specs.Fit.{Fit};
-ghost use Rattle.areas.specs.Lists.{of_lists, SameReferences};
+ghost use Rattle.areas.specs.Lists.{of_lists, SameLists};
 
 use assessments::assess_spans;
 use checked::checks_before;
+use grid_steps::grid::TerrainGrid;
 use labels::label_regions;
 use lists::PartitionLists;
 use refusals::{Cause, Refusal};
+use scratch::clear_scratch;
 
 // The partition of lists that no check before it refuses. Where there are more pairs than rows, the answer is refusal 12.
 fn divide(
-    width: usize,
-    height: usize,
-    cells: &[u8],
+    grid: TerrainGrid,
     spans: &[u64],
     lists: &mut PartitionLists,
 ) -> Result<usize, Refusal>
-    requires { Fit width height cells.now spans.now
+    requires { Fit grid.width grid.height grid.cells.now spans.now
         (length lists.old.labels.now) (length lists.old.masks.now) (length lists.old.queue.now) (length lists.old.tallies.now) }
-    ensures divided { of_lists (of_lists (Divided width height cells.now spans.now) lists.old result) lists.new }
-    ensures same { SameReferences lists.old lists.new }
+    ensures divided { of_lists (of_lists (Divided grid.entry.width grid.entry.height grid.entry.cells.now spans.now) lists.old result) lists.new }
+    ensures same { SameLists lists.old lists.new }
 {
-    let needed = height * width;
-    let regions = label_regions(width, height, cells, spans, lists);
-    lists.queue[..needed].fill(0);
+    let needed = grid.height * grid.width;
+    let labels = &mut *lists.labels;
+    let masks = &mut *lists.masks;
+    let regions = label_regions(grid, spans, labels, masks, lists.queue);
     let rows = assess_spans(
-        width,
-        height,
-        cells,
-        &*lists.masks,
+        grid,
+        &*masks,
         spans,
-        lists.labels,
+        &*labels,
         lists.tallies,
         lists.pairs,
     );
-    lists.masks[..needed].fill(0);
+    clear_scratch(masks, lists.queue, needed);
     match rows {
         Some(_) => Ok(regions),
         None => {
@@ -66,8 +66,13 @@ pub fn partition(
     lists: &mut PartitionLists,
 ) -> Result<usize, Refusal>
     ensures ran { of_lists (Ran (of_lists (given width height cells.now spans.now) lists.old) result) lists.new }
-    ensures same { SameReferences lists.old lists.new }
+    ensures same { SameLists lists.old lists.new }
 {
     checks_before(width, height, cells, spans, &*lists)?;
-    divide(width as usize, height as usize, cells, spans, lists)
+    let grid = TerrainGrid {
+        width: width as usize,
+        height: height as usize,
+        cells,
+    };
+    divide(grid, spans, lists)
 }

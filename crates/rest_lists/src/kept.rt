@@ -8,11 +8,11 @@ ghost use Rattle.boundary_blocks.specs.Blocks.{left_blocks, left_count};
 ghost use Rattle.rest_lists.specs.Kept.{Origin, Divides, Redivided};
 ghost use Rattle.boundary_blocks.specs.Start.{rows_at};
 
+use areas::scratch::clear_scratch;
 use assessments::TALLIES_PER_SPAN;
 use boundary_blocks::blocks::keep_blocks;
 use boundary_blocks::start::put_rows;
 use call_partition::divide;
-use call_partition::scratch::clear_scratch;
 use checks::limits::{NUMBERS_PER_BOUNDARY, NUMBERS_PER_SPAN};
 
 const NUMBERS_PER_PAIR: usize = 3;
