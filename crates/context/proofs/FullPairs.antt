@@ -1,25 +1,23 @@
 -- Full cuts and full pairs, read off the tallies and the rows of a span. Assumes nothing.
-use Prim.Native.Nat.{ℕ, ◌+◌, ◌-◌, ◌*◌, ◌≤◌, ◌<◌}
+use Prim.Native.Nat.{ℕ, ◌+◌, ◌-◌, ◌*◌, ◌<◌}
 use native.Mathlib.Omega.{arith}
-use mathlib.Core.Path.{◌≡◌, refl, sym, ap, ap₂, ◌∙◌, subst}
-use mathlib.Core.Bool.{Bool, true, false, not, ◌&&◌}
+use mathlib.Core.Path.{◌≡◌, refl, sym, ap, ap₂, ◌∙◌}
+use mathlib.Core.Bool.{Bool, true, false, ◌&&◌}
 use mathlib.Core.Logic.{⊎_elim}
 use Rattle.std.specs.Prelude.{Option, None, Some}
-use Rattle.std.specs.Option.{unwrap_or}
 use mathlib.Core.List.{List, [], ◌∷◌, map}
 use lib.ListN.{length, get_or, set, length-map}
 use lib.Seq.{get_or-set_same, get_or-set_other}
 use lib.Dec.{eqb, ltb}
-use borrow.Author.Tests.{ne_eqb}
 use Rattle.definitions.specs.Limits.{tallies_per_span}
-use Rattle.definitions.specs.Scan.{run, only_if}
+use Rattle.definitions.specs.Scan.{run}
 use Rattle.definitions.specs.Grid.{Pair}
 use Rattle.definitions.specs.Context.{Context, only_pair, full_cut, full_pair}
-use Rattle.laws.specs.ListLaws.Lists.{All, more, length_run}
+use Rattle.laws.specs.ListLaws.Lists.{length_run}
 use Rattle.laws.specs.NumberLaws.Comparisons.{last_or}
 use Rattle.context.specs.declared.pairs.Pair as declared
-use Rattle.context.specs.Shown.{pair_at, pairs_between, ShownTallies, ShownPairs, optional_pair}
-use Rattle.context.specs.Rows.{pair_form, full_pair_of}
+use Rattle.context.specs.Shown.{pair_at, pairs_between, ShownTallies, ShownPairs}
+use Rattle.context.specs.Rows.{full_pair_of}
 
 -- ---- one boundary
 
@@ -59,39 +57,17 @@ module _ (C : Context) {rows starts : List ℕ} {i : ℕ} (P : ShownPairs C rows
   pair_one h k =
       ap₂ only_pair k (sym (between_one rows (get_or starts i 0) (get_or starts (i + 1) 0) h) ∙ sym (P.at i l))
 
-  -- a full pair names regions from 1 on
-  pub pair_named_lem : (p : Pair) → Some p ≡ full_pair C i → 1 ≤ p.lo
-  unfolding full_pair
-  pair_named_lem p e = go (full_cut C i) (C.pairs i) (P.named i l) e
-    where
-      go : (cut : Bool) (l : List Pair) → All (λ p. (1 ≤ p.lo) × ((p.lo < p.hi) × (p.hi ≤ C.regions))) l → Some p ≡ only_pair cut l → 1 ≤ p.lo
-      go true [] a e = let z : ◌≡◌ {A = ℕ} 0 1 = cc in omega arith
-      go true (q ∷ []) (more h a) e =
-          let same : p ≡ q = cc in
-          subst (λ p. 1 ≤ p.lo) (sym same) h.0
-      go true (q ∷ r ∷ l) a e = let z : ◌≡◌ {A = ℕ} 0 1 = cc in omega arith
-      go false l a e = let z : ◌≡◌ {A = ℕ} 0 1 = cc in omega arith
-
-  -- no pair is stored as zeros
-  pub pair-stored : (r : Option declared.Pair) → full_pair_of r ≡ full_pair C i
-      → full_pair C i ≡ optional_pair (unwrap_or r (record { lo = 0; hi = 0 })).lo (unwrap_or r (record { lo = 0; hi = 0 })).hi
-  pair-stored None e = sym e
-  pair-stored (Some p) e = sym e ∙ stored p.lo (pair_named_lem (pair_form p) e)
-    where
-      stored : (n : ℕ) → 1 ≤ n → Some (record { lo = n; hi = p.hi }) ≡ optional_pair n p.hi
-      stored n h = ap (λ b. only_if (not b) (record { lo = n; hi = p.hi })) (sym (ne_eqb n 0 (λ e. omega (arith, e))))
-
 -- ---- all boundaries below i
 
-abbrev pub Stored : Context → List ℕ → List ℕ → ℕ → Type 0
-Stored C smaller larger i = (j : ℕ) → j < i → full_pair C j ≡ optional_pair (get_or smaller j 0) (get_or larger j 0)
+abbrev pub Stored : Context → List (Option declared.Pair) → ℕ → Type 0
+Stored C full i = (j : ℕ) → j < i → full_pair_of (get_or full j None) ≡ full_pair C j
 
-pub stored_more : (C : Context) (smaller larger : List ℕ) (i lo hi : ℕ) → i < length smaller → i < length larger → Stored C smaller larger i
-    → full_pair C i ≡ optional_pair lo hi → Stored C (set smaller i lo) (set larger i hi) (i + 1)
-stored_more C smaller larger i lo hi ls ll h e j l = ⊎_elim here there (last_or j i (omega arith))
+pub stored_more : (C : Context) (full : List (Option declared.Pair)) (i : ℕ) (r : Option declared.Pair) → i < length full → Stored C full i
+    → full_pair_of r ≡ full_pair C i → Stored C (set full i r) (i + 1)
+stored_more C full i r l h e j m = ⊎_elim here there (last_or j i (omega arith))
   where
-    here : j ≡ i → full_pair C j ≡ optional_pair (get_or (set smaller i lo) j 0) (get_or (set larger i hi) j 0)
-    here k = rw k (e ∙ ap₂ optional_pair (sym (get_or-set_same smaller i lo 0 ls)) (sym (get_or-set_same larger i hi 0 ll)))
+    here : j ≡ i → full_pair_of (get_or (set full i r) j None) ≡ full_pair C j
+    here k = rw k (ap full_pair_of (get_or-set_same full i r None l) ∙ e)
 
-    there : j < i → full_pair C j ≡ optional_pair (get_or (set smaller i lo) j 0) (get_or (set larger i hi) j 0)
-    there b = h j b ∙ ap₂ optional_pair (sym (get_or-set_other smaller i j lo 0 (λ k. omega (arith, k)))) (sym (get_or-set_other larger i j hi 0 (λ k. omega (arith, k))))
+    there : j < i → full_pair_of (get_or (set full i r) j None) ≡ full_pair C j
+    there b = ap full_pair_of (get_or-set_other full i j r None (λ k. omega (arith, k))) ∙ h j b

@@ -1,11 +1,12 @@
 -- A context as the plain lists that the passes read: which entries show what of it. Of a span's pairs, the rows from `starts` s up to `starts` (s + 1) are meant.
 -- What is said of regions stands at r - 1 for region r. Definitions only; assumes nothing.
-use Rattle.std.specs.Prelude.{ℕ, ◌+◌, ◌-◌, ◌*◌, ◌%◌, ◌≤◌, ◌<◌, ◌≡◌, not, List, length, get_or, eqb, Option}
+use Rattle.std.specs.Prelude.{ℕ, ◌+◌, ◌-◌, ◌*◌, ◌%◌, ◌≤◌, ◌<◌, ◌≡◌, List, length, get_or, eqb, Option, None}
 use Rattle.definitions.specs.Limits.{max_entries, numbers_per_boundary, tallies_per_span, numbers_per_pair}
-use Rattle.definitions.specs.Scan.{only_if}
-use Rattle.definitions.specs.Grid.{Pair, boundary_at}
+use Rattle.definitions.specs.Grid.{boundary_at}
 use Rattle.definitions.specs.Context.{Context, incident_count, full_pair}
 use Rattle.laws.specs.ListLaws.Lists.{All}
+use Rattle.context.specs.declared.pairs.Pair.{Pair}
+use Rattle.context.specs.Rows.{full_pair_of}
 pub use Rattle.laws.specs.RegionLaws.PairRows.{pair_at}
 unfoldable pub use Rattle.laws.specs.RegionLaws.PairRows.{pairs_between}
 
@@ -40,13 +41,8 @@ pub record ShownIncidents (C : Context) (counts : List ℕ) : Type 0 where
   pub long : C.regions ≤ length counts
   pub at : (r : ℕ) → 1 ≤ r → r ≤ C.regions → incident_count C r ≡ get_or counts (r - 1) 0
 
--- no pair where the smaller number is 0
-abbrev pub optional_pair : ℕ → ℕ → Option Pair
-optional_pair lo hi = only_if (not (eqb lo 0)) (record { lo = lo; hi = hi })
-
--- the full pairs of all boundaries, as two lists
-pub record ShownFullPairs (C : Context) (smaller larger : List ℕ) : Type 0 where
+-- the full pair of each boundary
+pub record ShownFullPairs (C : Context) (full : List (Option Pair)) : Type 0 where
   pub few : C.count ≤ max_entries
-  pub smaller_long : C.count ≤ length smaller
-  pub larger_long : C.count ≤ length larger
-  pub at : (i : ℕ) → i < C.count → full_pair C i ≡ optional_pair (get_or smaller i 0) (get_or larger i 0)
+  pub long : C.count ≤ length full
+  pub at : (i : ℕ) → i < C.count → full_pair_of (get_or full i None) ≡ full_pair C i

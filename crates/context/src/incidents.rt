@@ -10,17 +10,10 @@ ghost use Rattle.laws.specs.ListLaws.Beyond.{Beyond};
 ghost use Rattle.context.specs.Rows.{Stretch, NamedRow, NamedRows};
 ghost use Rattle.context.specs.Packed.{pack_unit, counted_entry, count_region, count_pair, count_pairs, span_pairs, count_spans, unpacked, Packed};
 
+use crate::PartitionContext;
 use crate::pairs::row_at;
 
 const PACK_UNIT: u32 = 512;
-
-// Whether a row of span i names region r.
-pub fn is_incident(pairs: &[u32], starts: &[usize; 257], i: usize, r: u32) -> bool
-    requires { Stretch pairs.now starts.now i }
-    ensures { (C : Context) → ShownPairs C pairs.now starts.now → i < C.count → result ≡ is_incident C i r }
-{
-    (starts[i]..starts[i + 1]).any(|k| row_at(pairs, k).contains(r))
-}
 
 // A region's entry once `span` names it.
 fn counted(entry: u32, span: u32) -> u32
@@ -65,19 +58,6 @@ fn count_rows(pairs: &[u32], first: usize, end: usize, span: u32, counts: &mut [
     }
 }
 
-// Every span's rows, each span once for each region that it names.
-fn count_spans(pairs: &[u32], starts: &[usize; 257], count: usize, counts: &mut [u32])
-    requires named_rows { NamedRows pairs.now starts.now count (length counts.old) }
-    requires counts_clear { (k : ℕ) → get_or counts.old k 0 ≡ 0 }
-    ensures { counts.new ≡ count_spans (span_pairs pairs.now starts.now) count counts.old }
-{
-    for i in 0..count {
-        let first = starts[i];
-        let end = starts[i + 1];
-        count_rows(pairs, first, end, i as u32, &mut *counts);
-    }
-}
-
 // The counts alone, without the last spans.
 fn unpack(counts: &mut [u32])
     ensures { counts.new ≡ map unpacked counts.old }
@@ -87,31 +67,48 @@ fn unpack(counts: &mut [u32])
     }
 }
 
-fn count_regions(pairs: &[u32], starts: &[usize; 257], count: usize, counts: &mut [u32])
-    requires named_rows { NamedRows pairs.now starts.now count (length counts.old) }
-    requires counts_clear { (k : ℕ) → get_or counts.old k 0 ≡ 0 }
-    ensures { counts.new ≡ map unpacked (count_spans (span_pairs pairs.now starts.now) count counts.old) }
-{
-    count_spans(pairs, starts, count, &mut *counts);
-    unpack(counts);
-}
+impl PartitionContext<'_> {
+    // Whether a row of span i names region r.
+    pub fn is_incident(self, i: usize, r: u32) -> bool
+        requires { Stretch self.pairs.now self.starts.now i }
+        ensures { (C : Context) → ShownPairs C self.entry.pairs.now self.entry.starts.now → i < C.count → result ≡ is_incident C i r }
+    {
+        (self.starts[i]..self.starts[i + 1]).any(|k| row_at(self.pairs, k).contains(r))
+    }
 
-// From zeros, how many incidents each of the regions has.
-pub fn count_incidents(
-    pairs: &[u32],
-    starts: &[usize; 257],
-    count: usize,
-    regions: usize,
-    counts: &mut [u32],
-)
-    requires named_rows { NamedRows pairs.now starts.now count regions }
-    requires sizes { (regions ≤ length counts.old) × ((k : ℕ) → k < regions → get_or counts.old k 0 ≡ 0) }
-    ensures shown { (C : Context) →
-        C.count ≡ count →
-        C.regions ≡ regions →
-        ShownPairs C pairs.now starts.now →
-        ShownIncidents C counts.new }
-    ensures beyond { Beyond regions counts.old counts.new }
-{
-    count_regions(pairs, starts, count, &mut counts[..regions]);
+    // Every span's rows, each span once for each region that it names.
+    fn count_spans(self, counts: &mut [u32])
+        requires named_rows { NamedRows self.pairs.now self.starts.now self.count (length counts.old) }
+        requires counts_clear { (k : ℕ) → get_or counts.old k 0 ≡ 0 }
+        ensures { counts.new ≡ count_spans (span_pairs self.entry.pairs.now self.entry.starts.now) self.entry.count counts.old }
+    {
+        for i in 0..self.count {
+            let first = self.starts[i];
+            let end = self.starts[i + 1];
+            count_rows(self.pairs, first, end, i as u32, &mut *counts);
+        }
+    }
+
+    fn count_regions(self, counts: &mut [u32])
+        requires named_rows { NamedRows self.pairs.now self.starts.now self.count (length counts.old) }
+        requires counts_clear { (k : ℕ) → get_or counts.old k 0 ≡ 0 }
+        ensures { counts.new ≡ map unpacked (count_spans (span_pairs self.entry.pairs.now self.entry.starts.now) self.entry.count counts.old) }
+    {
+        self.count_spans(&mut *counts);
+        unpack(counts);
+    }
+
+    // From zeros, how many incidents each of the regions has.
+    pub fn count_incidents(self, regions: usize, counts: &mut [u32])
+        requires named_rows { NamedRows self.pairs.now self.starts.now self.count regions }
+        requires sizes { (regions ≤ length counts.old) × ((k : ℕ) → k < regions → get_or counts.old k 0 ≡ 0) }
+        ensures shown { (C : Context) →
+            C.count ≡ self.entry.count →
+            C.regions ≡ regions →
+            ShownPairs C self.entry.pairs.now self.entry.starts.now →
+            ShownIncidents C counts.new }
+        ensures beyond { Beyond regions counts.old counts.new }
+    {
+        self.count_regions(&mut counts[..regions]);
+    }
 }

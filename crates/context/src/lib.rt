@@ -1,4 +1,4 @@
-// What the passes read of a partitioned map: a region's record by value, and the context as plain lists.
+// What the passes read of a partitioned map: a region's record by value, and the partition by its boundaries, as lent.
 
 #![tactic(auto)]
 
@@ -20,4 +20,15 @@ pub struct Region {
     pub ramp_cells: usize,
     pub elevations: u8,
     pub elevation_counts: [usize; 4],
+}
+
+// What a pass reads of a partition by its boundaries (`PartitionContext` of context.rs): the boundaries as lent, two tallies of each, the rows of pairs, the first
+// row of each boundary's pairs and the end of the last, and how many boundaries there are.
+#[derive(Clone, Copy)]
+pub struct PartitionContext<'a> {
+    pub boundaries: &'a [u64],
+    pub tallies: &'a [u32],
+    pub pairs: &'a [u32],
+    pub starts: &'a [usize; 257],
+    pub count: usize,
 }

@@ -6,6 +6,8 @@ ghost use Rattle.definitions.specs.Context.{Context, full_cut, full_pair};
 ghost use Rattle.context.specs.Shown.{pair_at, ShownTallies, ShownPairs, ShownFullPairs};
 ghost use Rattle.context.specs.Rows.{PairRows, SpanEnd, Stretch, pair_form, full_pair_of};
 
+use crate::PartitionContext;
+
 pub const NUMBERS_PER_PAIR: usize = 3;
 
 const TALLIES_PER_SPAN: usize = 2;
@@ -61,58 +63,51 @@ pub fn pair_starts(pairs: &[u32], rows: usize, count: usize, starts: &mut [usize
     starts[count] = k;
 }
 
-// The Rust also asks for a pair, and that each pair's labels differ: a span with a separated edge has such pairs only (laws: FullCut).
-pub fn full_cut(tallies: &[u32], i: usize) -> bool
-    requires { tallies_per_span * i + 1 < length tallies.now }
-    ensures { (C : Context) → ShownTallies C tallies.now → i < C.count → result ≡ full_cut C i }
-{
-    let removed = tallies[TALLIES_PER_SPAN * i];
-    let separated = tallies[TALLIES_PER_SPAN * i + 1];
-    (0 < removed) & (removed == separated)
-}
-
-pub fn full_pair(tallies: &[u32], pairs: &[u32], starts: &[usize; 257], i: usize) -> Option<Pair>
-    requires tallies_room { tallies_per_span * i + 1 < length tallies.now }
-    requires stretch { Stretch pairs.now starts.now i }
-    ensures { (C : Context) →
-        ShownTallies C tallies.now →
-        ShownPairs C pairs.now starts.now →
-        i < C.count →
-        full_pair_of result ≡ full_pair C i }
-{
-    let first = starts[i];
-    let end = starts[i + 1];
-    if end - first != 1 {
-        return None;
+impl PartitionContext<'_> {
+    // The Rust also asks for a pair, and that each pair's labels differ: a span with a separated edge has such pairs only (laws: FullCut).
+    pub fn full_cut(self, i: usize) -> bool
+        requires { tallies_per_span * i + 1 < length self.tallies.now }
+        ensures { (C : Context) → ShownTallies C self.entry.tallies.now → i < C.count → result ≡ full_cut C i }
+    {
+        let removed = self.tallies[TALLIES_PER_SPAN * i];
+        let separated = self.tallies[TALLIES_PER_SPAN * i + 1];
+        (0 < removed) & (removed == separated)
     }
-    if full_cut(tallies, i) {
-        Some(row_at(pairs, first))
-    } else {
-        None
-    }
-}
 
-// The full pairs of all boundaries, as two lists; 0 where there is none.
-pub fn full_pairs(
-    tallies: &[u32],
-    pairs: &[u32],
-    starts: &[usize; 257],
-    count: usize,
-    smaller: &mut [u32; 256],
-    larger: &mut [u32; 256],
-)
-    requires sizes { (count ≤ max_entries) × (tallies_per_span * count ≤ length tallies.now) }
-    requires room { (length smaller.old ≡ max_entries) × (length larger.old ≡ max_entries) }
-    requires stretches { (i : ℕ) → i < count → Stretch pairs.now starts.now i }
-    ensures { (C : Context) →
-        C.count ≡ count →
-        ShownTallies C tallies.now →
-        ShownPairs C pairs.now starts.now →
-        ShownFullPairs C smaller.new larger.new }
-{
-    for i in 0..count {
-        let pair = full_pair(tallies, pairs, starts, i).unwrap_or(Pair { lo: 0, hi: 0 });
-        smaller[i] = pair.lo;
-        larger[i] = pair.hi;
+    pub fn full_pair(self, i: usize) -> Option<Pair>
+        requires tallies_room { tallies_per_span * i + 1 < length self.tallies.now }
+        requires stretch { Stretch self.pairs.now self.starts.now i }
+        ensures { (C : Context) →
+            ShownTallies C self.entry.tallies.now →
+            ShownPairs C self.entry.pairs.now self.entry.starts.now →
+            i < C.count →
+            full_pair_of result ≡ full_pair C i }
+    {
+        let first = self.starts[i];
+        let end = self.starts[i + 1];
+        if end - first != 1 {
+            return None;
+        }
+        if self.full_cut(i) {
+            Some(row_at(self.pairs, first))
+        } else {
+            None
+        }
+    }
+
+    // The full pair of each boundary.
+    pub fn full_pairs(self, full: &mut [Option<Pair>; 256])
+        requires sizes { (self.count ≤ max_entries) × (tallies_per_span * self.count ≤ length self.tallies.now) }
+        requires room { length full.old ≡ max_entries }
+        requires stretches { (i : ℕ) → i < self.count → Stretch self.pairs.now self.starts.now i }
+        ensures { (C : Context) →
+            C.count ≡ self.entry.count →
+            ShownTallies C self.entry.tallies.now →
+            ShownPairs C self.entry.pairs.now self.entry.starts.now →
+            ShownFullPairs C full.new }
+    {
+        for i in 0..self.count {
+            full[i] = self.full_pair(i);
+        }
     }
 }

@@ -1,10 +1,10 @@
--- `pairs::full_pair` meets its contract: a span has one pair where it has one row. Assumes nothing.
+-- `PartitionContext::full_pair` meets its contract: a span has one pair where it has one row. Assumes nothing.
 use Rattle.context.proofs.FullPairs.{pair_none, pair_one, pair-uncut}
 use native.Mathlib.Omega.{arith}
 use mathlib.Core.Path.{sym, ap, ◌∙◌}
 use Rattle.std.specs.Prelude.{Some}
 use borrow.Author.Rules.{rules}
-use Rattle.context.proofs.pairs.full_pair.Goals as goal
+use Rattle.context.proofs.PartitionContext.full_pair.Goals as goal
 
 pub returns-then-end-first-ne1 : goal.returns-then-end-first-ne1
 returns-then-end-first-ne1 c = λ C T P l. pair_none C P l (λ e. omega (arith, e, c.if-end-first-ne1.true))

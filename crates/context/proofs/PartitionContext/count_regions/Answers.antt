@@ -1,8 +1,8 @@
--- `incidents::count_regions` meets its contract: the packed list, then its counts. Assumes nothing.
+-- `PartitionContext::count_regions` meets its contract: the packed list, then its counts. Assumes nothing.
 use mathlib.Core.Path.{ap, ◌∙◌}
 use mathlib.Core.List.{map}
 use Rattle.context.specs.Packed.{unpacked}
-use Rattle.context.proofs.incidents.count_regions.Goals as goal
+use Rattle.context.proofs.PartitionContext.count_regions.Goals as goal
 
 pub returns : goal.returns
 returns c =

@@ -1,4 +1,4 @@
--- `incidents::is_incident` meets its contract: the rows of a span are its pairs. Assumes nothing.
+-- `PartitionContext::is_incident` meets its contract: the rows of a span are its pairs. Assumes nothing.
 use Rattle.std.proofs.Common.{rules, tests, refl, sym, ◌∙◌}
 use Rattle.std.proofs.lemmas.Iterator.{YieldsList-from_range}
 use Rattle.std.proofs.lemmas.Iterator.Search.{any_from_yields_List}
@@ -6,12 +6,12 @@ use Rattle.definitions.specs.Grid.{contains}
 use Rattle.context.specs.Shown.{pair_at}
 use Rattle.context.proofs.Counting.{incident_is}
 use Rattle.context.proofs.RowChains.{any_in_rows}
-use Rattle.context.proofs.incidents.is_incident.Goals as goal
+use Rattle.context.proofs.PartitionContext.is_incident.Goals as goal
 
 pub returns : goal.returns
 returns c =
     let f = contains c.args.r in
     λ C P l.
-    any_from_yields_List (λ k. f (pair_at c.args.pairs.now k)) _ _ c.any.result c.any.ensures.ran (YieldsList-from_range _ _ _ refl refl) (λ x b q k. search (rules, tests))
-    ∙ any_in_rows f c.args.pairs.now _ _
+    any_from_yields_List (λ k. f (pair_at c.args.self.pairs.now k)) _ _ c.any.result c.any.ensures.ran (YieldsList-from_range _ _ _ refl refl) (λ x b q k. search (rules, tests))
+    ∙ any_in_rows f c.args.self.pairs.now _ _
     ∙ sym (incident_is P c.args.i c.args.r l)
