@@ -25,12 +25,5 @@ pub fn label_regions(
     let needed = grid.height * grid.width;
     masks[..needed].fill(0);
     mark_spans(grid, spans, masks);
-    label_cells(
-        grid.width,
-        grid.height,
-        grid.cells,
-        masks,
-        labels,
-        queue,
-    )
+    label_cells(grid, masks, labels, queue)
 }

@@ -122,12 +122,6 @@ module _ {w h : ℕ} {cells anchors : List ℕ} {O : Origin} {s : List Region} {
       let n = length (pair_rows_of (context_of (start_map M))) in
       omega (arith, leb-true n (length O.pairs / 3 * 3) (no_fault_lem (leb n (length O.pairs / 3 * 3)) 0 D.accepted.pairs), D.firsts.rows, D.pairs)
 
-  pub tallies-small : length t < 2 ^ 64 → 2 * first.kept < 2 ^ 64
-  tallies-small h = omega (arith, h, tallies-fit)
-
-  pub pairs_small : length p < 2 ^ 64 → 3 * first.rows < 2 ^ 64
-  pairs_small h = omega (arith, h, pairs-fit)
-
   pub spans_fit : 4 * kept ≤ length spans
   spans_fit = omega (arith, begins-long (ends_block M) 4 (λ x. refl) D.ended, D.count)
 

@@ -20,9 +20,8 @@ overflow_mul-end c =
     let a = c.args in
     record { fits = omega (arith, few-kept a.spans.now a.spans.now a.removed.now c.kept_spans-count.ensures.answer, (spans-room _ c.requires.1).1) }
 
-pub overflow_mul-rows : goal.overflow_mul-rows
-overflow_mul-rows c =
-    record { fits = omega (arith, pairs-room _ c.requires.1, c.well_formed.1.1.1.1.1.1.1.1.1.1.1.0.0) }
+pub overflow_mul-paired : goal.overflow_mul-paired
+overflow_mul-paired c = record { fits = omega (arith, pairs-room _ c.requires.1) }
 
 pub clear_assessed-requires : goal.clear_assessed-requires
 clear_assessed-requires c = (tallies-room _ c.requires.1, pairs-room _ c.requires.1)

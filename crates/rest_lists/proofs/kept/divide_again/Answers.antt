@@ -3,16 +3,16 @@
 use mathlib.Core.Path.{sym}
 use native.Mathlib.Omega.{arith}
 use lib.Seq.{length-take-le}
-use Rattle.rest_lists.proofs.Inner.{tallies-fit, pairs-fit, tallies-small, pairs_small, spans_fit, again-fits, is-ready, redivided}
+use Rattle.rest_lists.proofs.Inner.{tallies-fit, pairs-fit, spans_fit, again-fits, is-ready, redivided}
 use Rattle.rest_lists.proofs.kept.divide_again.Goals as goal
 
-pub overflow_mul-first : goal.overflow_mul-first
-overflow_mul-first c =
-    record { fits = tallies-small c.requires.4 c.well_formed.1.1.1.1.1.1.1.1.1.1.0.0 }
+pub overflow_mul-filled : goal.overflow_mul-filled
+overflow_mul-filled c =
+    record { fits = omega (arith, tallies-fit c.requires.4) }
 
-pub overflow_mul-first-2 : goal.overflow_mul-first-2
-overflow_mul-first-2 c =
-    record { fits = pairs_small c.requires.4 c.well_formed.1.1.1.1.1.1.1.1.1.1.1.0.0 }
+pub overflow_mul-paired : goal.overflow_mul-paired
+overflow_mul-paired c =
+    record { fits = omega (arith, pairs-fit c.requires.4) }
 
 pub clear_assessed-requires : goal.clear_assessed-requires
 clear_assessed-requires c = (tallies-fit c.requires.4, pairs-fit c.requires.4)
@@ -25,8 +25,8 @@ pub slice_bounds-divide-end : goal.slice_bounds-divide-end
 slice_bounds-divide-end c =
     sym (length-take-le _ _ (spans_fit c.requires.4))
 
-pub divide-ready-requires : goal.divide-ready-requires
-divide-ready-requires c =
+pub divide-requires : goal.divide-requires
+divide-requires c =
     again-fits c.requires.4 c.clear_assessed.ensures.0 c.clear_assessed.ensures.1
 
 pub unwrap-ready-requires : goal.unwrap-ready-requires
