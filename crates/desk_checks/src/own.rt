@@ -18,16 +18,11 @@ fn is_span(boundaries: &[u64], b: usize, spans: &[u64], s: usize) -> bool
     requires { (b + 3 < length boundaries.now) × (s + 3 < length spans.now) }
     ensures { result ≡ is_span (segment_at boundaries.now b) (segment_at spans.now s) }
 {
-    let ax = boundaries[b];
-    let ay = boundaries[b + 1];
-    let bx = boundaries[b + 2];
-    let by = boundaries[b + 3];
-    let sx = spans[s];
-    let sy = spans[s + 1];
-    let tx = spans[s + 2];
-    let ty = spans[s + 3];
-    ((ax == sx) & (ay == sy) & (bx == tx) & (by == ty))
-        | ((ax == tx) & (ay == ty) & (bx == sx) & (by == sy))
+    let first = (boundaries[b], boundaries[b + 1]);
+    let second = (boundaries[b + 2], boundaries[b + 3]);
+    let from = (spans[s], spans[s + 1]);
+    let to = (spans[s + 2], spans[s + 3]);
+    ((first, second) == (from, to)) | ((first, second) == (to, from))
 }
 
 // Whether both the boundary and the span of number i are there, and lie on each other.
