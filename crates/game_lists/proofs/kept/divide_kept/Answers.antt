@@ -24,17 +24,20 @@ pub overflow_mul-paired : goal.overflow_mul-paired
 overflow_mul-paired c = record { fits = omega (arith, pairs-room _ c.requires.1) }
 
 pub clear_assessed-requires : goal.clear_assessed-requires
-clear_assessed-requires c = (tallies-room _ c.requires.1, pairs-room _ c.requires.1)
+clear_assessed-requires c =
+    let a = c.args in
+    let few = few-kept a.spans.now a.spans.now a.removed.now c.kept_spans-count.ensures.answer in
+    (omega (arith, few, tallies-room _ c.requires.1), pairs-room _ c.requires.1)
 
 pub slice_bounds-kept-end : goal.slice_bounds-kept-end
 slice_bounds-kept-end c =
     let a = c.args in
-    omega (arith, few-kept a.spans.now a.spans.now a.removed.now c.kept_spans-count.ensures.answer, (spans-room _ c.requires.1).1, c.kept-2-1.given)
+    omega (arith, few-kept a.spans.now a.spans.now a.removed.now c.kept_spans-count.ensures.answer, (spans-room _ c.requires.1).1)
 
 pub slice_bounds-divide-end : goal.slice_bounds-divide-end
 slice_bounds-divide-end c =
     let a = c.args in
-    sym (length-take-le _ _ (omega (arith, few-kept a.spans.now a.spans.now a.removed.now c.kept_spans-count.ensures.answer, (spans-room _ c.requires.1).1, c.kept-2-1.given)))
+    sym (length-take-le _ _ (omega (arith, few-kept a.spans.now a.spans.now a.removed.now c.kept_spans-count.ensures.answer, (spans-room _ c.requires.1).1)))
 
 pub divide-requires : goal.divide-requires
 divide-requires c =

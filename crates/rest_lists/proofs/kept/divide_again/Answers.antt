@@ -15,7 +15,8 @@ overflow_mul-paired c =
     record { fits = omega (arith, pairs-fit c.requires.4) }
 
 pub clear_assessed-requires : goal.clear_assessed-requires
-clear_assessed-requires c = (tallies-fit c.requires.4, pairs-fit c.requires.4)
+clear_assessed-requires c =
+    (omega (arith, tallies-fit c.requires.4), omega (arith, pairs-fit c.requires.4))
 
 pub overflow_mul-end : goal.overflow_mul-end
 overflow_mul-end c =
@@ -27,13 +28,14 @@ slice_bounds-divide-end c =
 
 pub divide-requires : goal.divide-requires
 divide-requires c =
-    again-fits c.requires.4 c.clear_assessed.ensures.0 c.clear_assessed.ensures.1
+    again-fits c.requires.4 _ _ c.clear_assessed.auto.tallies c.clear_assessed.auto.pairs
 
 pub unwrap-ready-requires : goal.unwrap-ready-requires
 unwrap-ready-requires c =
-    is-ready c.requires.4 c.clear_assessed.ensures.0 c.clear_assessed.ensures.1 _ _ _ _ _ _ c.divide.ensures.divided
+    is-ready c.requires.4 _ _ c.clear_assessed.auto.tallies c.clear_assessed.auto.pairs _ _ _ _ _ _ c.divide.ensures.divided
 
 pub returns-clause-divided : goal.returns-clause-divided
 returns-clause-divided c =
     λ O anchors s places D.
-    redivided D c.clear_assessed.ensures.0 c.clear_assessed.ensures.1 _ _ _ _ _ _ c.divide.ensures.divided c.unwrap-ready.ensures
+    redivided D _ _ c.clear_assessed.auto.tallies c.clear_assessed.auto.pairs _ _ _ _ _ _ c.divide.ensures.divided c.unwrap-ready.ensures
+    c.clear_assessed.ensures.0 c.clear_assessed.ensures.1
