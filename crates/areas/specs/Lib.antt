@@ -2,4 +2,5 @@ pub mod Answers
 pub mod Contract
 pub mod Fit
 pub mod Labelled
+pub mod Lists
 pub mod Divided

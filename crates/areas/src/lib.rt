@@ -4,43 +4,51 @@
 
 pub mod checked;
 pub mod labels;
+pub mod lists;
+pub mod scratch;
 
 ghost use Rattle.std.specs.Prelude.{length};
 ghost use Rattle.areas.specs.Contract.{given, Ran};
 ghost use Rattle.areas.specs.Divided.{Divided};
 ghost use Rattle.areas.specs.Fit.{Fit};
+ghost use Rattle.areas.specs.Lists.{of_lists, SameLists};
 
 use assessments::assess_spans;
 use checked::checks_before;
+use grid_steps::grid::TerrainGrid;
 use labels::label_regions;
+use lists::PartitionLists;
 use refusals::{Cause, Refusal};
+use scratch::clear_scratch;
 
 // The partition of lists that no check before it refuses. Where there are more pairs than rows, the answer is refusal 12.
 fn divide(
-    width: usize,
-    height: usize,
-    cells: &[u8],
+    grid: TerrainGrid,
     spans: &[u64],
-    labels: &mut [u32],
-    masks: &mut [u16],
-    queue: &mut [u32],
-    tallies: &mut [u32],
-    pairs: &mut [u32],
+    lists: &mut PartitionLists,
 ) -> Result<usize, Refusal>
-    requires { Fit width height cells.now spans.now (length labels.old) (length masks.old) (length queue.old) (length tallies.old) }
-    ensures { Divided width height cells.now spans.now labels.old masks.old queue.old
-        tallies.old pairs.old result labels.new masks.new queue.new tallies.new
-        pairs.new }
+    requires { Fit grid.width grid.height grid.cells.now spans.now
+        (length lists.old.labels.now) (length lists.old.masks.now) (length lists.old.queue.now) (length lists.old.tallies.now) }
+    ensures divided { of_lists (of_lists (Divided grid.entry.width grid.entry.height grid.entry.cells.now spans.now) lists.old result) lists.new }
+    ensures same { SameLists lists.old lists.new }
 {
-    let needed = height * width;
-    let regions = label_regions(width, height, cells, spans, labels, masks, queue);
-    queue[..needed].fill(0);
-    let rows = assess_spans(width, height, cells, &*masks, spans, labels, tallies, pairs);
-    masks[..needed].fill(0);
+    let needed = grid.height * grid.width;
+    let labels = &mut *lists.labels;
+    let masks = &mut *lists.masks;
+    let regions = label_regions(grid, spans, labels, masks, lists.queue);
+    let rows = assess_spans(
+        grid,
+        &*masks,
+        spans,
+        &*labels,
+        lists.tallies,
+        lists.pairs,
+    );
+    clear_scratch(masks, lists.queue, needed);
     match rows {
         Some(_) => Ok(regions),
         None => {
-            pairs.fill(0);
+            lists.pairs.fill(0);
             Err(Refusal {
                 cause: Cause::Pairs,
                 place: 0,
@@ -55,35 +63,16 @@ pub fn partition(
     height: u64,
     cells: &[u8],
     spans: &[u64],
-    labels: &mut [u32],
-    masks: &mut [u16],
-    queue: &mut [u32],
-    tallies: &mut [u32],
-    pairs: &mut [u32],
+    lists: &mut PartitionLists,
 ) -> Result<usize, Refusal>
-    ensures { Ran (given width height cells.now spans.now labels.old masks.old queue.old
-        tallies.old pairs.old) result labels.new masks.new queue.new tallies.new
-        pairs.new }
+    ensures ran { of_lists (Ran (of_lists (given width height cells.now spans.now) lists.old) result) lists.new }
+    ensures same { SameLists lists.old lists.new }
 {
-    checks_before(
-        width,
-        height,
+    checks_before(width, height, cells, spans, &*lists)?;
+    let grid = TerrainGrid {
+        width: width as usize,
+        height: height as usize,
         cells,
-        spans,
-        labels.len(),
-        masks.len(),
-        queue.len(),
-        tallies.len(),
-    )?;
-    divide(
-        width as usize,
-        height as usize,
-        cells,
-        spans,
-        labels,
-        masks,
-        queue,
-        tallies,
-        pairs,
-    )
+    };
+    divide(grid, spans, lists)
 }

@@ -5,32 +5,31 @@
 
 ghost use Rattle.std.specs.Prelude.{◌≤◌, length};
 
+use areas::lists::PartitionLists;
 use areas::partition;
+use refusals::Refusal;
 use replay_lists::{CASES, Opening, length_within, masks_before, numbers_before, write_partition};
 use sheet::read_sheet;
 use std::io;
 use std::io::{Read, Write};
 use streams::write_bytes;
 
-fn run<W: Write>(
+fn report<W: Write>(
     out: &mut W,
-    width: u64,
-    height: u64,
-    cells: &[u8],
-    spans: &[u64],
-    labels: &mut [u32],
-    masks: &mut [u16],
-    queue: &mut [u32],
-    tallies: &mut [u32],
-    pairs: &mut [u32],
+    answer: Result<usize, Refusal>,
+    lists: PartitionLists,
 ) -> io::Result<()> {
-    let answer = partition(
-        width, height, cells, spans, labels, masks, queue, tallies, pairs,
-    );
     let (number, value) = match answer {
         Ok(count) => (0, count),
         Err(refusal) => (refusal.cause.number(), refusal.place),
     };
+    let PartitionLists {
+        labels,
+        masks,
+        queue,
+        tallies,
+        pairs,
+    } = lists;
     write_partition(out, number, value, labels, masks, queue, tallies, pairs)?;
     Ok(())
 }
@@ -48,18 +47,21 @@ fn lend<W: Write>(out: &mut W, opening: &Opening, cells: &[u8], spans: &[u64]) -
     let queue_end = length_within(opening.queue, 4096);
     let tallies_end = length_within(opening.tallies, 4096);
     let pairs_end = length_within(opening.pairs, 4096);
-    run(
-        out,
+    let mut lists = PartitionLists {
+        labels: &mut labels[0..labels_end],
+        masks: &mut masks[0..masks_end],
+        queue: &mut queue[0..queue_end],
+        tallies: &mut tallies[0..tallies_end],
+        pairs: &mut pairs[0..pairs_end],
+    };
+    let answer = partition(
         u64::from(opening.width),
         u64::from(opening.height),
         &cells[0..cells_end],
         &spans[0..spans_end],
-        &mut labels[0..labels_end],
-        &mut masks[0..masks_end],
-        &mut queue[0..queue_end],
-        &mut tallies[0..tallies_end],
-        &mut pairs[0..pairs_end],
-    )
+        &mut lists,
+    );
+    report(out, answer, lists)
 }
 
 fn replay<W: Write>(out: &mut W, opening: &Opening, bytes: &[u8]) -> io::Result<()> {

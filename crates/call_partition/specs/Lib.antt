@@ -1,3 +1,4 @@
+pub mod Asking
 pub mod Early
 pub mod Contract
 pub mod Prepared

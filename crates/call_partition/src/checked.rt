@@ -1,11 +1,14 @@
 // Checks 1 to 10 of the table of SPECIFICATION 4, in its order.
-ghost use Rattle.std.specs.Prelude.{◌≡◌, ◌&&◌, ◌≤◌};
+ghost use Rattle.std.specs.Prelude.{◌≡◌, ◌&&◌, ◌≤◌, length};
 ghost use Rattle.definitions.specs.Limits.{max_side, numbers_per_span, numbers_per_boundary, numbers_per_anchor};
 ghost use Rattle.definitions.specs.Refusals.{unless, partition_room, output_room};
 ghost use Rattle.definitions.specs.Verdict.{refusal};
 ghost use Rattle.refusals.specs.Refusals.{refusal_in};
+ghost use Rattle.call_partition.specs.Asking.{of_asked};
 ghost use Rattle.call_partition.specs.Early.{is_whole_of, sizes_refusal, entries_refusal, early_refusal};
 
+use crate::asked::Asked;
+use areas::lists::PartitionLists;
 use checks::anchors::anchors_fault;
 use checks::boundaries::boundaries_fault;
 use checks::cells::elevations_fault;
@@ -28,85 +31,76 @@ fn all_whole(spans: usize, boundaries: usize, anchors: usize) -> bool
 // Checks 1 to 4.
 pub fn check_sizes(
     pass: u64,
-    width: u64,
-    height: u64,
-    cells: &[u8],
-    spans: &[u64],
-    boundaries: &[u64],
-    anchors: &[u64],
+    asked: Asked,
 ) -> Result<(), Refusal>
-    ensures { refusal_in result ≡ sizes_refusal pass width height cells.now spans.now boundaries.now anchors.now }
+    ensures { refusal_in result ≡ of_asked (sizes_refusal pass) asked.entry }
 {
-    ensure(sides_fit(width, height), Cause::Sides)?;
-    ensure(cells_fit(width, height, cells), Cause::Cells)?;
-    let whole = all_whole(spans.len(), boundaries.len(), anchors.len());
+    ensure(sides_fit(asked.width, asked.height), Cause::Sides)?;
+    let counted = cells_fit(asked.width, asked.height, asked.cells);
+    ensure(counted, Cause::Cells)?;
+    let whole = all_whole(
+        asked.spans.len(),
+        asked.boundaries.len(),
+        asked.anchors.len(),
+    );
     ensure(whole, Cause::Entries)?;
     ensure(pass_fits(pass), Cause::Pass)
 }
 
 // Checks 5 to 9.
 pub fn check_entries(
-    width: u64,
-    height: u64,
-    cells: &[u8],
-    spans: &[u64],
-    boundaries: &[u64],
-    anchors: &[u64],
+    asked: Asked,
 ) -> Result<(), Refusal>
-    requires { (width ≤ max_side) × (height ≤ max_side) }
-    ensures { refusal_in result ≡ entries_refusal width height cells.now spans.now boundaries.now anchors.now }
+    requires { (asked.width ≤ max_side) × (asked.height ≤ max_side) }
+    ensures { refusal_in result ≡ of_asked entries_refusal asked.entry }
 {
-    spans_fault(width, height, spans)?;
-    no_fault(boundaries_fault(width, height, boundaries), Cause::Boundary)?;
-    no_fault(anchors_fault(width, height, anchors), Cause::AnchorOutside)?;
-    no_fault(elevations_fault(cells), Cause::Elevation)
+    let Asked { width, height, .. } = asked;
+    spans_fault(width, height, asked.spans)?;
+    no_fault(boundaries_fault(width, height, asked.boundaries), Cause::Boundary)?;
+    no_fault(anchors_fault(width, height, asked.anchors), Cause::AnchorOutside)?;
+    no_fault(elevations_fault(asked.cells), Cause::Elevation)
 }
 
-// Check 10, of lists of these lengths.
+// Check 10, of so many cells, spans and boundaries and an output of this length.
 pub fn check_room(
     cells: usize,
     spans: usize,
     boundaries: usize,
-    labels: usize,
-    masks: usize,
-    queue: usize,
-    tallies: usize,
+    lists: &PartitionLists,
     output: usize,
 ) -> Result<(), Refusal>
-    ensures { refusal_in result ≡ refusal 10 (unless (partition_room cells spans labels masks queue tallies && output_room boundaries output)) }
+    ensures { refusal_in result ≡ refusal 10 (unless (partition_room cells spans
+        (length lists.now.labels.now) (length lists.now.masks.now) (length lists.now.queue.now) (length lists.now.tallies.now)
+        && output_room boundaries output)) }
 {
-    let partition = partition_has_room(cells, spans, labels, masks, queue, tallies);
+    let partition = partition_has_room(
+        cells,
+        spans,
+        lists.labels.len(),
+        lists.masks.len(),
+        lists.queue.len(),
+        lists.tallies.len(),
+    );
     ensure(partition & output_has_room(boundaries, output), Cause::Room)
 }
 
 // All of them. Of the lists that are filled, only the lengths matter.
 pub fn checks_before(
     pass: u64,
-    width: u64,
-    height: u64,
-    cells: &[u8],
-    spans: &[u64],
-    boundaries: &[u64],
-    anchors: &[u64],
-    labels: usize,
-    masks: usize,
-    queue: usize,
-    tallies: usize,
+    asked: Asked,
+    lists: &PartitionLists,
     output: usize,
 ) -> Result<(), Refusal>
-    ensures { refusal_in result ≡ early_refusal pass width height cells.now spans.now boundaries.now
-        anchors.now labels masks queue tallies output }
+    ensures { refusal_in result ≡ of_asked (early_refusal pass) asked.entry
+        (length lists.now.labels.now) (length lists.now.masks.now) (length lists.now.queue.now) (length lists.now.tallies.now) output }
 {
-    check_sizes(pass, width, height, cells, spans, boundaries, anchors)?;
-    check_entries(width, height, cells, spans, boundaries, anchors)?;
+    check_sizes(pass, asked)?;
+    check_entries(asked)?;
     check_room(
-        cells.len(),
-        spans.len() / NUMBERS_PER_SPAN,
-        boundaries.len() / NUMBERS_PER_BOUNDARY,
-        labels,
-        masks,
-        queue,
-        tallies,
+        asked.cells.len(),
+        asked.spans.len() / NUMBERS_PER_SPAN,
+        asked.boundaries.len() / NUMBERS_PER_BOUNDARY,
+        lists,
         output,
     )
 }

@@ -3,19 +3,24 @@
 
 #![tactic(auto)]
 
+pub mod asked;
 pub mod checked;
-pub mod scratch;
 
 ghost use Rattle.std.specs.Prelude.{length};
 ghost use Rattle.areas.specs.Fit.{Fit};
+ghost use Rattle.areas.specs.Lists.{of_lists, SameLists};
+ghost use Rattle.call_partition.specs.Asking.{of_asked};
 ghost use Rattle.call_partition.specs.Prepared.{PreparedAs, DividedAs};
 
 use areas::labels::label_regions;
+use areas::lists::PartitionLists;
+use areas::scratch::clear_scratch;
+use asked::Asked;
 use assessments::{TALLIES_PER_SPAN, assess_spans};
 use checked::checks_before;
 use checks::limits::NUMBERS_PER_SPAN;
+use grid_steps::grid::TerrainGrid;
 use refusals::{Cause, Refusal};
-use scratch::clear_scratch;
 
 // How many regions and rows of pairs there are.
 #[derive(Clone, Copy)]
@@ -27,38 +32,43 @@ pub struct Ready {
 // Labels, tallies and pairs of lists that no check before 11 refuses. Where there are more regions than records, the answer is refusal 11; where there are more pairs
 // than rows, 12. Otherwise the queue is left with the stretches, from the first cell on.
 pub fn divide(
-    width: usize,
-    height: usize,
-    cells: &[u8],
+    grid: TerrainGrid,
     spans: &[u64],
     room: usize,
-    labels: &mut [u32],
-    masks: &mut [u16],
-    queue: &mut [u32],
-    tallies: &mut [u32],
-    pairs: &mut [u32],
+    lists: &mut PartitionLists,
 ) -> Result<Ready, Refusal>
-    requires { Fit width height cells.now spans.now (length labels.old) (length masks.old) (length queue.old) (length tallies.old) }
-    ensures { DividedAs width height cells.now spans.now room labels.old masks.old
-        queue.old tallies.old pairs.old result
-        labels.new masks.new queue.new tallies.new pairs.new }
+    requires { Fit grid.width grid.height grid.cells.now spans.now
+        (length lists.old.labels.now) (length lists.old.masks.now) (length lists.old.queue.now) (length lists.old.tallies.now) }
+    ensures divided { of_lists (of_lists (DividedAs grid.entry.width grid.entry.height grid.entry.cells.now spans.now room) lists.old result) lists.new }
+    ensures same { SameLists lists.old lists.new }
 {
-    let needed = height * width;
-    let regions = label_regions(width, height, cells, spans, labels, masks, queue);
+    let needed = grid.height * grid.width;
+    let labels = &mut *lists.labels;
+    let masks = &mut *lists.masks;
+    let regions = label_regions(grid, spans, labels, masks, lists.queue);
     if room < regions {
-        clear_scratch(masks, queue, needed);
+        clear_scratch(masks, lists.queue, needed);
         let filled = TALLIES_PER_SPAN * (spans.len() / NUMBERS_PER_SPAN);
+        let tallies = &mut *lists.tallies;
         tallies[..filled].fill(0);
         return Err(Refusal {
             cause: Cause::Regions,
             place: 0,
         });
     }
-    match assess_spans(width, height, cells, &*masks, spans, labels, tallies, pairs) {
+    let rows = assess_spans(
+        grid,
+        &*masks,
+        spans,
+        &*labels,
+        lists.tallies,
+        lists.pairs,
+    );
+    match rows {
         Some(rows) => Ok(Ready { regions, rows }),
         None => {
-            clear_scratch(masks, queue, needed);
-            pairs.fill(0);
+            clear_scratch(masks, lists.queue, needed);
+            lists.pairs.fill(0);
             Err(Refusal {
                 cause: Cause::Pairs,
                 place: 0,
@@ -70,48 +80,14 @@ pub fn divide(
 // All that comes before the records: `room` records and an output of length `output` are lent.
 pub fn prepare(
     pass: u64,
-    width: u64,
-    height: u64,
-    cells: &[u8],
-    spans: &[u64],
-    boundaries: &[u64],
-    anchors: &[u64],
+    asked: Asked,
     room: usize,
     output: usize,
-    labels: &mut [u32],
-    masks: &mut [u16],
-    queue: &mut [u32],
-    tallies: &mut [u32],
-    pairs: &mut [u32],
+    lists: &mut PartitionLists,
 ) -> Result<Ready, Refusal>
-    ensures { PreparedAs pass width height cells.now spans.now boundaries.now anchors.now room
-        output labels.old masks.old queue.old tallies.old pairs.old result
-        labels.new masks.new queue.new tallies.new pairs.new }
+    ensures prepared { of_lists (of_lists (of_asked (PreparedAs pass) asked.entry room output) lists.old result) lists.new }
+    ensures same { SameLists lists.old lists.new }
 {
-    checks_before(
-        pass,
-        width,
-        height,
-        cells,
-        spans,
-        boundaries,
-        anchors,
-        labels.len(),
-        masks.len(),
-        queue.len(),
-        tallies.len(),
-        output,
-    )?;
-    divide(
-        width as usize,
-        height as usize,
-        cells,
-        spans,
-        room,
-        labels,
-        masks,
-        queue,
-        tallies,
-        pairs,
-    )
+    checks_before(pass, asked, &*lists, output)?;
+    divide(asked.grid(), asked.spans, room, lists)
 }

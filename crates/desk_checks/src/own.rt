@@ -18,16 +18,11 @@ fn is_span(boundaries: &[u64], b: usize, spans: &[u64], s: usize) -> bool
     requires { (b + 3 < length boundaries.now) × (s + 3 < length spans.now) }
     ensures { result ≡ is_span (segment_at boundaries.now b) (segment_at spans.now s) }
 {
-    let ax = boundaries[b];
-    let ay = boundaries[b + 1];
-    let bx = boundaries[b + 2];
-    let by = boundaries[b + 3];
-    let sx = spans[s];
-    let sy = spans[s + 1];
-    let tx = spans[s + 2];
-    let ty = spans[s + 3];
-    ((ax == sx) & (ay == sy) & (bx == tx) & (by == ty))
-        | ((ax == tx) & (ay == ty) & (bx == sx) & (by == sy))
+    let first = (boundaries[b], boundaries[b + 1]);
+    let second = (boundaries[b + 2], boundaries[b + 3]);
+    let from = (spans[s], spans[s + 1]);
+    let to = (spans[s + 2], spans[s + 3]);
+    ((first, second) == (from, to)) | ((first, second) == (to, from))
 }
 
 // Whether both the boundary and the span of number i are there, and lie on each other.
@@ -59,41 +54,48 @@ fn both_whole(boundaries: usize, anchors: usize) -> bool
     is_whole(NUMBERS_PER_BOUNDARY, boundaries) & is_whole(NUMBERS_PER_ANCHOR, anchors)
 }
 
+// What a desk asks over the shared map: its pass, its boundaries and its anchors.
+#[derive(Clone, Copy)]
+pub struct Desk<'a> {
+    pub pass: u64,
+    pub boundaries: &'a [u64],
+    pub anchors: &'a [u64],
+}
+
 // Checks 7, 20, 8 and 10.
 fn check_places(
     width: u64,
     height: u64,
     spans: &[u64],
-    boundaries: &[u64],
-    anchors: &[u64],
+    desk: Desk,
     output: usize,
 ) -> Result<(), Refusal>
     requires { (width ≤ max_side) × (height ≤ max_side) }
     ensures { refusal_in result
-        ≡ places_refusal width height spans.now boundaries.now anchors.now output }
+        ≡ places_refusal width height spans.now desk.entry.boundaries.now desk.entry.anchors.now output }
 {
+    let boundaries = desk.boundaries;
     no_fault(boundaries_fault(width, height, boundaries), Cause::Boundary)?;
     no_fault(desk_fault(spans, boundaries), Cause::Desk)?;
-    no_fault(anchors_fault(width, height, anchors), Cause::AnchorOutside)?;
+    no_fault(anchors_fault(width, height, desk.anchors), Cause::AnchorOutside)?;
     let room = output_has_room(boundaries.len() / NUMBERS_PER_BOUNDARY, output);
     ensure(room, Cause::Room)
 }
 
 // All of them. Of the output only the length matters.
 pub fn check_desk(
-    pass: u64,
     width: u64,
     height: u64,
     spans: &[u64],
-    boundaries: &[u64],
-    anchors: &[u64],
+    desk: Desk,
     output: usize,
 ) -> Result<(), Refusal>
     requires { (width ≤ max_side) × (height ≤ max_side) }
     ensures { refusal_in result
-        ≡ own_refusal width height spans.now pass boundaries.now anchors.now output }
+        ≡ own_refusal width height spans.now desk.entry.pass desk.entry.boundaries.now desk.entry.anchors.now output }
 {
-    ensure(both_whole(boundaries.len(), anchors.len()), Cause::Entries)?;
-    ensure(pass_fits(pass), Cause::Pass)?;
-    check_places(width, height, spans, boundaries, anchors, output)
+    let whole = both_whole(desk.boundaries.len(), desk.anchors.len());
+    ensure(whole, Cause::Entries)?;
+    ensure(pass_fits(desk.pass), Cause::Pass)?;
+    check_places(width, height, spans, desk, output)
 }

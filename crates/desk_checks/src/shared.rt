@@ -1,6 +1,9 @@
 // What comes before the records that both desks share: the checks of the shared lists, labels, tallies and pairs. The boundaries and anchors of neither desk are looked at.
+ghost use Rattle.areas.specs.Lists.{of_lists, SameLists};
 ghost use Rattle.desk_checks.specs.Shared.{SharedAs};
 
+use areas::lists::PartitionLists;
+use call_partition::asked::Asked;
 use call_partition::checked::checks_before;
 use call_partition::{Ready, divide};
 use refusals::Refusal;
@@ -15,40 +18,19 @@ pub fn prepare_shared(
     cells: &[u8],
     spans: &[u64],
     room: usize,
-    labels: &mut [u32],
-    masks: &mut [u16],
-    queue: &mut [u32],
-    tallies: &mut [u32],
-    pairs: &mut [u32],
+    lists: &mut PartitionLists,
 ) -> Result<Ready, Refusal>
-    ensures { SharedAs width height cells.now spans.now room
-        labels.old masks.old queue.old tallies.old pairs.old result
-        labels.new masks.new queue.new tallies.new pairs.new }
+    ensures shared { of_lists (of_lists (SharedAs width height cells.now spans.now room) lists.old result) lists.new }
+    ensures same { SameLists lists.old lists.new }
 {
-    checks_before(
-        ANY_PASS,
+    let asked = Asked {
         width,
         height,
         cells,
         spans,
-        &spans[..0],
-        &spans[..0],
-        labels.len(),
-        masks.len(),
-        queue.len(),
-        tallies.len(),
-        0,
-    )?;
-    divide(
-        width as usize,
-        height as usize,
-        cells,
-        spans,
-        room,
-        labels,
-        masks,
-        queue,
-        tallies,
-        pairs,
-    )
+        boundaries: &spans[..0],
+        anchors: &spans[..0],
+    };
+    checks_before(ANY_PASS, asked, &*lists, 0)?;
+    divide(asked.grid(), spans, room, lists)
 }

@@ -2,14 +2,17 @@
 ghost use Rattle.std.specs.Prelude.{◌≡◌, ◌*◌, ◌/◌, ◌≤◌, length, take};
 ghost use Rattle.definitions.specs.Limits.{max_entries, numbers_per_span};
 ghost use Rattle.boundary_blocks.specs.Blocks.{left_blocks, left_count};
+ghost use Rattle.areas.specs.Lists.{of_lists, SameLists};
 ghost use Rattle.game_lists.specs.Kept.{Source, lent_of, Divides, DividedKept};
 
+use areas::lists::PartitionLists;
+use areas::scratch::clear_assessed;
 use assessments::TALLIES_PER_SPAN;
+use assessments::region_pairs::NUMBERS_PER_PAIR;
 use boundary_blocks::blocks::{copy_block, keep_blocks};
 use call_partition::{Ready, divide};
 use checks::limits::NUMBERS_PER_SPAN;
-
-const NUMBERS_PER_PAIR: usize = 3;
+use grid_steps::grid::TerrainGrid;
 
 // 256 spans.
 const SPANS_LONG: usize = 1024;
@@ -29,44 +32,23 @@ fn kept_spans(spans: &[u64], removed: &[bool; 256], kept: &mut [u64]) -> usize
 // Labels, tallies and pairs of the kept graph, in the lists of the first partition, which has `rows` rows of pairs; beyond them, as far as the first filled, zero. It
 // is not refused: there are no more regions and pairs than in the first.
 pub fn divide_kept(
-    width: usize,
-    height: usize,
-    cells: &[u8],
+    grid: TerrainGrid,
     spans: &[u64],
     removed: &[bool; 256],
     rows: usize,
     room: usize,
-    labels: &mut [u32],
-    masks: &mut [u16],
-    queue: &mut [u32],
-    tallies: &mut [u32],
-    pairs: &mut [u32],
+    lists: &mut PartitionLists,
 ) -> Ready
-    requires { (S : Source) × Divides (lent_of width height cells.now spans.now S) removed.now rows room
-        labels.old masks.old queue.old tallies.old pairs.old }
-    ensures { (S : Source) → Divides (lent_of width height cells.now spans.now S) removed.now rows room
-        labels.old masks.old queue.old tallies.old pairs.old
-        → DividedKept (lent_of width height cells.now spans.now S)
-        labels.old masks.old queue.old tallies.old pairs.old result
-        labels.new masks.new queue.new tallies.new pairs.new }
+    requires { (S : Source) × of_lists (Divides (lent_of grid.width grid.height grid.cells.now spans.now S) removed.now rows room) lists.old }
+    ensures divided { (S : Source) → of_lists (Divides (lent_of grid.entry.width grid.entry.height grid.entry.cells.now spans.now S) removed.now rows room) lists.old
+        → of_lists (of_lists (DividedKept (lent_of grid.entry.width grid.entry.height grid.entry.cells.now spans.now S)) lists.old result) lists.new }
+    ensures same { SameLists lists.old lists.new }
 {
     let mut kept = [0u64; SPANS_LONG];
     let count = kept_spans(spans, removed, &mut kept);
     let end = NUMBERS_PER_SPAN * count;
     let filled = TALLIES_PER_SPAN * (spans.len() / NUMBERS_PER_SPAN);
-    tallies[..filled].fill(0);
-    pairs[..NUMBERS_PER_PAIR * rows].fill(0);
-    divide(
-        width,
-        height,
-        cells,
-        &kept[..end],
-        room,
-        labels,
-        masks,
-        queue,
-        tallies,
-        pairs,
-    )
-    .unwrap()
+    let paired = NUMBERS_PER_PAIR * rows;
+    clear_assessed(lists.tallies, lists.pairs, filled, paired);
+    divide(grid, &kept[..end], room, lists).unwrap()
 }

@@ -15,15 +15,17 @@ use Rattle.jenwyllt.specs.Contract.{answer_in, Partitions, sheet_in, Reads}
 use Rattle.jenwyllt.specs.declared.JenwylltAnswer.{JenwylltAnswer}
 use Rattle.jenwyllt.specs.declared.JenwylltSheet.{JenwylltSheet}
 
-pub answered : {L : Lent} {f : Result ℕ Refusal} {l m q t p : List ℕ} (r : JenwylltAnswer) → Ran L f l m q t p → answer_of f ≡ answer_in r → Partitions L r l m q t p
-answered {L} {f} {l} {m} {q} {t} {p} r ran e =
+-- what the partition left in its struct's lists is in the lists themselves
+pub answered : {L : Lent} {f : Result ℕ Refusal} {l m q t p l' m' q' t' p' : List ℕ} (r : JenwylltAnswer) → Ran L f l m q t p → answer_of f ≡ answer_in r
+    → l' ≡ l → m' ≡ m → q' ≡ q → t' ≡ t → p' ≡ p → Partitions L r l' m' q' t' p'
+answered {L} {f} {l} {m} {q} {t} {p} r ran e el em eq et ep =
     record {
       answer = sym e ∙ ran.answer;
-      labels = subst (λ (a : Answer). l ≡ (partition_exit L a.number).labels) e ran.labels;
-      masks = subst (λ (a : Answer). m ≡ (partition_exit L a.number).masks) e ran.masks;
-      queue = subst (λ (a : Answer). q ≡ (partition_exit L a.number).queue) e ran.queue;
-      tallies = subst (λ (a : Answer). t ≡ (partition_exit L a.number).tallies) e ran.tallies;
-      pairs = subst (λ (a : Answer). p ≡ (partition_exit L a.number).pairs) e ran.pairs;
+      labels = el ∙ subst (λ (a : Answer). l ≡ (partition_exit L a.number).labels) e ran.labels;
+      masks = em ∙ subst (λ (a : Answer). m ≡ (partition_exit L a.number).masks) e ran.masks;
+      queue = eq ∙ subst (λ (a : Answer). q ≡ (partition_exit L a.number).queue) e ran.queue;
+      tallies = et ∙ subst (λ (a : Answer). t ≡ (partition_exit L a.number).tallies) e ran.tallies;
+      pairs = ep ∙ subst (λ (a : Answer). p ≡ (partition_exit L a.number).pairs) e ran.pairs;
     }
 
 pub sheet-answered : {reading : Reading} {cells spans boundaries anchors : List ℕ} {f g : Result Header Refusal} {cells' spans' boundaries' anchors' : List ℕ} {r : JenwylltSheet}

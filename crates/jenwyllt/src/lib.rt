@@ -9,6 +9,7 @@ ghost use Rattle.areas.specs.Contract.{given};
 ghost use Rattle.refusals.specs.Refusals.{refusal_of};
 ghost use Rattle.jenwyllt.specs.Contract.{Partitions, sheet_in, Reads};
 
+use areas::lists::PartitionLists;
 use areas::partition;
 use hypotenuse::hypotenuse;
 use refusals::Refusal;
@@ -22,6 +23,7 @@ pub struct JenwylltAnswer {
     pub value: u64,
 }
 
+// Kept: flat lists, which the C interface needs.
 pub fn jenwyllt_partition(
     width: u64,
     height: u64,
@@ -37,9 +39,14 @@ pub fn jenwyllt_partition(
         queue.old tallies.old pairs.old) result
         labels.new masks.new queue.new tallies.new pairs.new }
 {
-    match partition(
-        width, height, cells, spans, labels, masks, queue, tallies, pairs,
-    ) {
+    let mut lists = PartitionLists {
+        labels,
+        masks,
+        queue,
+        tallies,
+        pairs,
+    };
+    match partition(width, height, cells, spans, &mut lists) {
         Ok(count) => JenwylltAnswer {
             number: 0,
             value: count as u64,
@@ -95,6 +102,7 @@ fn refused(refusal: Refusal) -> JenwylltSheet
     }
 }
 
+// Kept: flat lists, which the C interface needs.
 pub fn jenwyllt_read_sheet(
     bytes: &[u8],
     cells: &mut [u8],

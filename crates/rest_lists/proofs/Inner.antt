@@ -122,24 +122,18 @@ module _ {w h : ℕ} {cells anchors : List ℕ} {O : Origin} {s : List Region} {
       let n = length (pair_rows_of (context_of (start_map M))) in
       omega (arith, leb-true n (length O.pairs / 3 * 3) (no_fault_lem (leb n (length O.pairs / 3 * 3)) 0 D.accepted.pairs), D.firsts.rows, D.pairs)
 
-  pub tallies-small : length t < 2 ^ 64 → 2 * first.kept < 2 ^ 64
-  tallies-small h = omega (arith, h, tallies-fit)
-
-  pub pairs_small : length p < 2 ^ 64 → 3 * first.rows < 2 ^ 64
-  pairs_small h = omega (arith, h, pairs-fit)
-
   pub spans_fit : 4 * kept ≤ length spans
   spans_fit = omega (arith, begins-long (ends_block M) 4 (λ x. refl) D.ended, D.count)
 
   front : take (4 * kept) spans ≡ flat_spans (kept_of M places).spans
   front = ap (λ n. take (4 * n) spans) D.count ∙ begins-front (ends_block M) 4 (λ x. refl) D.ended ∙ flat-ends M places
 
-  module _ {t₀ p₀ : List ℕ} (et : t₀ ≡ zeroed (2 * first.kept) t) (ep : p₀ ≡ zeroed (3 * first.rows) p) where
+  module _ (t₀ p₀ : List ℕ) (same_tallies : length t₀ ≡ length t) (same_pairs : length p₀ ≡ length p) where
     t-long : length t₀ ≡ length O.tallies
-    t-long = ap length et ∙ zeroed-length (2 * first.kept) t tallies-fit ∙ D.tallies
+    t-long = same_tallies ∙ D.tallies
 
     p-long : length p₀ ≡ length O.pairs
-    p-long = ap length ep ∙ zeroed-length (3 * first.rows) p pairs-fit ∙ D.pairs
+    p-long = same_pairs ∙ D.pairs
 
     pub again-fits : Fit w h cells (take (4 * kept) spans) (length l) (length m) (length q) (length t₀)
     unfolding map_in
@@ -168,9 +162,9 @@ module _ {w h : ℕ} {cells anchors : List ℕ} {O : Origin} {s : List Region} {
       pub is-ready : IsOk r
       is-ready = is-ok r never-refused
 
-      pub redivided : {ready : Ready} → r ≡ Ok ready
+      pub redivided : {ready : Ready} → r ≡ Ok ready → t₀ ≡ zeroed (2 * first.kept) t → p₀ ≡ zeroed (3 * first.rows) p
           → Redivided w h cells anchors O places first room l m q t p (record { kept = kept; regions = ready.regions; rows = ready.rows }) l' m' q' t' p'
-      redivided {ready} e =
+      redivided {ready} e et ep =
           record {
             count = D.count;
             ready =

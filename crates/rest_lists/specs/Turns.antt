@@ -1,15 +1,16 @@
 -- What a turn stands for, and what comes behind a pass. Definitions only; assumes nothing.
 use Rattle.std.specs.Prelude.{ℕ, ◌+◌, Bool, true, false, cond, eqb}
+use Rattle.checks.specs.Passes.{pass_number}
 use Rattle.rest_lists.specs.declared.turns.Turn.{Turn}
 
--- the next pass, how many in a row before it removed none, and the rounds that are over
+-- the number of the next pass, how many in a row before it removed none, and the rounds that are over
 pub record TurnIs : Type 0 where
   pub pass : ℕ
   pub quiet : ℕ
   pub rounds : ℕ
 
 abbrev pub turn_of : Turn → TurnIs
-turn_of t = record { pass = t.pass; quiet = t.quiet; rounds = t.rounds }
+turn_of t = record { pass = pass_number t.pass; quiet = t.quiet; rounds = t.rounds }
 
 abbrev pub quiet_after : ℕ → Bool → ℕ
 quiet_after quiet true = 0

@@ -5,17 +5,19 @@ ghost use Rattle.definitions.specs.Lists.{overwrite, zeroed};
 ghost use Rattle.definitions.specs.RegionRecord.{Region};
 ghost use Rattle.definitions.specs.Rows.{flat_rows};
 ghost use Rattle.boundary_blocks.specs.Blocks.{left_blocks, left_count};
+ghost use Rattle.areas.specs.Lists.{of_lists, SameLists};
 ghost use Rattle.rest_lists.specs.Kept.{Origin, Divides, Redivided};
 ghost use Rattle.boundary_blocks.specs.Start.{rows_at};
 
+use areas::lists::PartitionLists;
+use areas::scratch::{clear_assessed, clear_scratch};
 use assessments::TALLIES_PER_SPAN;
+use assessments::region_pairs::NUMBERS_PER_PAIR;
 use boundary_blocks::blocks::keep_blocks;
 use boundary_blocks::start::put_rows;
 use call_partition::divide;
-use call_partition::scratch::clear_scratch;
 use checks::limits::{NUMBERS_PER_BOUNDARY, NUMBERS_PER_SPAN};
-
-const NUMBERS_PER_PAIR: usize = 3;
+use grid_steps::grid::TerrainGrid;
 
 // How many boundaries are kept, and the regions and rows of pairs of their partition.
 #[derive(Clone, Copy)]
@@ -48,45 +50,25 @@ pub fn keep_left(
 // Labels, tallies and pairs of what is kept; beyond them, as far as the first partition filled, zero. It is not refused: no later partition has more regions or
 // pairs than the first.
 pub fn divide_again(
-    width: usize,
-    height: usize,
-    cells: &[u8],
+    grid: TerrainGrid,
     spans: &[u64],
     kept: usize,
     first: Standing,
     room: usize,
-    labels: &mut [u32],
-    masks: &mut [u16],
-    queue: &mut [u32],
-    tallies: &mut [u32],
-    pairs: &mut [u32],
+    lists: &mut PartitionLists,
 ) -> Standing
     requires { (O : Origin) × (anchors : List ℕ) × (s : List Region) × (places : List ℕ)
-        × Divides width height cells.now anchors O s places spans.now kept first room
-        labels.old masks.old queue.old tallies.old pairs.old }
-    ensures { (O : Origin) (anchors : List ℕ) (s : List Region) (places : List ℕ)
-        → Divides width height cells.now anchors O s places spans.now kept first room
-        labels.old masks.old queue.old tallies.old pairs.old
-        → Redivided width height cells.now anchors O places first room
-        labels.old masks.old queue.old tallies.old pairs.old result
-        labels.new masks.new queue.new tallies.new pairs.new }
+        × of_lists (Divides grid.width grid.height grid.cells.now anchors O s places spans.now kept first room) lists.old }
+    ensures divided { (O : Origin) (anchors : List ℕ) (s : List Region) (places : List ℕ)
+        → of_lists (Divides grid.entry.width grid.entry.height grid.entry.cells.now anchors O s places spans.now kept first room) lists.old
+        → of_lists (of_lists (Redivided grid.entry.width grid.entry.height grid.entry.cells.now anchors O places first room) lists.old result) lists.new }
+    ensures same { SameLists lists.old lists.new }
 {
-    tallies[..TALLIES_PER_SPAN * first.kept].fill(0);
-    pairs[..NUMBERS_PER_PAIR * first.rows].fill(0);
+    let filled = TALLIES_PER_SPAN * first.kept;
+    let paired = NUMBERS_PER_PAIR * first.rows;
+    clear_assessed(lists.tallies, lists.pairs, filled, paired);
     let end = NUMBERS_PER_SPAN * kept;
-    let ready = divide(
-        width,
-        height,
-        cells,
-        &spans[..end],
-        room,
-        labels,
-        masks,
-        queue,
-        tallies,
-        pairs,
-    )
-    .unwrap();
+    let ready = divide(grid, &spans[..end], room, lists).unwrap();
     Standing {
         kept,
         regions: ready.regions,

@@ -5,6 +5,7 @@ ghost use Rattle.row_runs.specs.Names.{EastLevel};
 ghost use Rattle.row_runs.specs.South.{SouthLevel};
 ghost use Rattle.row_runs.specs.Corners.{is_square, StepAsked, StepJoined, CornersAsked, CornersJoined, DiagonalsAsked, DiagonalsJoined};
 
+use crate::grid::CutGrid;
 use crate::tests::is_walkable;
 use grid_steps::is_cut;
 use parents::join;
@@ -22,10 +23,11 @@ fn is_plain(masks: &[u16], c: usize) -> bool
 }
 
 // Whether the four cells of the square whose upper left is c are walkable.
-fn is_square(width: usize, cells: &[u8], c: usize) -> bool
-    requires { c + width + 1 < length cells.now }
-    ensures { result ≡ is_square width cells.now c }
+fn is_square(grid: CutGrid, c: usize) -> bool
+    requires { c + grid.width + 1 < length grid.cells.now }
+    ensures { result ≡ is_square grid.entry.width grid.entry.cells.now c }
 {
+    let CutGrid { width, cells, .. } = grid;
     if !is_walkable(cells, c) {
         return false;
     }
@@ -54,34 +56,35 @@ fn join_step(masks: &[u16], parents: &mut [u32], a: usize, k: usize, b: usize)
 }
 
 // The two diagonal steps of the square whose upper left is c.
-fn join_corners(width: usize, cells: &[u8], masks: &[u16], parents: &mut [u32], c: usize)
-    requires { CornersAsked width cells.now masks.now parents.old c }
+fn join_corners(grid: CutGrid, parents: &mut [u32], c: usize)
+    requires { CornersAsked grid.width grid.cells.now grid.masks.now parents.old c }
     ensures { (n : ℕ) (name : ℕ → ℕ) →
         Forest n name parents.old →
-        c + width + 1 < n →
-        CornersJoined width cells.now masks.now n name c parents.old parents.new }
+        c + grid.entry.width + 1 < n →
+        CornersJoined grid.entry.width grid.entry.cells.now grid.entry.masks.now n name c parents.old parents.new }
 {
-    if is_plain(masks, c) {
+    if is_plain(grid.masks, c) {
         return;
     }
-    if !is_square(width, cells, c) {
+    if !is_square(grid, c) {
         return;
     }
-    join_step(masks, parents, c, SOUTH_EAST, c + width + 1);
-    join_step(masks, parents, c + 1, SOUTH_WEST, c + width);
+    let below = c + grid.width;
+    join_step(grid.masks, parents, c, SOUTH_EAST, below + 1);
+    join_step(grid.masks, parents, c + 1, SOUTH_WEST, below);
 }
 
 // All squares of the rows from `up` and from `up` + `width` on.
-pub fn join_diagonals(width: usize, cells: &[u8], masks: &[u16], parents: &mut [u32], up: usize)
-    requires { DiagonalsAsked width cells.now masks.now parents.old up }
+pub fn join_diagonals(grid: CutGrid, parents: &mut [u32], up: usize)
+    requires { DiagonalsAsked grid.width grid.cells.now grid.masks.now parents.old up }
     ensures { (n : ℕ) (name : ℕ → ℕ) →
         Forest n name parents.old →
-        up + width + width ≤ n →
-        EastLevel cells.now masks.now up (up + width) name →
-        SouthLevel width cells.now masks.now up (up + width) name →
-        DiagonalsJoined width cells.now masks.now n name up parents.old parents.new }
+        up + grid.entry.width + grid.entry.width ≤ n →
+        EastLevel grid.entry.cells.now grid.entry.masks.now up (up + grid.entry.width) name →
+        SouthLevel grid.entry.width grid.entry.cells.now grid.entry.masks.now up (up + grid.entry.width) name →
+        DiagonalsJoined grid.entry.width grid.entry.cells.now grid.entry.masks.now n name up parents.old parents.new }
 {
-    for c in up..(up + width).saturating_sub(1) {
-        join_corners(width, cells, masks, parents, c);
+    for c in up..(up + grid.width).saturating_sub(1) {
+        join_corners(grid, parents, c);
     }
 }

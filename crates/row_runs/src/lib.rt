@@ -5,6 +5,7 @@
 
 pub mod cells;
 pub mod corners;
+pub mod grid;
 pub mod numbering;
 pub mod row;
 pub mod run;
@@ -16,26 +17,31 @@ ghost use Rattle.definitions.specs.Grid.{Map};
 ghost use Rattle.row_runs.specs.Contract.{Room, OnwardCut, Labelled};
 
 use cells::join_cells;
+use grid::CutGrid;
+use grid_steps::grid::TerrainGrid;
 use numbering::number;
 use parents::alone;
 
 // Labels every region and returns how many there are. The queue is left with the stretches of each row, each of one label. The masks may be any: what is promised is
 // of the maps whose cut steps they hold.
 pub fn label_cells(
-    width: usize,
-    height: usize,
-    cells: &[u8],
+    grid: TerrainGrid,
     masks: &[u16],
     labels: &mut [u32],
     queue: &mut [u32],
 ) -> usize
-    requires { Room width height cells.now masks.now labels.old queue.old }
+    requires { Room grid.width grid.height grid.cells.now masks.now labels.old queue.old }
     ensures { (M : Map) →
-        OnwardCut width height cells.now masks.now M →
+        OnwardCut grid.entry.width grid.entry.height grid.entry.cells.now masks.now M →
         Labelled M labels.old queue.old labels.new queue.new result }
 {
-    let n = height * width;
+    let n = grid.height * grid.width;
+    let cut = CutGrid {
+        width: grid.width,
+        cells: grid.cells,
+        masks,
+    };
     alone(labels, n);
-    join_cells(width, height, cells, masks, labels, queue);
-    number(cells, labels, &*queue, n)
+    join_cells(cut, grid.height, labels, queue);
+    number(grid.cells, labels, &*queue, n)
 }

@@ -3,6 +3,7 @@ ghost use Rattle.std.specs.Prelude.{◌≡◌, false, ◌+◌, ◌≤◌, length
 ghost use Rattle.grid_steps.specs.Masks.{cut_bit};
 ghost use Rattle.row_runs.specs.Stretch.{walks_as, goes_on, Clear, Until, Stretch, StretchAsked};
 
+use crate::grid::CutGrid;
 use crate::tests::{SOUTH, goes_on, is_walkable};
 use crate::words::{first_flag, unlike_flags};
 use grid_steps::is_cut;
@@ -42,12 +43,12 @@ fn alike_end(cells: &[u8], from: usize, end: usize, walkable: bool) -> usize
 }
 
 // The first cell from `from` on that the run of the cell before `from` has not.
-fn run_end(cells: &[u8], masks: &[u16], from: usize, end: usize) -> usize
-    requires { (1 ≤ from) × (from ≤ end) × (end ≤ length cells.now) × (end ≤ length masks.now) }
-    ensures { Until (goes_on cells.now masks.now) from end result }
+fn run_end(grid: CutGrid, from: usize, end: usize) -> usize
+    requires { (1 ≤ from) × (from ≤ end) × (end ≤ length grid.cells.now) × (end ≤ length grid.masks.now) }
+    ensures { Until (goes_on grid.entry.cells.now grid.entry.masks.now) from end result }
 {
     (from..end)
-        .find(|&c| !goes_on(cells, masks, c))
+        .find(|&c| !goes_on(grid, c))
         .unwrap_or(end)
 }
 
@@ -62,13 +63,13 @@ pub fn south_end(masks: &[u16], from: usize, end: usize) -> usize
 }
 
 // The end of the stretch that begins at `from`, in a row that ends at `end` and may have cut steps.
-pub fn stretch_end(cells: &[u8], masks: &[u16], from: usize, end: usize, marked: bool) -> usize
-    requires { StretchAsked cells.now masks.now from end marked }
-    ensures { Stretch cells.now masks.now end from result }
+pub fn stretch_end(grid: CutGrid, from: usize, end: usize, marked: bool) -> usize
+    requires { StretchAsked grid.cells.now grid.masks.now from end marked }
+    ensures { Stretch grid.entry.cells.now grid.entry.masks.now end from result }
 {
-    let walkable = is_walkable(cells, from);
+    let walkable = is_walkable(grid.cells, from);
     if walkable & marked {
-        return run_end(cells, masks, from + 1, end);
+        return run_end(grid, from + 1, end);
     }
-    alike_end(cells, from, end, walkable)
+    alike_end(grid.cells, from, end, walkable)
 }

@@ -3,6 +3,7 @@ ghost use Rattle.std.specs.Prelude.{ℕ, ◌≤◌, ◌<◌};
 ghost use Rattle.parents.specs.Forest.{Forest};
 ghost use Rattle.row_runs.specs.Names.{Fresh, RunAsked, RunPut, PutAsked, StretchPut, ScanAsked, RowScanned};
 
+use crate::grid::CutGrid;
 use crate::row::stretch_end;
 use crate::tests::is_walkable;
 
@@ -36,28 +37,27 @@ pub fn put_stretch(cells: &[u8], parents: &mut [u32], from: usize, end: usize)
 
 // The stretches of the row from `from` to `end`, one behind another.
 pub fn scan_row(
-    cells: &[u8],
-    masks: &[u16],
+    grid: CutGrid,
     parents: &mut [u32],
     queue: &mut [u32],
     from: usize,
     end: usize,
     marked: bool,
 )
-    requires { ScanAsked cells.now masks.now parents.old queue.old from end marked }
+    requires { ScanAsked grid.cells.now grid.masks.now parents.old queue.old from end marked }
     ensures { (n : ℕ) (name : ℕ → ℕ) →
         Forest n name parents.old →
         Fresh n from parents.old →
         end ≤ n →
-        RowScanned cells.now masks.now n name from end parents.old queue.old
+        RowScanned grid.entry.cells.now grid.entry.masks.now n name from end parents.old queue.old
         parents.new queue.new }
 {
     let mut c = from;
     // Kept: each stretch begins where the one before it ends, and no range or chain has these places.
     while c < end {
-        let e = stretch_end(cells, masks, c, end, marked);
+        let e = stretch_end(grid, c, end, marked);
         queue[c] = e as u32;
-        put_stretch(cells, parents, c, e);
+        put_stretch(grid.cells, parents, c, e);
         c = e;
     }
 }

@@ -4,6 +4,7 @@ ghost use Rattle.parents.specs.Forest.{Forest};
 ghost use Rattle.row_runs.specs.Names.{EastLevel};
 ghost use Rattle.row_runs.specs.South.{OverlapAsked, OverlapJoined, RowsAsked, RowsJoined};
 
+use crate::grid::CutGrid;
 use crate::row::south_end;
 use crate::tests::is_walkable;
 use parents::join;
@@ -21,49 +22,46 @@ fn end_at(queue: &[u32], c: usize, known: usize) -> usize
 
 // The cells from `from` up to `end` lie in one stretch, and those below them in another: where both are runs, one uncut step between them joins the two.
 fn join_overlap(
-    width: usize,
-    cells: &[u8],
-    masks: &[u16],
+    grid: CutGrid,
     parents: &mut [u32],
     from: usize,
     end: usize,
 )
-    requires { OverlapAsked width cells.now masks.now parents.old from end }
+    requires { OverlapAsked grid.width grid.cells.now grid.masks.now parents.old from end }
     ensures { (n : ℕ) (name : ℕ → ℕ) →
         Forest n name parents.old →
-        end + width ≤ n →
-        OverlapJoined width cells.now masks.now n name from end parents.old parents.new }
+        end + grid.entry.width ≤ n →
+        OverlapJoined grid.entry.width grid.entry.cells.now grid.entry.masks.now n name from end parents.old parents.new }
 {
-    if !is_walkable(cells, from) {
+    if !is_walkable(grid.cells, from) {
         return;
     }
-    if !is_walkable(cells, from + width) {
+    if !is_walkable(grid.cells, from + grid.width) {
         return;
     }
-    let c = south_end(masks, from, end);
+    let c = south_end(grid.masks, from, end);
     if end <= c {
         return;
     }
-    join(parents, c, c + width);
+    join(parents, c, c + grid.width);
 }
 
 // The rows from `up` and from `up` + `width` on, from one end of a stretch to the next.
 pub fn join_rows(
-    width: usize,
-    cells: &[u8],
-    masks: &[u16],
+    grid: CutGrid,
     parents: &mut [u32],
     queue: &[u32],
     up: usize,
 )
-    requires { RowsAsked width cells.now masks.now parents.old queue.now up }
+    requires { RowsAsked grid.width grid.cells.now grid.masks.now parents.old queue.now up }
     ensures { (n : ℕ) (name : ℕ → ℕ) →
         Forest n name parents.old →
-        up + width + width ≤ n →
-        EastLevel cells.now masks.now up (up + width) name →
-        EastLevel cells.now masks.now (up + width) (up + width + width) name →
-        RowsJoined width cells.now masks.now n name up parents.old parents.new }
+        up + grid.entry.width + grid.entry.width ≤ n →
+        EastLevel grid.entry.cells.now grid.entry.masks.now up (up + grid.entry.width) name →
+        EastLevel grid.entry.cells.now grid.entry.masks.now (up + grid.entry.width) (up + grid.entry.width + grid.entry.width) name →
+        RowsJoined grid.entry.width grid.entry.cells.now grid.entry.masks.now n name up parents.old parents.new }
 {
+    let width = grid.width;
     let row = up + width;
     let mut c = up;
     let mut a = up;
@@ -73,7 +71,7 @@ pub fn join_rows(
         a = end_at(queue, c, a);
         b = end_at(queue, c + width, b);
         let e = a.min(b - width);
-        join_overlap(width, cells, masks, parents, c, e);
+        join_overlap(grid, parents, c, e);
         c = e;
     }
 }

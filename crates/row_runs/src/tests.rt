@@ -2,6 +2,7 @@
 ghost use Rattle.std.specs.Prelude.{◌≡◌, ◌≤◌, ◌<◌, length};
 ghost use Rattle.row_runs.specs.Stretch.{walks, goes_on};
 
+use crate::grid::CutGrid;
 use grid_steps::is_cut;
 
 pub const EAST: usize = 5;
@@ -16,12 +17,12 @@ pub fn is_walkable(cells: &[u8], c: usize) -> bool
 }
 
 // Whether the run of the cell to the west has cell c: c is walkable, and the step to it is not cut.
-pub fn goes_on(cells: &[u8], masks: &[u16], c: usize) -> bool
-    requires { (1 ≤ c) × (c < length cells.now) × (c < length masks.now) }
-    ensures { result ≡ goes_on cells.now masks.now c }
+pub fn goes_on(grid: CutGrid, c: usize) -> bool
+    requires { (1 ≤ c) × (c < length grid.cells.now) × (c < length grid.masks.now) }
+    ensures { result ≡ goes_on grid.entry.cells.now grid.entry.masks.now c }
 {
-    if !is_walkable(cells, c) {
+    if !is_walkable(grid.cells, c) {
         return false;
     }
-    !is_cut(masks, c - 1, EAST)
+    !is_cut(grid.masks, c - 1, EAST)
 }

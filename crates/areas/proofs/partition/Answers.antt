@@ -8,10 +8,10 @@ use Rattle.areas.proofs.partition.Goals as goal
 pub divide-requires : goal.divide-requires
 divide-requires c = early-fit _ _ _ _ _ _ _ _ (sym c.in_ok-checks_before.ensures)
 
-pub returns-in_err-checks_before : goal.returns-in_err-checks_before
-returns-in_err-checks_before c =
+pub returns-in_err-checks_before-clause-ran : goal.returns-in_err-checks_before-clause-ran
+returns-in_err-checks_before-clause-ran c =
     let r : c.from_residual.result ≡ Err c.in_err-checks_before.field-0.0 = search rules in
     rw r (ran-refused _ _ _ _ _ _ _ _ _ c.in_err-checks_before.field-0.0 c.in_err-checks_before.ensures)
 
-pub returns : goal.returns
-returns c = c.divide.ensures c.in_ok-checks_before.ensures
+pub returns-clause-ran : goal.returns-clause-ran
+returns-clause-ran c = c.divide.ensures.divided c.in_ok-checks_before.ensures

@@ -7,5 +7,5 @@ use Rattle.areas.proofs.labels.label_regions.Goals as goal
 
 pub returns : goal.returns
 returns c =
-    let z : c.fill.new.self ≡ replicate (length (take (c.args.height * c.args.width) c.args.masks.now)) 0 = search rules in
-    labelled _ _ _ _ (cleared_front (c.args.height * c.args.width) c.args.masks.now c.requires.room.1 z) c.mark_spans.ensures c.label_cells.ensures
+    let z : c.fill.new.self ≡ replicate (length (take (c.args.grid.height * c.args.grid.width) c.args.masks.now)) 0 = search rules in
+    labelled _ _ _ _ (cleared_front (c.args.grid.height * c.args.grid.width) c.args.masks.now c.requires.room.1 z) c.mark_spans.ensures c.label_cells.ensures

@@ -16,15 +16,15 @@ pub returns-in_err-ensure-2 : goal.returns-in_err-ensure-2
 unfolding sizes_refusal
 returns-in_err-ensure-2 c =
     let r : refusal_in c.from_residual-in_err-ensure-2.result ≡ Some (refusal_of c.in_err-ensure-2.field-0.0) = search rules in
-    r ∙ next (ensured 1 c.sides_fit.ensures c.in_ok-ensure.ensures) (here _ (ensured 2 c.cells_fit.ensures c.in_err-ensure-2.ensures))
+    r ∙ next (ensured 1 c.sides_fit.ensures c.in_ok-ensure.ensures) (here _ (ensured 2 c.cells_fit-counted.ensures c.in_err-ensure-2.ensures))
 
 pub returns-in_err-ensure-3 : goal.returns-in_err-ensure-3
 unfolding sizes_refusal
 returns-in_err-ensure-3 c =
     let r : refusal_in c.from_residual-in_err-ensure-3.result ≡ Some (refusal_of c.in_err-ensure-3.field-0.0) = search rules in
-    r ∙ next (ensured 1 c.sides_fit.ensures c.in_ok-ensure.ensures) (next (ensured 2 c.cells_fit.ensures c.in_ok-ensure-2.ensures) (here _ (ensured 3 c.all_whole-whole.ensures c.in_err-ensure-3.ensures)))
+    r ∙ next (ensured 1 c.sides_fit.ensures c.in_ok-ensure.ensures) (next (ensured 2 c.cells_fit-counted.ensures c.in_ok-ensure-2.ensures) (here _ (ensured 3 c.all_whole-whole.ensures c.in_err-ensure-3.ensures)))
 
 pub returns : goal.returns
 unfolding sizes_refusal
 returns c =
-    next (ensured 1 c.sides_fit.ensures c.in_ok-ensure.ensures) (next (ensured 2 c.cells_fit.ensures c.in_ok-ensure-2.ensures) (next (ensured 3 c.all_whole-whole.ensures c.in_ok-ensure-3.ensures) (sym (ensured 4 c.pass_fits.ensures c.ensure-4.ensures))))
+    next (ensured 1 c.sides_fit.ensures c.in_ok-ensure.ensures) (next (ensured 2 c.cells_fit-counted.ensures c.in_ok-ensure-2.ensures) (next (ensured 3 c.all_whole-whole.ensures c.in_ok-ensure-3.ensures) (sym (ensured 4 c.pass_fits.ensures c.ensure-4.ensures))))

@@ -41,5 +41,5 @@ returns c =
     let a = c.args in
     next (sym c.in_ok-check_sizes.ensures)
     (next (sym c.in_ok-check_entries.ensures)
-    (room-counted a.pass a.width a.height a.cells.now a.spans.now a.boundaries.now a.anchors.now a.labels a.masks a.queue a.tallies a.output
+    (room-counted a.pass a.asked.width a.asked.height a.asked.cells.now a.asked.spans.now a.asked.boundaries.now a.asked.anchors.now (length a.lists.now.labels.now) (length a.lists.now.masks.now) (length a.lists.now.queue.now) (length a.lists.now.tallies.now) a.output
     (sym c.in_ok-check_sizes.ensures) c.check_room.ensures))

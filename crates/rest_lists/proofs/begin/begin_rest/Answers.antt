@@ -4,23 +4,25 @@ use native.Mathlib.Omega.{arith}
 use lib.Seq.{length-take-le}
 use Rattle.std.proofs.Common.{rules, ◌≡◌}
 use Rattle.std.specs.Prelude.{Err}
+use Rattle.call_partition.specs.Asking.{grid_in}
+use Rattle.call_partition.proofs.OnGrid.{divided_on}
 use Rattle.rest_lists.proofs.Beginning.{begun-refused, count-few, ends-long, begun-fits, begun_divided}
 use Rattle.rest_lists.proofs.Holding.{start-held}
 use Rattle.rest_lists.proofs.begin.begin_rest.Goals as goal
 
-pub returns-in_err-rest_checks : goal.returns-in_err-rest_checks
-returns-in_err-rest_checks c =
+pub returns-in_err-rest_checks-clause-begun : goal.returns-in_err-rest_checks-clause-begun
+returns-in_err-rest_checks-clause-begun c =
     let given = c.args in
     let r : c.from_residual.result ≡ Err c.in_err-rest_checks.field-0.0 = search rules in
-    rw r (begun-refused given.width given.height given.cells.now given.spans.now given.boundaries.now given.anchors.now given.room given.output
-    given.labels.now given.masks.now given.queue.now given.tallies.now given.pairs.now
+    rw r (begun-refused given.asked.width given.asked.height given.asked.cells.now given.asked.spans.now given.asked.boundaries.now given.asked.anchors.now given.room given.output
+    given.lists.now.labels.now given.lists.now.masks.now given.lists.now.queue.now given.lists.now.tallies.now given.lists.now.pairs.now
     c.in_err-rest_checks.field-0.0 given.numbers.now given.ends.now given.entries.now c.in_err-rest_checks.ensures)
 
 pub start_lists-requires : goal.start_lists-requires
 start_lists-requires c =
     let given = c.args in
-    let few = count-few given.width given.height given.cells.now given.spans.now given.boundaries.now given.anchors.now given.room given.output
-    given.labels.now given.masks.now given.queue.now given.tallies.now given.pairs.now
+    let few = count-few given.asked.width given.asked.height given.asked.cells.now given.asked.spans.now given.asked.boundaries.now given.asked.anchors.now given.room given.output
+    given.lists.now.labels.now given.lists.now.masks.now given.lists.now.queue.now given.lists.now.tallies.now given.lists.now.pairs.now
     c.in_ok-rest_checks.ensures in
     record { sizes = (few, omega arith); room = (omega (arith, few, c.requires.0), omega (arith, few, c.requires.1), omega (arith, few, c.requires.2)) }
 
@@ -30,8 +32,8 @@ overflow_mul-end c =
     record {
       fits = omega (
         arith,
-        count-few given.width given.height given.cells.now given.spans.now given.boundaries.now given.anchors.now given.room given.output
-            given.labels.now given.masks.now given.queue.now given.tallies.now given.pairs.now
+        count-few given.asked.width given.asked.height given.asked.cells.now given.asked.spans.now given.asked.boundaries.now given.asked.anchors.now given.room given.output
+            given.lists.now.labels.now given.lists.now.masks.now given.lists.now.queue.now given.lists.now.tallies.now given.lists.now.pairs.now
             c.in_ok-rest_checks.ensures,
       );
     }
@@ -40,41 +42,41 @@ pub slice_bounds-divide-end : goal.slice_bounds-divide-end
 slice_bounds-divide-end c =
     let lists = c.start_lists in
     let given = c.args in
-    ends-long given.width given.height given.cells.now given.spans.now given.boundaries.now given.anchors.now given.room given.output
-    given.labels.now given.masks.now given.queue.now given.tallies.now given.pairs.now
+    ends-long given.asked.width given.asked.height given.asked.cells.now given.asked.spans.now given.asked.boundaries.now given.asked.anchors.now given.room given.output
+    given.lists.now.labels.now given.lists.now.masks.now given.lists.now.queue.now given.lists.now.tallies.now given.lists.now.pairs.now
     c.in_ok-rest_checks.ensures
-    (start-held given.width given.height given.cells.now given.spans.now given.boundaries.now given.anchors.now given.numbers.now given.ends.now given.entries.now
+    (start-held given.asked.width given.asked.height given.asked.cells.now given.asked.spans.now given.asked.boundaries.now given.asked.anchors.now given.numbers.now given.ends.now given.entries.now
     lists.ensures.numbers lists.ensures.spans lists.ensures.boundaries)
 
 pub slice_bounds-divide-end-2 : goal.slice_bounds-divide-end-2
 slice_bounds-divide-end-2 c =
     let lists = c.start_lists in
     let given = c.args in
-    sym (length-take-le _ _ (ends-long given.width given.height given.cells.now given.spans.now given.boundaries.now given.anchors.now given.room given.output
-    given.labels.now given.masks.now given.queue.now given.tallies.now given.pairs.now
+    sym (length-take-le _ _ (ends-long given.asked.width given.asked.height given.asked.cells.now given.asked.spans.now given.asked.boundaries.now given.asked.anchors.now given.room given.output
+    given.lists.now.labels.now given.lists.now.masks.now given.lists.now.queue.now given.lists.now.tallies.now given.lists.now.pairs.now
     c.in_ok-rest_checks.ensures
-    (start-held given.width given.height given.cells.now given.spans.now given.boundaries.now given.anchors.now given.numbers.now given.ends.now given.entries.now
+    (start-held given.asked.width given.asked.height given.asked.cells.now given.asked.spans.now given.asked.boundaries.now given.asked.anchors.now given.numbers.now given.ends.now given.entries.now
     lists.ensures.numbers lists.ensures.spans lists.ensures.boundaries)))
 
 pub divide-requires : goal.divide-requires
 divide-requires c =
     let lists = c.start_lists in
     let given = c.args in
-    begun-fits given.width given.height given.cells.now given.spans.now given.boundaries.now given.anchors.now given.room given.output
-    given.labels.now given.masks.now given.queue.now given.tallies.now given.pairs.now
+    rw c.grid.ensures (begun-fits given.asked.width given.asked.height given.asked.cells.now given.asked.spans.now given.asked.boundaries.now given.asked.anchors.now given.room given.output
+    given.lists.now.labels.now given.lists.now.masks.now given.lists.now.queue.now given.lists.now.tallies.now given.lists.now.pairs.now
     c.in_ok-rest_checks.ensures
-    (start-held given.width given.height given.cells.now given.spans.now given.boundaries.now given.anchors.now given.numbers.now given.ends.now given.entries.now
-    lists.ensures.numbers lists.ensures.spans lists.ensures.boundaries)
+    (start-held given.asked.width given.asked.height given.asked.cells.now given.asked.spans.now given.asked.boundaries.now given.asked.anchors.now given.numbers.now given.ends.now given.entries.now
+    lists.ensures.numbers lists.ensures.spans lists.ensures.boundaries))
 
-pub returns : goal.returns
-returns c =
+pub returns-clause-begun : goal.returns-clause-begun
+returns-clause-begun c =
     let divided = c.divide in
     let lists = c.start_lists in
     let given = c.args in
-    let last = divided.new in
-    begun_divided given.width given.height given.cells.now given.spans.now given.boundaries.now given.anchors.now given.room given.output
-    given.labels.now given.masks.now given.queue.now given.tallies.now given.pairs.now
+    let last = divided.new.lists in
+    begun_divided given.asked.width given.asked.height given.asked.cells.now given.asked.spans.now given.asked.boundaries.now given.asked.anchors.now given.room given.output
+    given.lists.now.labels.now given.lists.now.masks.now given.lists.now.queue.now given.lists.now.tallies.now given.lists.now.pairs.now
     c.in_ok-rest_checks.ensures
-    (start-held given.width given.height given.cells.now given.spans.now given.boundaries.now given.anchors.now given.numbers.now given.ends.now given.entries.now
+    (start-held given.asked.width given.asked.height given.asked.cells.now given.asked.spans.now given.asked.boundaries.now given.asked.anchors.now given.numbers.now given.ends.now given.entries.now
     lists.ensures.numbers lists.ensures.spans lists.ensures.boundaries)
-    last.labels last.masks last.queue last.tallies last.pairs divided.result divided.ensures
+    last.labels.now last.masks.now last.queue.now last.tallies.now last.pairs.now divided.result (divided_on (grid_in c.args.asked) _ _ c.args.lists.now c.divide.new.lists _ c.grid.ensures divided.ensures.divided)

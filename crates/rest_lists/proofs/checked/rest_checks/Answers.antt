@@ -51,5 +51,5 @@ returns c =
     next (sym c.in_ok-check_sizes.ensures)
     (next (searched 16 c.lists_fault.ensures c.in_ok-no_fault.ensures)
     (next (sym c.in_ok-check_entries.ensures)
-    (room-counted a.width a.height a.cells.now a.spans.now a.boundaries.now a.anchors.now a.labels a.masks a.queue a.tallies a.output
+    (room-counted a.asked.width a.asked.height a.asked.cells.now a.asked.spans.now a.asked.boundaries.now a.asked.anchors.now (length a.lists.now.labels.now) (length a.lists.now.masks.now) (length a.lists.now.queue.now) (length a.lists.now.tallies.now) a.output
     (sym c.in_ok-check_sizes.ensures) c.check_room.ensures)))

@@ -6,14 +6,11 @@ use Rattle.row_runs.proofs.cells.join_row.Goals as goal
 pub overflow_mul-from : goal.overflow_mul-from
 overflow_mul-from c = omega (arith, row-few c.requires)
 
-pub overflow_add-from : goal.overflow_add-from
-overflow_add-from c = omega (arith, row-few c.requires)
+pub overflow_add-end : goal.overflow_add-end
+overflow_add-end c = omega (arith, row-few c.requires)
 
 pub has_marks-marked-requires : goal.has_marks-marked-requires
 has_marks-marked-requires c = (omega arith, c.requires.masks_long)
-
-pub overflow_add-from-2 : goal.overflow_add-from-2
-overflow_add-from-2 c = omega (arith, row-few c.requires)
 
 pub scan_row-requires : goal.scan_row-requires
 scan_row-requires c = scan_asked c.requires c.has_marks-marked.ensures
@@ -35,7 +32,7 @@ returns-then-y-eq0 c =
 pub overflow_sub-from : goal.overflow_sub-from
 overflow_sub-from c =
     let arg = c.args in
-    room-above arg.width c.if-y-eq0.false
+    room-above arg.grid.width c.if-y-eq0.false
 
 pub join_pair-requires : goal.join_pair-requires
 join_pair-requires c =

@@ -21,17 +21,14 @@ returns-then-not-is_square c = corners-blocked (sym c.is_square.ensures ∙ not-
 pub overflow_add-c : goal.overflow_add-c
 overflow_add-c c = omega (arith, corners-small c.requires)
 
-pub overflow_add-c-2 : goal.overflow_add-c-2
-overflow_add-c-2 c = omega (arith, corners-small c.requires)
+pub overflow_add-below : goal.overflow_add-below
+overflow_add-below c = omega (arith, corners-small c.requires)
 
 pub join_step-requires : goal.join_step-requires
 join_step-requires c = first_asked c.requires
 
-pub overflow_add-c-3 : goal.overflow_add-c-3
-overflow_add-c-3 c = omega (arith, corners-small c.requires)
-
-pub overflow_add-c-4 : goal.overflow_add-c-4
-overflow_add-c-4 c = omega (arith, corners-small c.requires)
+pub overflow_add-below-2 : goal.overflow_add-below-2
+overflow_add-below-2 c = omega (arith, corners-small c.requires)
 
 pub join_step-requires-2 : goal.join_step-requires-2
 join_step-requires-2 c = second-asked c.requires c.join_step.ensures
