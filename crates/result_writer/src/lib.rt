@@ -3,16 +3,16 @@
 
 #![tactic(auto)]
 
-ghost use Rattle.std.specs.Prelude.{◌≡◌, ◌&&◌, ◌||◌, ◌∷◌, ◌+◌, ◌-◌, ◌*◌, ◌/◌, ◌%◌, ◌≤◌, ◌<◌, leb, ltb, eqb, length};
+ghost use Rattle.std.specs.Prelude.{◌≡◌, ◌&&◌, ◌+◌, ◌-◌, ◌/◌, ◌%◌, ◌≤◌, ◌<◌, leb, eqb, length};
 ghost use Rattle.definitions.specs.Limits.{tallies_per_span, numbers_per_pair, numbers_per_row};
 ghost use Rattle.definitions.specs.Refusals.{unless};
 ghost use Rattle.definitions.specs.Scan.{concat_map};
 ghost use Rattle.definitions.specs.Sort.{list_lt};
 ghost use Rattle.results.specs.Shortest.{shortest, list_bytes};
-ghost use Rattle.results.specs.Result.{turns, labels_fault, ascent_fault, pair_key, row_key, rules_fault};
+ghost use Rattle.results.specs.Result.{turns, labels_fault, ascent_fault, rules_fault};
 ghost use Rattle.results.specs.ResultAnswers.{entries_in, placed, result_bytes, Writes};
 ghost use Rattle.put_shortest.specs.Contract.{Put};
-ghost use Rattle.result_writer.specs.Contract.{turn_of, pair_at, row_at, Neighbours, spent, result_in, answer_in, refused_by};
+ghost use Rattle.result_writer.specs.Contract.{turn_of, key_in, entry_at, Neighbours, spent, result_in, answer_in, refused_by};
 
 use put_shortest::put_shortest;
 use refusals::Cause;
@@ -46,63 +46,38 @@ fn in_turn(regions: u64, labels: &[u64]) -> bool
     started == regions
 }
 
-// One number of a key and what stands behind it in the order.
-pub fn is_before(x: u64, y: u64, behind: bool) -> bool
-    ensures { result ≡ (ltb x y || (eqb x y && behind)) }
+// Entry i, of so many numbers, stands behind the one before it; of an entry the first numbers, so many of them, are compared behind the others.
+fn ascends(numbers: &[u64], size: usize, last: usize, i: usize) -> bool
+    requires { Neighbours size numbers.now i × (last ≤ size) }
+    ensures { result ≡ list_lt (key_in last (entry_at size numbers.now (i - 1))) (key_in last (entry_at size numbers.now i)) }
 {
-    x < y || x == y && behind
+    let at = size * i;
+    let before = at - size;
+    let a = &numbers[before + last..at];
+    let b = &numbers[at + last..at + size];
+    a < b || a == b && numbers[before..before + last] < numbers[at..at + last]
+}
+
+// Entries of so many numbers strictly ascend, by their numbers; of an entry the first ones, so many of them, are compared behind the others.
+fn entries_ascend(numbers: &[u64], size: usize, last: usize) -> bool
+    requires { (1 ≤ size) × (last ≤ size) }
+    ensures { ascent_fault (key_in last) (entries_in size numbers.now) ≡ unless result }
+{
+    (1..numbers.len() / size).all(|i| ascends(numbers, size, last, i))
 }
 
 const PAIR_SIZE: usize = 3;
 
-// Pair row i stands behind the one before it.
-fn pair_ascends(pairs: &[u64], i: usize) -> bool
-    requires { Neighbours numbers_per_pair pairs.now i }
-    ensures { result ≡ list_lt (pair_at pairs.now (numbers_per_pair * (i - 1))) (pair_at pairs.now (numbers_per_pair * i)) }
-{
-    let a = PAIR_SIZE * (i - 1);
-    let b = PAIR_SIZE * i;
-    let last = is_before(pairs[a + 2], pairs[b + 2], false);
-    let middle = is_before(pairs[a + 1], pairs[b + 1], last);
-    is_before(pairs[a], pairs[b], middle)
-}
-
-// Pairs strictly ascend, by their three numbers.
-fn pairs_ascend(pairs: &[u64]) -> bool
-    ensures { ascent_fault pair_key (entries_in numbers_per_pair pairs.now) ≡ unless result }
-{
-    (1..pairs.len() / PAIR_SIZE).all(|i| pair_ascends(pairs, i))
-}
-
 const ROW_SIZE: usize = 5;
 
-// Row i stands behind the one before it: the endpoints are compared first, the number, which stands first in a row, last.
-fn row_ascends(rows: &[u64], i: usize) -> bool
-    requires { Neighbours numbers_per_row rows.now i }
-    ensures { result ≡ list_lt (row_at rows.now (numbers_per_row * (i - 1))) (row_at rows.now (numbers_per_row * i)) }
-{
-    let a = ROW_SIZE * (i - 1);
-    let b = ROW_SIZE * i;
-    let number = is_before(rows[a], rows[b], false);
-    let d = is_before(rows[a + 4], rows[b + 4], number);
-    let c = is_before(rows[a + 3], rows[b + 3], d);
-    let y = is_before(rows[a + 2], rows[b + 2], c);
-    is_before(rows[a + 1], rows[b + 1], y)
-}
-
-// Rows strictly ascend, by endpoints as written and then number.
-fn rows_ascend(rows: &[u64]) -> bool
-    ensures { ascent_fault row_key (entries_in numbers_per_row rows.now) ≡ unless result }
-{
-    (1..rows.len() / ROW_SIZE).all(|i| row_ascends(rows, i))
-}
-
-// Pairs and rows ascend, and the labels are in turn.
+// Pairs and rows ascend, and the labels are in turn. A row has its number first, and is compared by its endpoints before that.
 fn keeps_rules(regions: u64, labels: &[u64], tallies: &[u64], pairs: &[u64], rows: &[u64]) -> bool
     ensures { rules_fault (placed (result_in regions labels.now tallies.now pairs.now rows.now))
         ≡ unless result }
 {
-    in_turn(regions, labels) && pairs_ascend(pairs) && rows_ascend(rows)
+    in_turn(regions, labels)
+        && entries_ascend(pairs, PAIR_SIZE, 0)
+        && entries_ascend(rows, ROW_SIZE, 1)
 }
 
 const TALLIES_SIZE: usize = 2;
