@@ -10,7 +10,7 @@ use lib.Dec.{ltb, eqb}
 use Rattle.std.specs.Prelude.{None, Some, MatchBool}
 use Rattle.definitions.specs.Refusals.{unless}
 use mathlib.Core.List.{List, [], ◌∷◌, ◌++◌, map, append-nil}
-use lib.ListN.{length, take, drop, get_or, length-drop}
+use lib.ListN.{length, take, drop, length-drop}
 use lib.Seq.{drop-drop, length-take-le}
 use Rattle.std.proofs.lemmas.List.{drop-take, take-take}
 use lib.Pointwise.{pointwise}

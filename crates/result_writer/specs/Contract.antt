@@ -5,6 +5,7 @@ use Rattle.results.specs.Result.{Result, in_turn}
 use Rattle.refusals.specs.declared.Cause.{Cause}
 use Rattle.refusals.specs.Refusals.{number_of}
 use Rattle.result_writer.specs.declared.Answer.{Answer}
+use Rattle.result_writer.specs.declared.RunResult.{RunResult}
 
 -- one step along the labels, with so many numbers started
 abbrev pub turn_of : ℕ → ℕ → ℕ → Option ℕ
@@ -30,6 +31,10 @@ spent None size = None
 
 abbrev pub result_in : ℕ → List ℕ → List ℕ → List ℕ → List ℕ → Result
 result_in regions labels tallies pairs rows = record { regions = regions; labels = labels; tallies = tallies; pairs = pairs; rows = rows }
+
+-- what the struct of a run stands for
+abbrev pub result_of : RunResult → Result
+result_of r = result_in r.regions r.labels.now r.tallies.now r.pairs.now r.rows.now
 
 abbrev pub answer_in : Answer → verdict.Answer
 answer_in r = record { number = r.number; value = r.value }

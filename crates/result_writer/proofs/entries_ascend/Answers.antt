@@ -1,9 +1,8 @@
 -- `result_writer::entries_ascend` meets its contract, by what `all` gives. Assumes nothing.
-use Rattle.std.proofs.Common.{rules, tests, arith, ℕ, ◌-◌, ◌*◌, ◌≡◌, Bool, true, false, refl}
+use Rattle.std.proofs.Common.{rules, tests, arith, ℕ, ◌≡◌, Bool, true, false, refl}
 use Rattle.std.proofs.iter.Serving.{serving}
-use Rattle.definitions.specs.Sort.{list_lt}
 use Rattle.laws.specs.ListLaws.Chains.{all_from_range}
-use Rattle.result_writer.specs.Contract.{key_in, entry_at}
+use Rattle.result_writer.specs.Contract.{key_in}
 use Rattle.result_writer.proofs.Ascending.{all_above, is_above, entry_back, neighbours}
 use Rattle.result_writer.proofs.entries_ascend.Goals as goal
 

@@ -1,5 +1,7 @@
 -- `result_writer_write_result` meets its contract: nothing is put before the rules, the last entries and the room are known. Assumes nothing.
+use Rattle.std.proofs.Common.{rules, arith}
 use borrow.Author.Tests.{not-true, not-false}
+use Rattle.byte_writer.specs.Chains.{put_left}
 use Rattle.result_writer.specs.Contract.{result_in}
 use Rattle.result_writer.proofs.Answering.{writes_15, writes_3, writes_10, writes_0, fits-known}
 use Rattle.result_writer.proofs.result_writer_write_result.Goals as goal
@@ -23,11 +25,11 @@ returns-then-not-fits c =
     rw c.refused-then-not-fits.ensures (writes_10 _ _ kept c.keeps_rules.ensures (not-false kept c.if-not-keeps_rules.false-raw) finished c.is_finished.ensures (not-false finished c.if-not-is_finished.false-raw)
     fitting c.fits.ensures (not-true fitting c.if-not-fits.true-raw))
 
-pub put_result-size-requires : goal.put_result-size-requires
-put_result-size-requires c =
+pub put-requires : goal.put-requires
+put-requires c =
     let given = c.args in
     let fitting = c.fits.result in
-    fits-known (result_in given.regions given.labels.now given.tallies.now given.pairs.now given.rows.now) given.out.now fitting c.fits.ensures (not-false fitting c.if-not-fits.false-raw)
+    omega (arith, fits-known (result_in given.regions given.labels.now given.tallies.now given.pairs.now given.rows.now) given.out.now fitting c.fits.ensures (not-false fitting c.if-not-fits.false-raw))
 
 pub returns : goal.returns
 returns c =
@@ -35,4 +37,4 @@ returns c =
     let finished = c.is_finished.result in
     let fitting = c.fits.result in
     writes_0 _ _ kept c.keeps_rules.ensures (not-false kept c.if-not-keeps_rules.false-raw) finished c.is_finished.ensures (not-false finished c.if-not-is_finished.false-raw)
-    fitting c.fits.ensures (not-false fitting c.if-not-fits.false-raw) c.put_result-size.ensures
+    fitting c.fits.ensures (not-false fitting c.if-not-fits.false-raw) (put_left c.put.ensures (search rules))

@@ -1,10 +1,10 @@
--- `result_writer::keeps_rules` meets its contract: the first rule that is broken is one. Assumes nothing.
+-- `result_writer::RunResult::keeps_rules` meets its contract: the first rule that is broken is one. Assumes nothing.
 use Rattle.std.proofs.Common.{sym, ap, ◌∙◌}
 use Rattle.definitions.specs.Refusals.{unless}
 use Rattle.result_writer.proofs.Ascending.{as_pairs}
 use Rattle.result_writer.proofs.Answering.{rules-labels, rules-pairs, rules-rows}
-use Rattle.result_writer.proofs.keeps_rules.Goals as goal
-use Rattle.result_writer.proofs.keeps_rules.Goals.{then-in_turn, else-in_turn}
+use Rattle.result_writer.proofs.RunResult.keeps_rules.Goals as goal
+use Rattle.result_writer.proofs.RunResult.keeps_rules.Goals.{then-in_turn, else-in_turn}
 
 pub returns-then-entries_ascend : goal.returns-then-entries_ascend
 returns-then-entries_ascend c =
