@@ -1,6 +1,8 @@
 -- `sheet_writer_write_sheet` meets its contract: nothing is put before the sides, the cells, the lists and the room are known. Assumes nothing.
+use Rattle.std.proofs.Common.{rules, arith}
 use borrow.Author.Tests.{not-true, not-false}
 use Rattle.map_sheets.specs.Writing.{stating}
+use Rattle.byte_writer.specs.Chains.{put_left}
 use Rattle.sheet_writer.proofs.Answering.{fits-known, writes_1, writes_2, writes_3, writes_10, writes_0}
 use Rattle.laws.specs.SheetReading.SheetSizes.{sides_most}
 use Rattle.sheet_writer.proofs.sheet_writer_write_sheet.Goals as goal
@@ -35,9 +37,9 @@ returns-then-not-fits c =
     c.are_whole.ensures (not-false c.are_whole.result c.if-not-are_whole.false-raw)
     c.fits.ensures (not-true c.fits.result c.if-not-fits.true-raw))
 
-pub put_sheet-size-requires : goal.put_sheet-size-requires
-put_sheet-size-requires c =
-    fits-known (stating c.args.pass c.args.width c.args.height c.args.cells.now c.args.boundaries.now c.args.anchors.now) c.args.out.now c.fits.ensures (not-false c.fits.result c.if-not-fits.false-raw)
+pub put-requires : goal.put-requires
+put-requires c =
+    omega (arith, fits-known (stating c.args.pass c.args.width c.args.height c.args.cells.now c.args.boundaries.now c.args.anchors.now) c.args.out.now c.fits.ensures (not-false c.fits.result c.if-not-fits.false-raw))
 
 pub returns : goal.returns
 unfolding stating
@@ -45,4 +47,4 @@ returns c =
     writes_0 (stating c.args.pass c.args.width c.args.height c.args.cells.now c.args.boundaries.now c.args.anchors.now) c.args.out.now c.sides_fit.ensures (not-false c.sides_fit.result c.if-not-sides_fit.false-raw)
     c.cells_fit.ensures (not-false c.cells_fit.result c.if-not-cells_fit.false-raw)
     c.are_whole.ensures (not-false c.are_whole.result c.if-not-are_whole.false-raw)
-    c.fits.ensures (not-false c.fits.result c.if-not-fits.false-raw) c.put_sheet-size.ensures
+    c.fits.ensures (not-false c.fits.result c.if-not-fits.false-raw) (put_left c.put.ensures (search rules))
