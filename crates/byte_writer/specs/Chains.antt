@@ -66,3 +66,7 @@ writing_ends {old} {now} e W = subst (λ l. Appends old l now) (sym (append-nil 
 -- what the list is once the writer is done with
 pub put_left : {old new : Writer} {bytes left : List ℕ} → Appends old bytes new → left ≡ new.out.now → Put old.out.now old.at bytes left new.at
 put_left {old} {new} {bytes} W e = subst (λ l. Put old.out.now old.at bytes l new.at) (sym e) W.put
+
+-- writing keeps the length of the list
+pub appends_long : {old new : Writer} {bytes : List ℕ} → Appends old bytes new → length new.out.now ≡ length old.out.now
+appends_long W = put-long W.put

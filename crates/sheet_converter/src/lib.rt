@@ -11,11 +11,12 @@ ghost use Rattle.definitions.specs.Sheet.{cell, endpoints_of, plain_cell_limit};
 ghost use Rattle.refusals.specs.Refusals.{refusal_in};
 ghost use Rattle.sheet.specs.Numbers.{Held, values_at};
 ghost use Rattle.sheet.specs.Parts.{cells_in, sheet_of, SheetHeld};
-ghost use Rattle.put_shortest.specs.Contract.{Put};
+ghost use Rattle.byte_writer.specs.Contract.{Put};
 ghost use Rattle.result_writer.specs.Contract.{answer_in};
 ghost use Rattle.map_sheets.specs.Converting.{same_numbers, Converts};
 ghost use Rattle.sheet_converter.specs.Contract.{is_other, lists_refusal, map_refusal, refusal_for, Cut, cut_out, ConvertsPlan, refused_at};
 
+use byte_writer::Writer;
 use checks::anchors::anchors_fault;
 use checks::boundaries::boundaries_fault;
 use checks::cells::elevation_fits;
@@ -147,26 +148,18 @@ fn plan_check(bytes: &[u8], plan: Plan) -> Result<(), Refusal>
 
 // ---- writing
 
-// Writes these bytes, and gives the place behind them.
-fn put_bytes(out: &mut [u8], at: usize, bytes: &[u8]) -> usize
-    requires { at + length bytes.now ≤ length out.old }
-    ensures { Put out.old at bytes.now out.new result }
-{
-    let end = at + bytes.len();
-    out[at..end].copy_from_slice(bytes);
-    end
-}
-
 const KIND: u64 = 3;
 
-// Writes the sheet with kind 3 in front, and without what stands between `front` and `back`.
+// Writes the sheet with kind 3 in front, and without what stands between `front` and `back`, and gives how many bytes it has.
 fn put_converted(bytes: &[u8], front: usize, back: usize, out: &mut [u8]) -> usize
     requires { Cut front back bytes.now (length out.old) }
     ensures { Put out.old 0 (cut_out front back bytes.now) out.new result }
 {
-    let a = put_shortest(&mut *out, 0, KIND);
-    let b = put_bytes(&mut *out, a, &bytes[1..front]);
-    put_bytes(&mut *out, b, &bytes[back..])
+    let mut writer = Writer { out, at: 0 };
+    put_shortest(&mut writer, KIND);
+    writer.put(&bytes[1..front]);
+    writer.put(&bytes[back..]);
+    writer.at
 }
 
 fn refused_at(refusal: Refusal) -> Answer
