@@ -402,31 +402,35 @@ pub struct ResultAnswer {
     pub rows: u64,
 }
 
-fn opened(plan: Plan) -> ResultAnswer
-    ensures { result ≡ answer_in plan }
-{
-    ResultAnswer {
-        number: 0,
-        place: 0,
-        regions: plan.regions,
-        labels: plan.labels.count as u64,
-        spans: plan.tallies.count as u64,
-        pairs: plan.pairs.count as u64,
-        rows: plan.rows.count as u64,
+impl From<Plan> for ResultAnswer {
+    ghost from_gives = { λ plan answer. answer ≡ answer_in plan };
+
+    fn from(plan: Plan) -> ResultAnswer {
+        ResultAnswer {
+            number: 0,
+            place: 0,
+            regions: plan.regions,
+            labels: plan.labels.count as u64,
+            spans: plan.tallies.count as u64,
+            pairs: plan.pairs.count as u64,
+            rows: plan.rows.count as u64,
+        }
     }
 }
 
-fn refused(refusal: Refusal) -> ResultAnswer
-    ensures { result ≡ refused_by refusal }
-{
-    ResultAnswer {
-        number: refusal.cause.number(),
-        place: refusal.place as u64,
-        regions: 0,
-        labels: 0,
-        spans: 0,
-        pairs: 0,
-        rows: 0,
+impl From<Refusal> for ResultAnswer {
+    ghost from_gives = { λ refusal answer. answer ≡ refused_by refusal };
+
+    fn from(refusal: Refusal) -> ResultAnswer {
+        ResultAnswer {
+            number: refusal.cause.number(),
+            place: refusal.place as u64,
+            regions: 0,
+            labels: 0,
+            spans: 0,
+            pairs: 0,
+            rows: 0,
+        }
     }
 }
 
@@ -452,14 +456,14 @@ pub fn result_reader_read_result(
                     &mut *pairs,
                     &mut *rows,
                 );
-                opened(plan)
+                ResultAnswer::from(plan)
             } else {
-                refused(Refusal {
+                ResultAnswer::from(Refusal {
                     cause: Cause::Room,
                     place: 0,
                 })
             }
         }
-        Err(refusal) => refused(refusal),
+        Err(refusal) => ResultAnswer::from(refusal),
     }
 }

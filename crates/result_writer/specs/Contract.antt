@@ -3,6 +3,7 @@ use Rattle.std.specs.Prelude.{ℕ, ◌+◌, ◌-◌, ◌*◌, ◌≤◌, cond, L
 use Rattle.definitions.specs.Verdict as verdict
 use Rattle.results.specs.Result.{Result, in_turn}
 use Rattle.refusals.specs.declared.Cause.{Cause}
+use Rattle.refusals.specs.declared.Refusal.{Refusal}
 use Rattle.refusals.specs.Refusals.{number_of}
 use Rattle.result_writer.specs.declared.Answer.{Answer}
 use Rattle.result_writer.specs.declared.RunResult.{RunResult}
@@ -42,3 +43,7 @@ answer_in r = record { number = r.number; value = r.value }
 -- a refusal by its number, with place 0
 abbrev pub refused_by : Cause → Answer
 refused_by cause = record { number = number_of cause; value = 0 }
+
+-- the same with its place
+abbrev pub refused_at : Refusal → Answer
+refused_at refusal = record { number = number_of refusal.cause; value = refusal.place }

@@ -11,11 +11,11 @@ ghost use Rattle.results.specs.Shortest.{shortest, list_bytes};
 ghost use Rattle.results.specs.Result.{turns, labels_fault, ascent_fault, rules_fault};
 ghost use Rattle.results.specs.ResultAnswers.{entries_in, placed, is_finished, result_bytes, Writes};
 ghost use Rattle.byte_writer.specs.Contract.{HasRoom, Appends};
-ghost use Rattle.result_writer.specs.Contract.{turn_of, key_in, entry_at, Neighbours, spent, result_in, result_of, answer_in, refused_by};
+ghost use Rattle.result_writer.specs.Contract.{turn_of, key_in, entry_at, Neighbours, spent, result_in, result_of, answer_in, refused_by, refused_at};
 
 use byte_writer::Writer;
 use put_shortest::put_shortest;
-use refusals::Cause;
+use refusals::{Cause, Refusal};
 
 // ---- the rules
 
@@ -206,12 +206,25 @@ pub struct Answer {
     pub value: u64,
 }
 
-pub fn refused(cause: Cause) -> Answer
-    ensures { result ≡ refused_by cause }
-{
-    Answer {
-        number: cause.number(),
-        value: 0,
+impl From<Cause> for Answer {
+    ghost from_gives = { λ cause answer. answer ≡ refused_by cause };
+
+    fn from(cause: Cause) -> Answer {
+        Answer {
+            number: cause.number(),
+            value: 0,
+        }
+    }
+}
+
+impl From<Refusal> for Answer {
+    ghost from_gives = { λ refusal answer. answer ≡ refused_at refusal };
+
+    fn from(refusal: Refusal) -> Answer {
+        Answer {
+            number: refusal.cause.number(),
+            value: refusal.place as u64,
+        }
     }
 }
 
@@ -235,13 +248,13 @@ pub fn result_writer_write_result(
         rows,
     };
     if !found.keeps_rules() {
-        return refused(Cause::ResultSheet);
+        return Answer::from(Cause::ResultSheet);
     }
     if !found.is_finished() {
-        return refused(Cause::Entries);
+        return Answer::from(Cause::Entries);
     }
     if !found.fits(out.len()) {
-        return refused(Cause::Room);
+        return Answer::from(Cause::Room);
     }
     let mut writer = Writer { out, at: 0 };
     found.put(&mut writer);

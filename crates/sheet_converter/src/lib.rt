@@ -14,7 +14,7 @@ ghost use Rattle.sheet.specs.Parts.{cells_in, sheet_of, SheetHeld};
 ghost use Rattle.byte_writer.specs.Contract.{Put};
 ghost use Rattle.result_writer.specs.Contract.{answer_in};
 ghost use Rattle.map_sheets.specs.Converting.{same_numbers, Converts};
-ghost use Rattle.sheet_converter.specs.Contract.{is_other, lists_refusal, map_refusal, refusal_for, Cut, cut_out, ConvertsPlan, refused_at};
+ghost use Rattle.sheet_converter.specs.Contract.{is_other, lists_refusal, map_refusal, refusal_for, Cut, cut_out, ConvertsPlan};
 
 use byte_writer::Writer;
 use checks::anchors::anchors_fault;
@@ -25,7 +25,7 @@ use checks::sizes::pass_fits;
 use checks::spans::spans_fault;
 use put_shortest::put_shortest;
 use refusals::{Cause, Refusal, ensure, no_fault};
-use result_writer::{Answer, refused};
+use result_writer::Answer;
 use sheet::{
     CELL_MOST, PLAIN_CELL_LIMIT, Plan, fill_endpoints, fill_numbers, item, judge_sheet, number_at,
 };
@@ -162,15 +162,6 @@ fn put_converted(bytes: &[u8], front: usize, back: usize, out: &mut [u8]) -> usi
     writer.at
 }
 
-fn refused_at(refusal: Refusal) -> Answer
-    ensures { result ≡ refused_at refusal }
-{
-    Answer {
-        number: refusal.cause.number(),
-        value: refusal.place as u64,
-    }
-}
-
 // Converts a sheet that was judged before.
 fn convert_plan(bytes: &[u8], plan: Plan, out: &mut [u8]) -> Answer
     requires held { SheetHeld plain_cell_limit bytes.now plan }
@@ -178,13 +169,13 @@ fn convert_plan(bytes: &[u8], plan: Plan, out: &mut [u8]) -> Answer
     ensures { ConvertsPlan bytes.now plan out.old (answer_in result) out.new }
 {
     if let Err(refusal) = plan_check(bytes, plan) {
-        return refused_at(refusal);
+        return Answer::from(refusal);
     }
     let parts = plan.parts;
     let front = parts.front;
     let back = parts.back;
     if out.len() < front + (bytes.len() - back) {
-        return refused(Cause::Room);
+        return Answer::from(Cause::Room);
     }
     let size = put_converted(bytes, front, back, out);
     Answer {
@@ -198,10 +189,10 @@ pub fn sheet_converter_convert_sheet(bytes: &[u8], out: &mut [u8]) -> Answer
     ensures { Converts bytes.now out.old (answer_in result) out.new }
 {
     if is_other_kind(bytes) {
-        return refused(Cause::Sheet);
+        return Answer::from(Cause::Sheet);
     }
     match judge_sheet(bytes, PLAIN_CELL_LIMIT) {
         Ok(plan) => convert_plan(bytes, plan, out),
-        Err(refusal) => refused_at(refusal),
+        Err(refusal) => Answer::from(refusal),
     }
 }

@@ -18,7 +18,7 @@ use checks::limits::{NUMBERS_PER_ANCHOR, NUMBERS_PER_BOUNDARY};
 use checks::sizes::{cells_fit, is_whole, sides_fit};
 use put_shortest::put_shortest;
 use refusals::Cause;
-use result_writer::{Answer, group_count, put_list, refused, spend_list, spend_number};
+use result_writer::{Answer, group_count, put_list, spend_list, spend_number};
 
 // No last boundary or anchor is unfinished, and there are at most 256 of each, in lists of these lengths.
 fn are_whole(boundaries: usize, anchors: usize) -> bool
@@ -128,16 +128,16 @@ pub fn sheet_writer_write_sheet(
         anchors,
     };
     if !sides_fit(width, height) {
-        return refused(Cause::Sides);
+        return Answer::from(Cause::Sides);
     }
     if !cells_fit(width, height, cells) {
-        return refused(Cause::Cells);
+        return Answer::from(Cause::Cells);
     }
     if !are_whole(boundaries.len(), anchors.len()) {
-        return refused(Cause::Entries);
+        return Answer::from(Cause::Entries);
     }
     if !map.fits(out.len()) {
-        return refused(Cause::Room);
+        return Answer::from(Cause::Room);
     }
     let mut writer = Writer { out, at: 0 };
     map.put(&mut writer);

@@ -9,20 +9,20 @@ use Rattle.result_writer.proofs.result_writer_write_result.Goals as goal
 pub returns-then-not-keeps_rules : goal.returns-then-not-keeps_rules
 returns-then-not-keeps_rules c =
     let kept = c.keeps_rules.result in
-    rw c.refused.ensures (writes_15 _ _ kept c.keeps_rules.ensures (not-true kept c.if-not-keeps_rules.true-raw))
+    rw c.from.ensures (writes_15 _ _ kept c.keeps_rules.ensures (not-true kept c.if-not-keeps_rules.true-raw))
 
 pub returns-then-not-is_finished : goal.returns-then-not-is_finished
 returns-then-not-is_finished c =
     let kept = c.keeps_rules.result in
     let finished = c.is_finished.result in
-    rw c.refused-then-not-is_finished.ensures (writes_3 _ _ kept c.keeps_rules.ensures (not-false kept c.if-not-keeps_rules.false-raw) finished c.is_finished.ensures (not-true finished c.if-not-is_finished.true-raw))
+    rw c.from-then-not-is_finished.ensures (writes_3 _ _ kept c.keeps_rules.ensures (not-false kept c.if-not-keeps_rules.false-raw) finished c.is_finished.ensures (not-true finished c.if-not-is_finished.true-raw))
 
 pub returns-then-not-fits : goal.returns-then-not-fits
 returns-then-not-fits c =
     let kept = c.keeps_rules.result in
     let finished = c.is_finished.result in
     let fitting = c.fits.result in
-    rw c.refused-then-not-fits.ensures (writes_10 _ _ kept c.keeps_rules.ensures (not-false kept c.if-not-keeps_rules.false-raw) finished c.is_finished.ensures (not-false finished c.if-not-is_finished.false-raw)
+    rw c.from-then-not-fits.ensures (writes_10 _ _ kept c.keeps_rules.ensures (not-false kept c.if-not-keeps_rules.false-raw) finished c.is_finished.ensures (not-false finished c.if-not-is_finished.false-raw)
     fitting c.fits.ensures (not-true fitting c.if-not-fits.true-raw))
 
 pub put-requires : goal.put-requires
