@@ -3,10 +3,10 @@ use Prim.Native.Nat.{ℕ, zero, suc, ◌+◌, ◌*◌, ◌/◌, ◌%◌, ◌^◌
 use native.Mathlib.Omega.{arith}
 use native.Mathlib.Nat.{pow-suc}
 use mathlib.Core.Path.{◌≡◌, refl, ap, ◌∙◌}
-use mathlib.Core.List.{List, [], ◌∷◌}
+use mathlib.Core.List.{[], ◌∷◌}
 use lib.ListN.{length}
 use Rattle.results.specs.Shortest.{shortest_within, shortest}
-use Rattle.results.specs.ShortestSteps.{one_group, more_groups, some_groups}
+use Rattle.results.specs.ShortestSteps.{one_group, more_groups}
 use Rattle.byte_writer.specs.declared.Writer.{Writer}
 use Rattle.byte_writer.specs.Contract.{HasRoom, Appends}
 use Rattle.byte_writer.specs.Chains.{Writing, writing_starts, writing_room, writing_goes_on, writing_ends}

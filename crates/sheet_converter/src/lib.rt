@@ -66,6 +66,7 @@ fn cells_fault(bytes: &[u8], at: usize, count: usize) -> Option<usize>
     ensures { result ≡ elevations_fault (values_at cell bytes.now at count) }
 {
     let mut next = at;
+    // Kept: where a cell stands shows only once the one before it is read, so that a chain would carry the place beside the count.
     for i in 0..count {
         let Ok(read) = item(bytes, next, CELL_MOST) else {
             return None;
