@@ -5,7 +5,7 @@ use native.Mathlib.Numerals.{add-one}
 use mathlib.Core.Path.{◌≡◌, refl, sym, ap, ap₂, subst, ◌∙◌}
 use mathlib.Core.Bool.{true, false, not}
 use mathlib.Core.List.{List, [], ◌∷◌, ◌++◌, append_assoc, append-nil}
-use lib.ListN.{length, get_or, take, drop, replicate, length-append}
+use lib.ListN.{length, get_or, set, take, drop, replicate, length-append}
 use lib.Seq.{sets, drop-cons}
 use Rattle.definitions.specs.Scan.{collect, concat_map, only_if}
 use Rattle.definitions.specs.Sort.{sort, list_lt}
@@ -97,9 +97,6 @@ module _
 
 -- ---- what a row's block is
 
-pub number_block_lem : (rows : List ℕ) (k : ℕ) → 5 * k + 5 ≤ length rows → part (5 * k) 1 rows ≡ (row_at rows (5 * k)).number ∷ []
-number_block_lem rows k h = part_one (5 * k) rows (omega arith)
-
 pub ends_block_lem : (rows : List ℕ) (k : ℕ) → 5 * k + 5 ≤ length rows → part (5 * k + 1) 4 rows ≡ flat_segment (row_at rows (5 * k)).line
 ends_block_lem rows k h =
     let two : 5 * k + 1 + 1 ≡ 5 * k + 2 = omega arith in
@@ -176,14 +173,13 @@ read_named lent count n old e room = subst (All (NamedIn lent)) (sym (rows-read 
 
 -- ---- one row more of the output
 
-pub output_more : (numbers spans old : List ℕ) (k : ℕ) → k + 1 ≤ length numbers → 4 * k + 4 ≤ length spans → 5 * (k + 1) ≤ length old
-    → sets (sets (overwrite (flat_rows (rows_at numbers spans k)) old) (5 * k) (part k 1 numbers)) (5 * k + 1) (part (4 * k) 4 spans)
+pub output_more : (numbers spans old : List ℕ) (k : ℕ) → 4 * k + 4 ≤ length spans → 5 * (k + 1) ≤ length old
+    → sets (set (overwrite (flat_rows (rows_at numbers spans k)) old) (5 * k) (get_or numbers k 0)) (5 * k + 1) (part (4 * k) 4 spans)
     ≡ overwrite (flat_rows (rows_at numbers spans (k + 1))) old
 unfolding rows_at collect flat_rows
-output_more numbers spans old k h i room =
-    ap (λ n. sets (sets W (5 * k) (part k 1 numbers)) (5 * k + n) (part (4 * k) 4 spans)) (sym (part_length k 1 numbers h))
-    ∙ sym (sets_append W (5 * k) (part k 1 numbers) (part (4 * k) 4 spans))
-    ∙ ap₂ (λ u v. sets W (5 * k) (u ++ v)) (part_one k numbers h) (part-four (4 * k) spans i)
+output_more numbers spans old k i room =
+    sym (sets_append W (5 * k) (get_or numbers k 0 ∷ []) (part (4 * k) 4 spans))
+    ∙ ap (λ v. sets W (5 * k) (get_or numbers k 0 ∷ v)) (part-four (4 * k) spans i)
     ∙ ap (λ n. sets W n block) (sym filled)
     ∙ overwrite_more (flat_rows (rows_at numbers spans k)) block old (omega (arith, filled))
     ∙ ap (λ l. overwrite l old) (sym (flat_append (rows_at numbers spans k) (place_row numbers spans k ∷ [])) ∙ ap (λ n. flat_rows (rows_at numbers spans n)) (sym (add-one k)))

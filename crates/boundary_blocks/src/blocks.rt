@@ -11,9 +11,7 @@ pub fn copy_block(from: &[u64], at: usize, to: &mut [u64], place: usize, size: u
     requires { (at + size ≤ length from.now) × (place + size ≤ length to.old) }
     ensures { to.new ≡ sets to.old place (part at size from.now) }
 {
-    for j in 0..size {
-        to[place + j] = from[at + j];
-    }
+    to[place..place + size].copy_from_slice(&from[at..at + size]);
 }
 
 // Moves a block within a list, to its own place or one before.
@@ -21,9 +19,7 @@ fn move_block(list: &mut [u64], at: usize, place: usize, size: usize)
     requires { (place ≤ at) × (at + size ≤ length list.old) }
     ensures { list.new ≡ sets list.old place (part at size list.old) }
 {
-    for j in 0..size {
-        list[place + j] = list[at + j];
-    }
+    list.copy_within(at..at + size, place);
 }
 
 // Moves block k behind the blocks that are kept so far, unless it is removed, and gives how many are kept then.

@@ -29,7 +29,7 @@ fn put_numbers(rows: &[u64], count: usize, numbers: &mut [u64])
     ensures { numbers.new ≡ overwrite (numbers_of (rows_in_lem count rows.now)) numbers.old }
 {
     for k in 0..count {
-        copy_block(rows, ROW_SIZE * k, numbers, k, 1);
+        numbers[k] = rows[ROW_SIZE * k];
     }
 }
 
@@ -102,7 +102,7 @@ pub fn put_rows(numbers: &[u64], spans: &[u64], kept: usize, output: &mut [u64])
 {
     for k in 0..kept {
         let at = ROW_SIZE * k;
-        copy_block(numbers, k, output, at, 1);
+        output[at] = numbers[k];
         copy_block(spans, SPAN_SIZE * k, output, at + 1, SPAN_SIZE);
     }
 }

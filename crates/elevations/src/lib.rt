@@ -77,18 +77,20 @@ pub struct ElevationsAnswer {
     pub remainder: u64,
 }
 
-fn answer(d: Dominance) -> ElevationsAnswer
-    ensures { result ≡ answer_of (dominance_form d) }
-{
-    let share = d.share.unwrap_or(Share {
-        percent: 0,
-        remainder: 0,
-    });
-    ElevationsAnswer {
-        elevation: d.elevation as u64,
-        has_share: d.share.is_some(),
-        percent: share.percent as u64,
-        remainder: share.remainder as u64,
+impl From<Dominance> for ElevationsAnswer {
+    ghost from_gives = { λ d answer. answer ≡ answer_of (dominance_form d) };
+
+    fn from(d: Dominance) -> ElevationsAnswer {
+        let share = d.share.unwrap_or(Share {
+            percent: 0,
+            remainder: 0,
+        });
+        ElevationsAnswer {
+            elevation: d.elevation as u64,
+            has_share: d.share.is_some(),
+            percent: share.percent as u64,
+            remainder: share.remainder as u64,
+        }
     }
 }
 
@@ -108,5 +110,5 @@ pub fn elevations_dominance(
         count_2 as usize,
         count_3 as usize,
     ];
-    answer(dominance_of(cells as usize, counts))
+    ElevationsAnswer::from(dominance_of(cells as usize, counts))
 }

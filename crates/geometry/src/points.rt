@@ -6,7 +6,7 @@ ghost use Rattle.span_geometry.specs.Shapes.{InLimits, point_of};
 ghost use Rattle.geometry.specs.Forms.{point_form, segment_from};
 
 use super::Point;
-use super::numbers::{clamp01, float, hypot};
+use super::numbers::{float, hypot};
 use span_geometry::PixelPosition;
 
 pub fn point(p: PixelPosition) -> Point
@@ -46,7 +46,7 @@ fn part_before(p: Point, a: Point, b: Point) -> f64
     if n == 0.0 {
         0.0
     } else {
-        clamp01(((p.x - a.x) * dx + (p.y - a.y) * dy) / n)
+        (((p.x - a.x) * dx + (p.y - a.y) * dy) / n).clamp(0.0, 1.0)
     }
 }
 

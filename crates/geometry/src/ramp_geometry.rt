@@ -11,7 +11,7 @@ ghost use Rattle.geometry.specs.Representatives.{length_of, dot_of, normal_offse
 
 use super::Segment;
 use super::endpoints::canonical;
-use super::numbers::{difference, fabs, fmax, fmin, hypot, signum};
+use super::numbers::{difference, fmax, fmin, hypot};
 use super::points::{point, point_segment_distance};
 use span_geometry::PixelPosition;
 use span_geometry::segments::{cross, touches};
@@ -38,8 +38,8 @@ pub fn intersects(left: Segment, right: Segment) -> bool
         | touches(left_right_end, left.a, left.b, right.b)
         | touches(right_left_start, right.a, right.b, left.a)
         | touches(right_left_end, right.a, right.b, left.b)
-        | ((signum(left_right_start) != signum(left_right_end))
-            & (signum(right_left_start) != signum(right_left_end)))
+        | ((left_right_start.signum() != left_right_end.signum())
+            & (right_left_start.signum() != right_left_end.signum()))
 }
 
 // How far an endpoint is from the other boundary, from a to b.
@@ -84,10 +84,9 @@ fn cosine(s: Segment, t: Segment, lengths: f64) -> f64
     requires { PixelSegment (segment_form s) × PixelSegment (segment_form t) }
     ensures { result ≡ div binary64 (fabs (dot_of (segment_form s) (segment_form t))) lengths }
 {
-    fabs(
-        difference(s.b.x, s.a.x) * difference(t.b.x, t.a.x)
-            + difference(s.b.y, s.a.y) * difference(t.b.y, t.a.y),
-    ) / lengths
+    let dot = difference(s.b.x, s.a.x) * difference(t.b.x, t.a.x)
+        + difference(s.b.y, s.a.y) * difference(t.b.y, t.a.y);
+    dot.abs() / lengths
 }
 
 // Whether canonical endpoints are near each other, one by one, and the boundaries nearly parallel.
@@ -112,10 +111,9 @@ fn normal_offset(ramp: Segment, ramp_length: f64, p: PixelPosition) -> f64
     requires { PixelSegment (segment_form ramp) × InLimits p }
     ensures { result ≡ normal_offset (segment_form ramp) ramp_length (point_of p) }
 {
-    fabs(
-        difference(p.x, ramp.a.x) * difference(ramp.b.y, ramp.a.y)
-            - difference(p.y, ramp.a.y) * difference(ramp.b.x, ramp.a.x),
-    ) / ramp_length
+    let product = difference(p.x, ramp.a.x) * difference(ramp.b.y, ramp.a.y)
+        - difference(p.y, ramp.a.y) * difference(ramp.b.x, ramp.a.x);
+    product.abs() / ramp_length
 }
 
 // How far along the ramp a position lies, from its first endpoint.

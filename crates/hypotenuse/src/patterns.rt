@@ -133,7 +133,8 @@ fn root_pattern(larger: u64, smaller: u64) -> u64
 pub fn hypotenuse_pattern(a: u64, b: u64) -> u64
     requires a_in_range { T (pattern_in_range a) }
     requires b_in_range { T (pattern_in_range b) }
-    ensures { (of_bits binary64 result ≡ root_of (pattern_magnitude a * pattern_magnitude a + pattern_magnitude b * pattern_magnitude b)) × (result < 2047 * 2 ^ 52) }
+    ensures { (of_bits binary64 result
+        ≡ root_of (pattern_magnitude a * pattern_magnitude a + pattern_magnitude b * pattern_magnitude b)) × (result < 2047 * 2 ^ 52) }
 {
     root_pattern(a.max(b), a.min(b))
 }

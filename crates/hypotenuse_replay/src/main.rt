@@ -106,6 +106,7 @@ fn is_answer_line(s: &[u8]) -> bool
 struct Tally {
     lines: u64,
     answers: u64,
+    ghost fewer: { answers ≤ lines },
 }
 
 fn report<W: Write>(output: &mut W, line: u64) -> io::Result<()> {
@@ -129,9 +130,9 @@ fn replay_line<W: Write>(output: &mut W, s: &[u8], lines: u64, answers: u64) -> 
 // Counts the lines of s on top of those before, and lists the first that have another answer. Answers the counts, and how many bytes there are up to the last line's
 // end.
 fn replay<W: Write>(output: &mut W, s: &[u8], before: Tally) -> io::Result<(Tally, usize)>
-    requires { (before.answers ≤ before.lines) × (before.lines + length s.now < 2 ^ 64) }
+    requires { before.lines + length s.now < 2 ^ 64 }
     ensures { IfOk result (λ r. (r.0.lines ≡ before.lines + lines_in s.now) × (r.0.answers ≡ before.answers + answers_in [] s.now)
-        × (r.0.answers ≤ r.0.lines) × (r.0.lines ≤ before.lines + length s.now) × (r.1 ≤ length s.now)) }
+        × (r.0.lines ≤ before.lines + length s.now) × (r.1 ≤ length s.now)) }
 {
     let mut lines = before.lines;
     let mut answers = before.answers;
@@ -144,16 +145,6 @@ fn replay<W: Write>(output: &mut W, s: &[u8], before: Tally) -> io::Result<(Tall
         }
     }
     Ok((Tally { lines, answers }, start))
-}
-
-// Moves what is from place a to before place e to the start.
-// Kept: std's slices have no `copy_within` here.
-fn move_down(s: &mut [u8], a: usize, e: usize)
-    requires { (a ≤ e) × (e ≤ length s.old) }
-{
-    for i in a..e {
-        s[i - a] = s[i];
-    }
 }
 
 // What is known between two turns of reading: the counts, and how many bytes of a line that has begun stand at the buffer's start.
@@ -170,8 +161,8 @@ fn replay_some<R: Read, W: Write>(
     buffer: &mut [u8],
     before: Turn,
 ) -> io::Result<Option<Turn>>
-    requires { (before.held ≤ length buffer.old) × (before.tally.answers ≤ before.tally.lines) × (before.tally.lines + length buffer.old < 2 ^ 64) }
-    ensures { IfOk result (λ next. IfSome next (λ turn. (turn.held ≤ length buffer.new) × (turn.tally.answers ≤ turn.tally.lines)
+    requires { (before.held ≤ length buffer.old) × (before.tally.lines + length buffer.old < 2 ^ 64) }
+    ensures { IfOk result (λ next. IfSome next (λ turn. (turn.held ≤ length buffer.new)
         × (turn.tally.lines ≤ before.tally.lines + length buffer.new))) }
 {
     let got = read_full(input, &mut buffer[before.held..])?;
@@ -180,7 +171,7 @@ fn replay_some<R: Read, W: Write>(
     }
     let n = before.held + got;
     let (tally, used) = replay(output, &buffer[0..n], before.tally)?;
-    move_down(buffer, used, n);
+    buffer.copy_within(used..n, 0);
     Ok(Some(Turn {
         tally,
         held: n - used,

@@ -11,7 +11,8 @@ use lib.ListN.{length, set, length-append, length-set}
 use lib.Seq.{sets}
 use Rattle.definitions.specs.Printed.{digits, decimal}
 use Rattle.laws.specs.ListLaws.Overwritten.{sets_append, sets_later}
-use Rattle.printed.specs.Contract.{most_digits, Put}
+use Rattle.byte_writer.specs.Contract.{Put}
+use Rattle.printed.specs.Contract.{most_digits}
 
 digits_last : (most n : ℕ) → n < 10 → digits (suc most) n ≡ (48 + n) ∷ []
 unfolding digits

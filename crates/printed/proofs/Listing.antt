@@ -4,7 +4,7 @@ use Prim.Native.Nat.{ℕ, ◌+◌, ◌*◌, ◌≤◌, ◌<◌}
 use native.Mathlib.Omega.{arith}
 use native.Mathlib.Nat.{add-zero}
 use native.Mathlib.Numerals.{add-one}
-use mathlib.Core.Path.{◌≡◌, refl, sym, ap, ◌∙◌}
+use mathlib.Core.Path.{◌≡◌, refl, sym, ap, subst, ◌∙◌}
 use mathlib.Core.List.{List, [], ◌∷◌, ◌++◌, append_assoc, append-nil}
 use lib.ListN.{length, take, drop, take-append-drop}
 use lib.Seq.{length-take-le}
@@ -12,41 +12,43 @@ use Rattle.definitions.specs.Scan.{concat_map}
 use Rattle.definitions.specs.Rows.{Row, flat_rows}
 use Rattle.definitions.specs.Printed.{kept_line, row_line}
 use Rattle.laws.specs.ListLaws.FlatRows.{flat-length, row_at, rows_in_lem, rows_next, rows_of-flat}
-use Rattle.printed.specs.Contract.{row_room, Put, KeptPrinted}
-use Rattle.printed.proofs.Places.{put_then, printed}
+use Rattle.byte_writer.specs.declared.Writer.{Writer}
+use Rattle.byte_writer.specs.Contract.{Put, HasRoom, Appends}
+use Rattle.byte_writer.specs.Chains.{put-long, appends_then, put_left}
+use Rattle.printed.specs.Contract.{row_room, KeptPrinted}
+use Rattle.printed.proofs.Places.{printed}
 
 concat_last : (l : List Row) (r : Row) → concat_map row_line (l ++ (r ∷ [])) ≡ concat_map row_line l ++ row_line r
 unfolding concat_map
 concat_last [] r = append-nil (row_line r)
 concat_last (s ∷ l) r = ap (λ t. row_line s ++ t) (concat_last l r) ∙ sym (append_assoc (row_line s) (concat_map row_line l) (row_line r))
 
-pub record Listing (old : List ℕ) (at : ℕ) (output : List ℕ) (kept : ℕ) (new : List ℕ) (next k : ℕ) : Type 0 where
+pub record Listing (old : Writer) (output : List ℕ) (kept : ℕ) (now : Writer) (k : ℕ) : Type 0 where
   pub few : k ≤ kept
-  pub room : at + row_room * kept ≤ length old
+  pub room : HasRoom old (row_room * kept)
   pub rows_in : 5 * kept ≤ length output
-  pub next_few : next ≤ at + row_room * k
-  pub long : length new ≡ length old
-  pub put : Put old at (concat_map row_line (rows_in_lem k output)) new next
+  pub next_few : now.at ≤ old.at + row_room * k
+  pub long : length now.out.now ≡ length old.out.now
+  pub put : Appends old (concat_map row_line (rows_in_lem k output)) now
 
-module _ {old output : List ℕ} {at kept : ℕ} where
-  pub listing-starts : at + row_room * kept ≤ length old → 5 * kept ≤ length output → Listing old at output kept old at 0
+module _ {old : Writer} {output : List ℕ} {kept : ℕ} where
+  pub listing-starts : HasRoom old (row_room * kept) → 5 * kept ≤ length output → Listing old output kept old 0
   unfolding concat_map rows_in_lem
-  listing-starts r s = record { few = omega arith; room = r; rows_in = s; next_few = omega arith; long = refl; put = record { stored = refl; next_is = sym (add-zero at) } }
+  listing-starts r s = record { few = omega arith; room = r; rows_in = s; next_few = omega arith; long = refl; put = record { put = record { stored = refl; next_is = sym (add-zero old.at) }; same = refl } }
 
-  module _ {new : List ℕ} {next k : ℕ} (L : Listing old at output kept new next k) where
-    pub listing-goes_on : k < kept → {new' : List ℕ} {next' : ℕ} → length new' ≡ length new → Put new next (row_line (row_at output (5 * k))) new' next' → next' ≤ next + row_room
-        → Listing old at output kept new' next' (k + 1)
-    listing-goes_on h l P n =
+  module _ {now : Writer} {k : ℕ} (L : Listing old output kept now k) where
+    pub listing-goes_on : k < kept → {now' : Writer} → Appends now (row_line (row_at output (5 * k))) now' → now'.at ≤ now.at + row_room → Listing old output kept now' (k + 1)
+    listing-goes_on h P n =
         record {
           few = omega arith;
           room = L.room;
           rows_in = L.rows_in;
           next_few = omega (arith, L.next_few);
-          long = l ∙ L.long;
-          put = rw (add-one k, rows_next k output, concat_last (rows_in_lem k output) (row_at output (5 * k))) (put_then L.put P);
+          long = put-long P.put ∙ L.long;
+          put = rw (add-one k, rows_next k output, concat_last (rows_in_lem k output) (row_at output (5 * k))) (appends_then L.put P);
         }
 
-    pub listing-ends : kept ≤ k → Put old at (concat_map row_line (rows_in_lem kept output)) new next × (next ≤ at + row_room * kept)
+    pub listing-ends : kept ≤ k → Appends old (concat_map row_line (rows_in_lem kept output)) now × (now.at ≤ old.at + row_room * kept)
     listing-ends h =
         let e : k ≡ kept = omega (arith, L.few) in
         (rw e at L.put, omega (arith, L.next_few))
@@ -63,6 +65,8 @@ rows-read output kept rows h e =
     many : kept ≡ length rows
     many = omega (arith, flat-length rows, ap length e, length-take-le (5 * kept) output h)
 
-pub kept-printed : (output : List ℕ) (kept count : ℕ) {old new new' : List ℕ} {next next' : ℕ} → 5 * kept ≤ length output → next' ≤ length old
-    → Put old 0 (kept_line kept count) new next → Put new next (concat_map row_line (rows_in_lem kept output)) new' next' → KeptPrinted output kept count old new' next'
-kept-printed output kept count h r P Q rows e = printed r (put_then P (rw (rows-read output kept rows h e) at Q))
+pub kept-printed : (output : List ℕ) (kept count : ℕ) {w₀ w₁ w₂ : Writer} {left : List ℕ} → w₀.at ≡ 0 → 5 * kept ≤ length output → w₂.at ≤ length w₀.out.now
+    → Appends w₀ (kept_line kept count) w₁ → Appends w₁ (concat_map row_line (rows_in_lem kept output)) w₂ → left ≡ w₂.out.now → KeptPrinted output kept count w₀.out.now left w₂.at
+kept-printed output kept count {w₀} {w₂ = w₂} {left} z h r P Q l rows e =
+    let both = put_left (appends_then P (rw (rows-read output kept rows h e) at Q)) l in
+    printed r (subst (λ n. Put w₀.out.now n (kept_line kept count ++ concat_map row_line rows) left w₂.at) z both)

@@ -1,6 +1,5 @@
 -- How much room the functions that write bytes ask for, and what they promise. Definitions only; assumes nothing.
-use Rattle.std.specs.Prelude.{ℕ, ◌+◌, ◌*◌, ◌≡◌, List, ◌++◌, length, take}
-use Rattle.std.proofs.lemmas.List.Edits.{sets}
+use Rattle.std.specs.Prelude.{ℕ, ◌*◌, ◌≡◌, List, ◌++◌, length, take}
 use Rattle.definitions.specs.Limits.{numbers_per_row}
 use Rattle.definitions.specs.Lists.{overwrite}
 use Rattle.definitions.specs.Scan.{concat_map}
@@ -18,11 +17,6 @@ row_room = 105
 -- room for a refusal, or for the first line of the kept list, with bytes to spare
 abbrev pub line_room : ℕ
 line_room = 64
-
--- the bytes stand at a place, and the next place is behind them
-pub record Put (old : List ℕ) (at : ℕ) (bytes new : List ℕ) (next : ℕ) : Type 0 where
-  pub stored : new ≡ sets old at bytes
-  pub next_is : next ≡ at + length bytes
 
 -- the list begins with the bytes, and the answer is how many they are
 pub record Printed (bytes old new : List ℕ) (answer : ℕ) : Type 0 where

@@ -1,51 +1,53 @@
--- The loop that writes a number: putting the shortest form of what is left makes the list that is wanted (`Writing`). Assumes nothing.
+-- The loop that writes a number: the shortest form of what is left is still to be written (`Shortening`). Assumes nothing.
 use Prim.Native.Nat.{ℕ, zero, suc, ◌+◌, ◌*◌, ◌/◌, ◌%◌, ◌^◌, ◌<◌, ◌≤◌}
 use native.Mathlib.Omega.{arith}
-use native.Mathlib.Numerals.{add-one}
 use native.Mathlib.Nat.{pow-suc}
-use mathlib.Core.Path.{◌≡◌, refl, sym, ap, ◌∙◌}
-use mathlib.Core.List.{List}
-use lib.ListN.{length, set, length-set}
-use lib.Seq.{sets}
+use mathlib.Core.Path.{◌≡◌, refl, ap, ◌∙◌}
+use mathlib.Core.List.{[], ◌∷◌}
+use lib.ListN.{length}
 use Rattle.results.specs.Shortest.{shortest_within, shortest}
-use Rattle.results.specs.ShortestSteps.{one_group, more_groups, some_groups}
-use Rattle.put_shortest.specs.Contract.{Put}
+use Rattle.results.specs.ShortestSteps.{one_group, more_groups}
+use Rattle.byte_writer.specs.declared.Writer.{Writer}
+use Rattle.byte_writer.specs.Contract.{HasRoom, Appends}
+use Rattle.byte_writer.specs.Chains.{Writing, writing_starts, writing_room, writing_goes_on, writing_ends}
 
-pub record Writing (old : List ℕ) (at n : ℕ) (new : List ℕ) (left place : ℕ) : Type 0 where
+pub record Shortening (old : Writer) (n : ℕ) (now : Writer) (left : ℕ) : Type 0 where
   pub fuel : ℕ
   pub below : left < 128 ^ suc fuel
-  pub room : at + length (shortest n) ≤ length old
-  pub long : length new ≡ length old
-  pub same : sets new place (shortest_within (suc fuel) left) ≡ sets old at (shortest n)
-  pub behind : place + length (shortest_within (suc fuel) left) ≡ at + length (shortest n)
+  pub writing : Writing old (shortest n) (shortest_within (suc fuel) left) now
 
-pub writing_starts : {old : List ℕ} {at n : ℕ} → n < 2 ^ 64 → at + length (shortest n) ≤ length old → Writing old at n old n at
+pub shortening_starts : {old : Writer} {n : ℕ} → n < 2 ^ 64 → HasRoom old (length (shortest n)) → Shortening old n old n
 unfolding shortest
-writing_starts h room = record { fuel = 9; below = omega arith; room = room; long = refl; same = refl; behind = refl }
+shortening_starts h room = record { fuel = 9; below = omega arith; writing = writing_starts room }
 
-module _ {old new : List ℕ} {at n left place : ℕ} (W : Writing old at n new left place) where
-  pub place_inside : place < length new
-  place_inside = omega (arith, W.room, W.long, W.behind, some_groups W.fuel left)
+module _ {old now : Writer} {n left : ℕ} (S : Shortening old n now left) where
+  record More : Type 0 where
+    less : ℕ
+    fuel_is : S.fuel ≡ suc less
+    below : left / 128 < 128 ^ suc less
+    groups : shortest_within (suc S.fuel) left ≡ (128 + left % 128) ∷ shortest_within (suc less) (left / 128)
 
-  pub writing_goes_on : 128 ≤ left → Writing old at n (set new place (128 + left % 128)) (left / 128) (place + 1)
-  writing_goes_on h = go W.fuel W.below W.same W.behind
+  more : 128 ≤ left → More
+  more h = go S.fuel refl S.below
     where
-      go : (m : ℕ) → left < 128 ^ suc m → sets new place (shortest_within (suc m) left) ≡ sets old at (shortest n) → place + length (shortest_within (suc m) left) ≡ at + length (shortest n)
-          → Writing old at n (set new place (128 + left % 128)) (left / 128) (place + 1)
-      go zero b s e = absurd (omega arith)
-      go (suc m) b s e =
+      go : (m : ℕ) → S.fuel ≡ m → left < 128 ^ suc m → More
+      go zero e b = absurd (omega arith)
+      go (suc m) e b =
           let power : 128 ^ suc (suc m) ≡ 128 ^ suc m * 128 = pow-suc 128 (suc m) in
-          let groups = more_groups (suc m) left h in
-          record {
-            fuel = m;
-            below = omega arith;
-            room = W.room;
-            long = length-set new place (128 + left % 128) ∙ W.long;
-            same = rw (add-one place) (ap (sets new place) (sym groups) ∙ s);
-            behind = omega (arith, e, ap length groups);
-          }
+          record { less = m; fuel_is = e; below = omega arith; groups = ap (λ k. shortest_within (suc k) left) e ∙ more_groups (suc m) left h }
 
-  pub writing_ends : left < 128 → Put old at (shortest n) (set new place left) (place + 1)
-  writing_ends h =
-      let group = one_group W.fuel left h in
-      record { stored = ap (sets new place) (sym group) ∙ W.same; next_is = omega (arith, W.behind, ap length group) }
+  pub room_more : 128 ≤ left → HasRoom now 1
+  room_more h =
+      let m = more h in
+      writing_room ((128 + left % 128) ∷ []) (shortest_within (suc m.less) (left / 128)) m.groups S.writing
+
+  pub shortening_goes_on : 128 ≤ left → {now' : Writer} → Appends now ((128 + left % 128) ∷ []) now' → Shortening old n now' (left / 128)
+  shortening_goes_on h W =
+      let m = more h in
+      record { fuel = m.less; below = m.below; writing = writing_goes_on ((128 + left % 128) ∷ []) (shortest_within (suc m.less) (left / 128)) m.groups S.writing W }
+
+  pub room_last : left < 128 → HasRoom now 1
+  room_last h = writing_room (left ∷ []) [] (one_group S.fuel left h) S.writing
+
+  pub shortening_ends : left < 128 → {now' : Writer} → Appends now (left ∷ []) now' → Appends old (shortest n) now'
+  shortening_ends h W = writing_ends refl (writing_goes_on (left ∷ []) [] (one_group S.fuel left h) S.writing W)

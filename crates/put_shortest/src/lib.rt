@@ -1,10 +1,12 @@
-// A number of a sheet in shortest form, as bytes in a lent list: what every writer of sheets stands on.
+// A number of a sheet in shortest form, as bytes in a lent list.
 
 #![tactic(auto)]
 
-ghost use Rattle.std.specs.Prelude.{◌≡◌, ◌+◌, ◌%◌, ◌≤◌, ◌<◌, length};
+ghost use Rattle.std.specs.Prelude.{◌≡◌, ◌+◌, ◌%◌, ◌<◌, length};
 ghost use Rattle.results.specs.Shortest.{shortest};
-ghost use Rattle.put_shortest.specs.Contract.{Put};
+ghost use Rattle.byte_writer.specs.Contract.{HasRoom, Appends};
+
+use byte_writer::Writer;
 
 // The lowest group of a number, to be continued.
 fn continued(n: u64) -> u8
@@ -21,19 +23,16 @@ fn last(n: u64) -> u8
     n as u8
 }
 
-// Writes a number in shortest form, and gives the place behind it.
-pub fn put_shortest(out: &mut [u8], at: usize, n: u64) -> usize
-    requires { at + length (shortest n) ≤ length out.old }
-    ensures { Put out.old at (shortest n) out.new result }
+// Appends a number in shortest form.
+pub fn put_shortest(w: &mut Writer, n: u64)
+    requires { HasRoom w.old (length (shortest n)) }
+    ensures { Appends w.old (shortest n) w.new }
 {
     let mut left = n;
-    let mut place = at;
     // Kept: how many groups there are shows only as the number is divided, so that a `for` would be left early on every path.
     while 128 <= left {
-        out[place] = continued(left);
+        w.put_byte(continued(left));
         left /= 128;
-        place += 1;
     }
-    out[place] = last(left);
-    place + 1
+    w.put_byte(last(left));
 }

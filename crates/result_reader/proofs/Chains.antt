@@ -15,6 +15,7 @@ use Rattle.laws.specs.SheetReading.SheetLaws.{keeps-number, ends-inside, then_fo
 use Rattle.sheet.proofs.Chains.{alike, within}
 use Rattle.results.specs.Result.{Entry, Placed, result_of, kind, entry, entries, result, ascent_fault, pair_key, rules_fault}
 use Rattle.results.specs.ResultAnswers.{refused, judged_by, reading, read_result}
+use Rattle.result_writer.proofs.Ascending.{as_pairs}
 use Rattle.result_reader.specs.Parts.{turns_fault, no_fault, key_fault, ListHeld, opening, Lists₂, front, back, part_entries, OpeningHeld, FrontHeld, BackHeld, result_in, plan_by, ResultTold}
 use Rattle.std.specs.Prelude.{Option, None, Some, Result}
 use Rattle.refusals.specs.declared.Refusal.{Refusal}
@@ -95,11 +96,11 @@ module _ (regions place : ℕ) {bytes : List ℕ} {at middle : ℕ} {labels : Pa
 pub back-stops : (bytes : List ℕ) (at : ℕ) {refusal fault : ℕ} → entries numbers_per_pair at (drop at bytes) ≡ failed refusal fault → back at (drop at bytes) ≡ failed refusal fault
 back-stops bytes at h = pairs_fail at (drop at bytes) h
 
-module _ {bytes : List ℕ} {at middle : ℕ} {pairs : Part} {first : Option ℕ} (P : ListHeld (key_fault false) numbers_per_pair bytes at pairs middle first) where
+module _ {bytes : List ℕ} {at middle : ℕ} {pairs : Part} {first : Option ℕ} (P : ListHeld (key_fault 0) numbers_per_pair bytes at pairs middle first) where
   pub back-stops-later : {refusal fault : ℕ} → entries numbers_per_row middle (drop middle bytes) ≡ failed refusal fault → back at (drop at bytes) ≡ failed refusal fault
   back-stops-later h = rows_fail at (drop at bytes) P.same h
 
-  module _ {rows : Part} {next : ℕ} {second : Option ℕ} (R : ListHeld (key_fault true) numbers_per_row bytes middle rows next second) where
+  module _ {rows : Part} {next : ℕ} {second : Option ℕ} (R : ListHeld (key_fault 1) numbers_per_row bytes middle rows next second) where
     pub back-too_long : next < length bytes → back at (drop at bytes) ≡ failed 14 next
     back-too_long h = bytes_left at (drop at bytes) P.same R.same (drop-cons bytes next 0 h)
 
@@ -109,7 +110,7 @@ module _ {bytes : List ℕ} {at middle : ℕ} {pairs : Part} {first : Option ℕ
           for_pairs = P.held;
           for_rows = R.held;
           same = all_read at (drop at bytes) P.same R.same (drop_of_length-le bytes h);
-          broken = b ∙ ap (λ x. or_else x second) P.broken ∙ ap (or_else (ascent_fault pair_key (part_entries numbers_per_pair bytes pairs))) R.broken;
+          broken = b ∙ ap (λ x. or_else x second) (P.broken ∙ sym (as_pairs (part_entries numbers_per_pair bytes pairs))) ∙ ap (or_else (ascent_fault pair_key (part_entries numbers_per_pair bytes pairs))) R.broken;
         }
 
 -- ---- the sheet

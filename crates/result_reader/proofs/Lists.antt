@@ -15,9 +15,9 @@ use Rattle.sheet.specs.Numbers.{items_at, Told}
 use Rattle.refusals.specs.declared.Refusal.{Refusal}
 use Rattle.refusals.specs.Refusals.{number_of}
 use Rattle.results.specs.Result.{Entry, times_entry, entries, turns, labels_fault, ascent_fault}
-use Rattle.result_reader.specs.Walks.{entries_at, entries_of, Walks, turns_from, key_size, fault_behind, ascent_from}
+use Rattle.result_writer.specs.Contract.{key_in}
+use Rattle.result_reader.specs.Walks.{entries_at, entries_of, Walks, turns_from, fault_behind, ascent_from}
 use Rattle.result_reader.specs.Parts.{turns_fault, no_fault, key_fault, ListHeld}
-use Rattle.result_reader.specs.declared.Key.{Key}
 use Rattle.result_reader.proofs.Flat.{flat-times, unflat_found, unflat_failed, part_held}
 use Rattle.result_reader.proofs.Numbers.{times-inside}
 
@@ -36,11 +36,11 @@ pub only_then : (t : Bool) (place : ℕ) → then_some t place ≡ only_if t pla
 only_then true place = refl
 only_then false place = refl
 
-pub ascent_behind : (rows : Bool) (state : Result (Option Key) ℕ) → result_err state ≡ ascent_from rows state []
+pub ascent_behind : (key : List ℕ → List ℕ) (state : Result (Option (List ℕ)) ℕ) → result_err state ≡ ascent_from key state []
 unfolding ascent_from ascent_fault fault_behind
-ascent_behind rows (Ok None) = refl
-ascent_behind rows (Ok (Some k)) = refl
-ascent_behind rows (Err place) = refl
+ascent_behind key (Ok None) = refl
+ascent_behind key (Ok (Some k)) = refl
+ascent_behind key (Err place) = refl
 
 -- ---- the count
 
@@ -84,16 +84,16 @@ module _ (at : ℕ) (bytes : List ℕ) {count first : ℕ} (h : number at (drop 
 
   -- ---- pairs and rows
 
-  module _ (rows : Bool) where
-    pub keys_found : {next : ℕ} {state : Result (Option Key) ℕ} {breach : Option ℕ} → at ≤ length bytes
-        → Walks (ascent_from rows) (key_size rows) bytes (Ok None) first count (Ok (record { value = state; next = next })) → breach ≡ ascent_from rows state []
-        → ListHeld (key_fault rows) (key_size rows) bytes at (record { first = first; count = count }) next breach
+  module _ (size last : ℕ) where
+    pub keys_found : {next : ℕ} {state : Result (Option (List ℕ)) ℕ} {breach : Option ℕ} → at ≤ length bytes
+        → Walks (ascent_from (key_in last)) size bytes (Ok None) first count (Ok (record { value = state; next = next })) → breach ≡ ascent_from (key_in last) state []
+        → ListHeld (key_fault last) size bytes at (record { first = first; count = count }) next breach
     unfolding ascent_from
-    keys_found k w b = list-found (key_size rows) at bytes h k w.behind w.same (b ∙ sym w.told)
+    keys_found k w b = list-found size at bytes h k w.behind w.same (b ∙ sym w.told)
 
-    pub keys-stopped : (refusal : Refusal) → Walks (ascent_from rows) (key_size rows) bytes (Ok None) first count (Err refusal)
-        → entries (key_size rows) at (drop at bytes) ≡ failed (number_of refusal.cause) refusal.place
-    keys-stopped refusal w = list-fails (key_size rows) at bytes h w
+    pub keys-stopped : (refusal : Refusal) → Walks (ascent_from (key_in last)) size bytes (Ok None) first count (Err refusal)
+        → entries size at (drop at bytes) ≡ failed (number_of refusal.cause) refusal.place
+    keys-stopped refusal w = list-fails size at bytes h w
 
   -- ---- tallies
 

@@ -1,4 +1,4 @@
--- Numbers one behind the other, those of a pair row and of a row, and as many numbers twice. Assumes nothing.
+-- Numbers one behind the other, and as many numbers twice. Assumes nothing.
 use Prim.Native.Nat.{ℕ, suc, ◌+◌, ◌-◌, ◌*◌, ◌≤◌, ◌<◌}
 use native.Mathlib.Numerals.{add-one}
 use native.Mathlib.Omega.{arith}
@@ -15,10 +15,8 @@ use Rattle.sheet.specs.Numbers.{up_to, items_at, Told}
 use Rattle.std.specs.Prelude.{Result, Ok, Err}
 use Rattle.refusals.specs.declared.Refusal.{Refusal}
 use Rattle.sheet.specs.declared.Found.{Found}
-use Rattle.result_reader.specs.declared.Key.{Key}
 use Rattle.sheet.proofs.Items.{as_number}
 use Rattle.sheet.proofs.Judging.{told, told-numbers}
-use Rattle.result_reader.specs.Walks.{key_size, key_of}
 use Rattle.result_reader.proofs.Flat.{times-add}
 
 -- ---- what `item` was answered, with the largest bound
@@ -51,31 +49,6 @@ module _ (at : ℕ) (bytes : List ℕ) where
 
     pub former_fails : {refusal place : ℕ} → times m number at bytes ≡ failed refusal place → times (m + n) number at bytes ≡ failed refusal place
     former_fails g = times-add number m n at bytes ∙ then-failed (λ l o r. and_then (times n number o r) (λ k. give (l ++ k))) g
-
--- three numbers by themselves, and five
-three_are : (l : List ℕ) → length l ≡ 3 → l ≡ get_or l 0 0 ∷ get_or l 1 0 ∷ get_or l 2 0 ∷ []
-three_are [] h = absurd (omega arith)
-three_are (a ∷ []) h = absurd (omega arith)
-three_are (a ∷ b ∷ []) h = absurd (omega arith)
-three_are (a ∷ b ∷ c ∷ []) h = refl
-three_are (a ∷ b ∷ c ∷ d ∷ l) h = absurd (omega arith)
-
-five_are : (l : List ℕ) → length l ≡ 5 → l ≡ get_or l 0 0 ∷ get_or l 1 0 ∷ get_or l 2 0 ∷ get_or l 3 0 ∷ get_or l 4 0 ∷ []
-five_are [] h = absurd (omega arith)
-five_are (a ∷ []) h = absurd (omega arith)
-five_are (a ∷ b ∷ []) h = absurd (omega arith)
-five_are (a ∷ b ∷ c ∷ []) h = absurd (omega arith)
-five_are (a ∷ b ∷ c ∷ d ∷ []) h = absurd (omega arith)
-five_are (a ∷ b ∷ c ∷ d ∷ e ∷ []) h = refl
-five_are (a ∷ b ∷ c ∷ d ∷ e ∷ f ∷ l) h = absurd (omega arith)
-
-module _ (at : ℕ) (bytes : List ℕ) {l m : List ℕ} {next : ℕ} where
-  pub pair-found : times 3 number at bytes ≡ found l next m → times numbers_per_pair number at bytes ≡ found (get_or l 0 0 ∷ get_or l 1 0 ∷ get_or l 2 0 ∷ []) next m
-  pair-found k = k ∙ ap (λ x. found x next m) (three_are l (times-length number 3 at bytes k))
-
-  pub row-found : times 5 number at bytes ≡ found l next m
-      → times numbers_per_row number at bytes ≡ found (get_or l 0 0 ∷ get_or l 1 0 ∷ get_or l 2 0 ∷ get_or l 3 0 ∷ get_or l 4 0 ∷ []) next m
-  row-found k = k ∙ ap (λ x. found x next m) (five_are l (times-length number 5 at bytes k))
 
 pub times-inside : (n : ℕ) (bytes : List ℕ) (at : ℕ) {l : List ℕ} {next : ℕ} → at ≤ length bytes → times n number at (drop at bytes) ≡ found l next (drop next bytes) → next ≤ length bytes
 times-inside n bytes at h e = ends-inside (keeps-times number keeps-number n) bytes at h e
@@ -141,12 +114,3 @@ module _ (bytes : List ℕ) (at count : ℕ) where
         told (ap (λ n. times n number at (drop at bytes)) double ∙ both_found at (drop at bytes) count count (told-numbers bytes at count (Ok middle) t) (told-numbers bytes middle count (Ok next) u))
     twice-goes_on (Err refusal) u =
         ap (λ n. times n number at (drop at bytes)) double ∙ both-fails at (drop at bytes) count count (told-numbers bytes at count (Ok middle) t) (told-numbers bytes middle count (Err refusal) u)
-
--- ---- the flag says which
-
-module _ (rows : Bool) (bytes : List ℕ) (at : ℕ) (r : Result (Found Key) Refusal) where
-  pub key_of-row : rows ≡ true → times numbers_per_row number at (drop at bytes) ≡ key_of true bytes r → times (key_size rows) number at (drop at bytes) ≡ key_of rows bytes r
-  key_of-row e h = ap (λ t. times (key_size t) number at (drop at bytes)) e ∙ h ∙ sym (ap (λ t. key_of t bytes r) e)
-
-  pub key_of-pair : rows ≡ false → times numbers_per_pair number at (drop at bytes) ≡ key_of false bytes r → times (key_size rows) number at (drop at bytes) ≡ key_of rows bytes r
-  key_of-pair e h = ap (λ t. times (key_size t) number at (drop at bytes)) e ∙ h ∙ sym (ap (λ t. key_of t bytes r) e)

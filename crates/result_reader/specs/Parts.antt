@@ -9,7 +9,8 @@ use Rattle.sheet.specs.Numbers.{values_at, Held}
 use Rattle.results.specs.Result as results
 use Rattle.results.specs.Result.{Entry, kind, entry, entries, turns, labels_fault, ascent_fault, pair_key, row_key}
 use Rattle.results.specs.ResultAnswers.{well_formed, refused, read_result}
-use Rattle.result_reader.specs.Walks.{entries_at, entries_of, key_in_lem}
+use Rattle.result_writer.specs.Contract.{key_in}
+use Rattle.result_reader.specs.Walks.{entries_at, entries_of}
 use Rattle.refusals.specs.declared.Refusal.{Refusal}
 use Rattle.refusals.specs.declared.Cause.TheVariants as cause
 use Rattle.refusals.specs.Refusals as refusals
@@ -29,8 +30,8 @@ turns_fault regions place es = labels_fault regions place (turns regions 0 es)
 abbrev pub no_fault : List Entry → Option ℕ
 no_fault es = None
 
-abbrev pub key_fault : Bool → List Entry → Option ℕ
-key_fault rows es = ascent_fault (key_in_lem rows) es
+abbrev pub key_fault : ℕ → List Entry → Option ℕ
+key_fault last es = ascent_fault (key_in last) es
 
 -- ---- one list
 

@@ -1,14 +1,12 @@
 -- Entries of a list while they are walked: what is remembered of those that went by, what the rules say of the ones that follow, and what a walk answers.
 -- Definitions only; assumes nothing.
-use Rattle.std.specs.Prelude.{ℕ, ◌≤◌, ◌≡◌, Bool, true, false, cond, List, [], ◌∷◌, length, drop, Option, None, Some, Result, Ok, Err}
-use Rattle.definitions.specs.Limits.{numbers_per_pair, numbers_per_row}
+use Rattle.std.specs.Prelude.{ℕ, ◌≤◌, ◌≡◌, cond, List, [], ◌∷◌, length, drop, Option, None, Some, Result, Ok, Err}
 use Rattle.definitions.specs.SheetNumber.{Read, found, failed}
 use Rattle.definitions.specs.Sort.{list_lt}
 use Rattle.refusals.specs.declared.Refusal.{Refusal}
 use Rattle.refusals.specs.Refusals as refusals
-use Rattle.results.specs.Result.{Entry, Turns, out_of_turn, times_entry, turns, ascent_fault, pair_key, row_key}
+use Rattle.results.specs.Result.{Entry, Turns, out_of_turn, times_entry, turns, ascent_fault}
 use Rattle.sheet.specs.declared.Found.{Found}
-use Rattle.result_reader.specs.declared.Key.{Key}
 
 -- ---- entries at an offset of the bytes
 
@@ -45,37 +43,13 @@ unfolding turns
 turns_from regions (Ok n) es = turns regions n es
 turns_from regions (Err place) es = out_of_turn place
 
--- ---- pairs and rows; the flag says which
-
-abbrev pub key_size : Bool → ℕ
-key_size rows = cond rows numbers_per_row numbers_per_pair
-
-abbrev pub key_in_lem : Bool → List ℕ → List ℕ
-key_in_lem true numbers = row_key numbers
-key_in_lem false numbers = pair_key numbers
-
-abbrev pub key_tail : Bool → Key → List ℕ
-key_tail true k = k.d ∷ k.e ∷ []
-key_tail false k = []
-
--- in the order of comparison
-abbrev pub key_numbers : Bool → Key → List ℕ
-key_numbers rows k = k.a ∷ k.b ∷ k.c ∷ key_tail rows k
-
--- as they are written: a row has its number first
-abbrev pub key_written : Bool → Key → List ℕ
-key_written true k = k.e ∷ k.a ∷ k.b ∷ k.c ∷ k.d ∷ []
-key_written false k = k.a ∷ k.b ∷ k.c ∷ []
-
-abbrev pub key_of : Bool → List ℕ → Result (Found Key) Refusal → Read (List ℕ)
-key_of rows bytes (Ok read) = found (key_written rows read.value) read.next (drop read.next bytes)
-key_of rows bytes (Err refusal) = failed (refusals.number_of refusal.cause) refusal.place
+-- ---- pairs and rows
 
 -- one entry more
-abbrev pub ascent_of : Bool → Result (Option Key) ℕ → Key → ℕ → Result (Option Key) ℕ
-ascent_of rows (Ok None) k place = Ok (Some k)
-ascent_of rows (Ok (Some before)) k place = cond (list_lt (key_numbers rows before) (key_numbers rows k)) (Ok (Some k)) (Err place)
-ascent_of rows (Err first) k place = Err first
+abbrev pub ascent_of : Result (Option (List ℕ)) ℕ → List ℕ → ℕ → Result (Option (List ℕ)) ℕ
+ascent_of (Ok None) k place = Ok (Some k)
+ascent_of (Ok (Some before)) k place = cond (list_lt before k) (Ok (Some k)) (Err place)
+ascent_of (Err first) k place = Err first
 
 -- the place of the first that is not above the one before it, behind an entry of this key
 unfoldable pub fault_behind : (List ℕ → List ℕ) → List ℕ → List Entry → Option ℕ
@@ -83,8 +57,8 @@ unfolding list_lt
 fault_behind key before [] = None
 fault_behind key before (e ∷ es) = cond (list_lt before (key e.numbers)) (fault_behind key (key e.numbers) es) (Some e.place)
 
-unfoldable pub ascent_from : Bool → Result (Option Key) ℕ → List Entry → Option ℕ
+unfoldable pub ascent_from : (List ℕ → List ℕ) → Result (Option (List ℕ)) ℕ → List Entry → Option ℕ
 unfolding ascent_fault fault_behind
-ascent_from rows (Ok None) es = ascent_fault (key_in_lem rows) es
-ascent_from rows (Ok (Some k)) es = fault_behind (key_in_lem rows) (key_numbers rows k) es
-ascent_from rows (Err place) es = Some place
+ascent_from key (Ok None) es = ascent_fault key es
+ascent_from key (Ok (Some k)) es = fault_behind key k es
+ascent_from key (Err place) es = Some place

@@ -4,21 +4,21 @@
 
 #![tactic(auto)]
 
-ghost use Rattle.std.specs.Prelude.{◌≡◌, true, false, [], ℕ, ◌*◌, ◌≤◌, length, drop, None, Ok, Err};
+ghost use Rattle.std.specs.Prelude.{◌≡◌, [], ℕ, ◌*◌, ◌≤◌, length, drop, None, Ok, Err};
 ghost use Rattle.definitions.specs.Limits.{tallies_per_span, numbers_per_pair, numbers_per_row};
 ghost use Rattle.definitions.specs.Lists.{overwrite};
 ghost use Rattle.definitions.specs.Refusals.{or_else};
 ghost use Rattle.definitions.specs.SheetNumber.{number};
 ghost use Rattle.definitions.specs.Sheet.{times};
-ghost use Rattle.definitions.specs.Sort.{list_lt};
 ghost use Rattle.sheet.specs.Numbers.{read_of, items_at, Told};
 ghost use Rattle.results.specs.Result.{labels_fault};
-ghost use Rattle.result_reader.specs.Walks.{turns_from, Walks, key_tail, key_numbers, key_size, key_of, ascent_of, ascent_from};
+ghost use Rattle.result_writer.specs.Contract.{key_in};
+ghost use Rattle.result_reader.specs.Walks.{turns_from, Walks, ascent_of, ascent_from};
 ghost use Rattle.result_reader.specs.Parts.{turns_fault, no_fault, key_fault, ListTold, OpeningTold, FrontTold, BackTold, ResultTold, plan_by, PlanHeld, PartHeld, part_numbers, room_in, Room};
 ghost use Rattle.result_reader.specs.Contract.{answer_in, refused_by, Reads};
 
 use refusals::{Cause, Refusal};
-use result_writer::{after_label, is_before};
+use result_writer::after_label;
 use sheet::{Found, fill_numbers, item, judge};
 
 const MOST: u64 = 0xffff_ffff_ffff_ffff;
@@ -63,16 +63,6 @@ fn walk_labels(bytes: &[u8], at: usize, count: u64, regions: u64) -> Result<Foun
 
 // ---- pairs and rows
 
-// The numbers of a row in the order in which they are compared: endpoints, then the number; or the three of a pair row, and 0 twice.
-#[derive(Clone, Copy)]
-pub struct Key {
-    a: u64,
-    b: u64,
-    c: u64,
-    d: u64,
-    e: u64,
-}
-
 // The next N numbers.
 fn numbers_at<const N: usize>(bytes: &[u8], at: usize) -> Result<Found<[u64; N]>, Refusal>
     requires { at ≤ length bytes.now }
@@ -88,98 +78,49 @@ fn numbers_at<const N: usize>(bytes: &[u8], at: usize) -> Result<Found<[u64; N]>
     Ok(Found { value, next })
 }
 
-fn pair(bytes: &[u8], at: usize) -> Result<Found<Key>, Refusal>
-    requires { at ≤ length bytes.now }
-    ensures { times numbers_per_pair number at (drop at bytes.now) ≡ key_of false bytes.now result }
+// The numbers of an entry in the order in which they are compared: behind the others the first ones, so many of them.
+fn key<const N: usize>(numbers: [u64; N], last: usize) -> [u64; N]
+    requires { last ≤ N }
+    ensures { result ≡ key_in last numbers.entry }
 {
-    let read = numbers_at::<PAIR_SIZE>(bytes, at)?;
-    Ok(Found {
-        value: Key {
-            a: read.value[0],
-            b: read.value[1],
-            c: read.value[2],
-            d: 0,
-            e: 0,
-        },
-        next: read.next,
-    })
-}
-
-fn row(bytes: &[u8], at: usize) -> Result<Found<Key>, Refusal>
-    requires { at ≤ length bytes.now }
-    ensures { times numbers_per_row number at (drop at bytes.now) ≡ key_of true bytes.now result }
-{
-    let read = numbers_at::<ROW_SIZE>(bytes, at)?;
-    Ok(Found {
-        value: Key {
-            a: read.value[1],
-            b: read.value[2],
-            c: read.value[3],
-            d: read.value[4],
-            e: read.value[0],
-        },
-        next: read.next,
-    })
-}
-
-// The last two numbers of rows; pair rows have none.
-fn tail_ascends(rows: bool, last: Key, key: Key) -> bool
-    ensures { result ≡ list_lt (key_tail rows last) (key_tail rows key) }
-{
-    if rows {
-        let e = is_before(last.e, key.e, false);
-        return is_before(last.d, key.d, e);
-    }
-    false
-}
-
-fn ascends(rows: bool, last: Key, key: Key) -> bool
-    ensures { result ≡ list_lt (key_numbers rows last) (key_numbers rows key) }
-{
-    let d = tail_ascends(rows, last, key);
-    let c = is_before(last.c, key.c, d);
-    let b = is_before(last.b, key.b, c);
-    is_before(last.a, key.a, b)
+    let mut key = numbers;
+    key.rotate_left(last);
+    key
 }
 
 // The key of the last entry, if there is one yet, all in order; or the place of the first that is not above the one before it.
-type Ascent = Result<Option<Key>, usize>;
+type Ascent<const N: usize> = Result<Option<[u64; N]>, usize>;
 
 // One entry more, at this place.
-fn climb(rows: bool, state: Ascent, key: Key, place: usize) -> Ascent
-    ensures { result ≡ ascent_of rows state key place }
+fn climb<const N: usize>(state: Ascent<N>, key: [u64; N], place: usize) -> Ascent<N>
+    ensures { result ≡ ascent_of state.entry key.entry place }
 {
-    let Some(last) = state? else {
+    let Some(before) = state? else {
         return Ok(Some(key));
     };
-    if ascends(rows, last, key) {
+    if before < key {
         Ok(Some(key))
     } else {
         Err(place)
     }
 }
 
-fn key_at(rows: bool, bytes: &[u8], at: usize) -> Result<Found<Key>, Refusal>
-    requires { at ≤ length bytes.now }
-    ensures { times (key_size rows) number at (drop at bytes.now) ≡ key_of rows bytes.now result }
-{
-    if rows {
-        return row(bytes, at);
-    }
-    pair(bytes, at)
-}
-
-// Walks `count` entries: rows, or pair rows.
-fn walk_keys(rows: bool, bytes: &[u8], at: usize, count: u64) -> Result<Found<Ascent>, Refusal>
-    requires { at ≤ length bytes.now }
-    ensures { Walks (ascent_from rows) (key_size rows) bytes.now (Ok None) at count result }
+// Walks `count` entries of N numbers, of which the first ones, so many of them, are compared last.
+fn walk_keys<const N: usize>(
+    bytes: &[u8],
+    at: usize,
+    count: u64,
+    last: usize,
+) -> Result<Found<Ascent<N>>, Refusal>
+    requires { (at ≤ length bytes.now) × (last ≤ N) × (N ≤ numbers_per_row) }
+    ensures { Walks (ascent_from (key_in last)) N bytes.now (Ok None) at count result }
 {
     let mut next = at;
-    let mut state: Ascent = Ok(None);
+    let mut state: Ascent<N> = Ok(None);
     for _ in 0..count {
-        let key = key_at(rows, bytes, next)?;
-        state = climb(rows, state, key.value, next);
-        next = key.next;
+        let numbers = numbers_at::<N>(bytes, next)?;
+        state = climb(state, key(numbers.value, last), next);
+        next = numbers.next;
     }
     Ok(Found { value: state, next })
 }
@@ -257,13 +198,13 @@ fn tallies_list(bytes: &[u8], at: usize) -> Result<Found<List>, Refusal>
     })
 }
 
-// Rows, or pair rows, behind their count.
-fn keys_list(rows: bool, bytes: &[u8], at: usize) -> Result<Found<List>, Refusal>
-    requires { at ≤ length bytes.now }
-    ensures { ListTold (key_fault rows) (key_size rows) bytes.now at result }
+// Pairs or rows behind their count: entries of N numbers, of which the first ones, so many of them, are compared last.
+fn keys_list<const N: usize>(bytes: &[u8], at: usize, last: usize) -> Result<Found<List>, Refusal>
+    requires { (at ≤ length bytes.now) × (last ≤ N) × (N ≤ numbers_per_row) }
+    ensures { ListTold (key_fault last) N bytes.now at result }
 {
     let count = item(bytes, at, MOST)?;
-    let keys = walk_keys(rows, bytes, count.next, count.value)?;
+    let keys = walk_keys::<N>(bytes, count.next, count.value, last)?;
     Ok(Found {
         value: List {
             part: Part {
@@ -334,13 +275,13 @@ fn front(bytes: &[u8], at: usize, regions: u64, place: usize) -> Result<Found<Bo
     })
 }
 
-// Pairs and rows, and the end of the bytes behind them.
+// Pairs and rows, and the end of the bytes behind them. A row has its number first, and is compared by its endpoints before that.
 fn back(bytes: &[u8], at: usize) -> Result<Found<BothLists>, Refusal>
     requires { at ≤ length bytes.now }
     ensures { BackTold bytes.now at result }
 {
-    let pairs = keys_list(false, bytes, at)?;
-    let rows = keys_list(true, bytes, pairs.next)?;
+    let pairs = keys_list::<PAIR_SIZE>(bytes, at, 0)?;
+    let rows = keys_list::<ROW_SIZE>(bytes, pairs.next, 1)?;
     if rows.next < bytes.len() {
         return Err(Refusal {
             cause: Cause::Sheet,
@@ -461,31 +402,35 @@ pub struct ResultAnswer {
     pub rows: u64,
 }
 
-fn opened(plan: Plan) -> ResultAnswer
-    ensures { result ≡ answer_in plan }
-{
-    ResultAnswer {
-        number: 0,
-        place: 0,
-        regions: plan.regions,
-        labels: plan.labels.count as u64,
-        spans: plan.tallies.count as u64,
-        pairs: plan.pairs.count as u64,
-        rows: plan.rows.count as u64,
+impl From<Plan> for ResultAnswer {
+    ghost from_gives = { λ plan answer. answer ≡ answer_in plan };
+
+    fn from(plan: Plan) -> ResultAnswer {
+        ResultAnswer {
+            number: 0,
+            place: 0,
+            regions: plan.regions,
+            labels: plan.labels.count as u64,
+            spans: plan.tallies.count as u64,
+            pairs: plan.pairs.count as u64,
+            rows: plan.rows.count as u64,
+        }
     }
 }
 
-fn refused(refusal: Refusal) -> ResultAnswer
-    ensures { result ≡ refused_by refusal }
-{
-    ResultAnswer {
-        number: refusal.cause.number(),
-        place: refusal.place as u64,
-        regions: 0,
-        labels: 0,
-        spans: 0,
-        pairs: 0,
-        rows: 0,
+impl From<Refusal> for ResultAnswer {
+    ghost from_gives = { λ refusal answer. answer ≡ refused_by refusal };
+
+    fn from(refusal: Refusal) -> ResultAnswer {
+        ResultAnswer {
+            number: refusal.cause.number(),
+            place: refusal.place as u64,
+            regions: 0,
+            labels: 0,
+            spans: 0,
+            pairs: 0,
+            rows: 0,
+        }
     }
 }
 
@@ -511,14 +456,14 @@ pub fn result_reader_read_result(
                     &mut *pairs,
                     &mut *rows,
                 );
-                opened(plan)
+                ResultAnswer::from(plan)
             } else {
-                refused(Refusal {
+                ResultAnswer::from(Refusal {
                     cause: Cause::Room,
                     place: 0,
                 })
             }
         }
-        Err(refusal) => refused(refusal),
+        Err(refusal) => ResultAnswer::from(refusal),
     }
 }

@@ -13,7 +13,7 @@ use Rattle.definitions.specs.Limits.{numbers_per_pair, numbers_per_row}
 use Rattle.laws.specs.ListLaws.Overwritten.{sets_overwrite}
 use Rattle.results.specs.Result.{Result, turns, labels_fault, ascent_fault, pair_key, row_key, rules_fault}
 use Rattle.results.specs.ResultAnswers.{entries_in, placed, is_finished, result_bytes, write_verdict, Writes}
-use Rattle.put_shortest.specs.Contract.{Put}
+use Rattle.byte_writer.specs.Contract.{Put}
 
 -- ---- the rules
 

@@ -2,69 +2,105 @@
 -- all. And the keys that are compared are those of the rule. Assumes nothing.
 use Prim.Native.Nat.{ℕ, zero, suc, ◌+◌, ◌-◌, ◌*◌, ◌/◌, ◌<◌, ◌≤◌}
 use native.Mathlib.Omega.{arith}
-use native.Mathlib.Nat.{add-zero}
+use native.Mathlib.Nat.{mul-suc, mul-le-mul_left, mul-div-le, le_trans}
+use native.Mathlib.Numerals.{add-one}
 use mathlib.Core.Path.{◌≡◌, refl, sym, ap, ap₂, ◌∙◌}
 use mathlib.Core.Bool.{Bool, true, false, ◌&&◌, ◌||◌}
 use lib.Dec.{ltb, eqb}
 use Rattle.std.specs.Prelude.{None, Some, MatchBool}
 use Rattle.definitions.specs.Refusals.{unless}
-use mathlib.Core.List.{List, [], ◌∷◌, map}
-use lib.ListN.{length, take, drop, get_or, length-drop}
-use lib.Seq.{drop-drop, get_or-drop}
+use mathlib.Core.List.{List, [], ◌∷◌, ◌++◌, map, append-nil}
+use lib.ListN.{length, take, drop, length-drop}
+use lib.Seq.{drop-drop, length-take-le}
+use Rattle.std.proofs.lemmas.List.{drop-take, take-take}
+use lib.Pointwise.{pointwise}
 use Rattle.definitions.specs.Sort.{list_lt}
-use Rattle.results.specs.Result.{Entry, ascent_fault, pair_key, row_key}
+use Rattle.results.specs.Result.{Entry, ascent_fault, pair_key}
 use Rattle.results.specs.ResultAnswers.{chunks, entries_in}
-use Rattle.result_writer.specs.Contract.{pair_at, row_at}
+use Rattle.result_writer.specs.Contract.{key_in, entry_at, Neighbours}
 
 -- ---- the keys
 
-three : (m : List ℕ) → 3 ≤ length m → take 3 m ≡ get_or m 0 0 ∷ get_or m 1 0 ∷ get_or m 2 0 ∷ []
-three [] h = absurd (omega arith)
-three (a ∷ []) h = absurd (omega arith)
-three (a ∷ b ∷ []) h = absurd (omega arith)
-three (a ∷ b ∷ c ∷ m) h = refl
-
-five : (m : List ℕ) → 5 ≤ length m → row_key (take 5 m) ≡ get_or m 1 0 ∷ get_or m 2 0 ∷ get_or m 3 0 ∷ get_or m 4 0 ∷ get_or m 0 0 ∷ []
-five [] h = absurd (omega arith)
-five (a ∷ []) h = absurd (omega arith)
-five (a ∷ b ∷ []) h = absurd (omega arith)
-five (a ∷ b ∷ c ∷ []) h = absurd (omega arith)
-five (a ∷ b ∷ c ∷ d ∷ []) h = absurd (omega arith)
-five (a ∷ b ∷ c ∷ d ∷ e ∷ m) h = refl
-
-first : (l : List ℕ) (k : ℕ) → get_or (drop k l) 0 0 ≡ get_or l k 0
-first l k = get_or-drop k l 0 0 ∙ ap (λ n. get_or l n 0) (add-zero k)
-
-pub pair_key_lem : (l : List ℕ) (k : ℕ) → k + 3 ≤ length l → pair_key (take 3 (drop k l)) ≡ pair_at l k
-pair_key_lem l k h = three (drop k l) (omega (arith, length-drop k l)) ∙ (λ i. first l k i ∷ get_or-drop k l 1 0 i ∷ get_or-drop k l 2 0 i ∷ [])
-
-pub row_key_lem : (l : List ℕ) (k : ℕ) → k + 5 ≤ length l → row_key (take 5 (drop k l)) ≡ row_at l k
-row_key_lem l k h =
-    five (drop k l) (omega (arith, length-drop k l))
-    ∙ (λ i. get_or-drop k l 1 0 i ∷ get_or-drop k l 2 0 i ∷ get_or-drop k l 3 0 i ∷ get_or-drop k l 4 0 i ∷ first l k i ∷ [])
-
--- the order of two keys of one list, number by number, from the last on
-pub lt_pair : (l : List ℕ) (a b : ℕ) {r s t : Bool} → r ≡ (ltb (get_or l (a + 2) 0) (get_or l (b + 2) 0) || (eqb (get_or l (a + 2) 0) (get_or l (b + 2) 0) && false))
-    → s ≡ (ltb (get_or l (a + 1) 0) (get_or l (b + 1) 0) || (eqb (get_or l (a + 1) 0) (get_or l (b + 1) 0) && r))
-    → t ≡ (ltb (get_or l a 0) (get_or l b 0) || (eqb (get_or l a 0) (get_or l b 0) && s))
-    → t ≡ list_lt (pair_at l a) (pair_at l b)
+-- behind beginnings of equal length
+lt_behind : (x y u v : List ℕ) → length x ≡ length y → list_lt (x ++ u) (y ++ v) ≡ (list_lt x y || (pointwise eqb x y && list_lt u v))
 unfolding list_lt
-lt_pair l a b x y z =
-    z ∙ ap (λ v. ltb (get_or l a 0) (get_or l b 0) || (eqb (get_or l a 0) (get_or l b 0) && v))
-    (y ∙ ap (λ v. ltb (get_or l (a + 1) 0) (get_or l (b + 1) 0) || (eqb (get_or l (a + 1) 0) (get_or l (b + 1) 0) && v)) x)
+lt_behind [] [] u v e = refl
+lt_behind [] (b ∷ y) u v e = absurd (omega arith)
+lt_behind (a ∷ x) [] u v e = absurd (omega arith)
+lt_behind (a ∷ x) (b ∷ y) u v e = ap (λ t. ltb a b || (eqb a b && t)) (lt_behind x y u v (omega arith)) ∙ go (ltb a b) (eqb a b)
+  where
+    go : (s t : Bool) → (s || (t && (list_lt x y || (pointwise eqb x y && list_lt u v)))) ≡ ((s || (t && list_lt x y)) || ((t && pointwise eqb x y) && list_lt u v))
+    go true t = refl
+    go false true = refl
+    go false false = refl
 
-pub lt_row : (l : List ℕ) (a b : ℕ) {q r s t u : Bool} → q ≡ (ltb (get_or l a 0) (get_or l b 0) || (eqb (get_or l a 0) (get_or l b 0) && false))
-    → r ≡ (ltb (get_or l (a + 4) 0) (get_or l (b + 4) 0) || (eqb (get_or l (a + 4) 0) (get_or l (b + 4) 0) && q))
-    → s ≡ (ltb (get_or l (a + 3) 0) (get_or l (b + 3) 0) || (eqb (get_or l (a + 3) 0) (get_or l (b + 3) 0) && r))
-    → t ≡ (ltb (get_or l (a + 2) 0) (get_or l (b + 2) 0) || (eqb (get_or l (a + 2) 0) (get_or l (b + 2) 0) && s))
-    → u ≡ (ltb (get_or l (a + 1) 0) (get_or l (b + 1) 0) || (eqb (get_or l (a + 1) 0) (get_or l (b + 1) 0) && t))
-    → u ≡ list_lt (row_at l a) (row_at l b)
-unfolding list_lt
-lt_row l a b v w x y z =
-    z ∙ ap (λ k. ltb (get_or l (a + 1) 0) (get_or l (b + 1) 0) || (eqb (get_or l (a + 1) 0) (get_or l (b + 1) 0) && k))
-    (y ∙ ap (λ k. ltb (get_or l (a + 2) 0) (get_or l (b + 2) 0) || (eqb (get_or l (a + 2) 0) (get_or l (b + 2) 0) && k))
-    (x ∙ ap (λ k. ltb (get_or l (a + 3) 0) (get_or l (b + 3) 0) || (eqb (get_or l (a + 3) 0) (get_or l (b + 3) 0) && k))
-    (w ∙ ap (λ k. ltb (get_or l (a + 4) 0) (get_or l (b + 4) 0) || (eqb (get_or l (a + 4) 0) (get_or l (b + 4) 0) && k)) v)))
+-- the entry from `at` up to `end`, as its parts are read
+key_read : (l : List ℕ) (at end size last : ℕ) → last ≤ size → at + size ≡ end → end ≤ length l
+    → key_in last (take size (drop at l)) ≡ take (end - (at + last)) (drop (at + last) l) ++ take (at + last - at) (drop at l)
+key_read l at end size last few long inside =
+    let whole : last + (end - (at + last)) ≡ size = omega arith in
+    let front : last ≡ at + last - at = omega arith in
+    let behind : drop last (take size (drop at l)) ≡ take (end - (at + last)) (drop (at + last) l) =
+    ap (λ n. drop last (take n (drop at l))) (sym whole) ∙ drop-take last (end - (at + last)) (drop at l) ∙ ap (take (end - (at + last))) (drop-drop last at l) in
+    ap₂ ◌++◌ behind (take-take last size (drop at l) few ∙ ap (λ n. take n (drop at l)) front)
+
+pub entry_back : (size i : ℕ) → 1 ≤ i → size * (i - 1) + size ≡ size * i
+entry_back size i h =
+    let e : suc (i - 1) ≡ i = omega arith in
+    sym (mul-suc size (i - 1)) ∙ ap (λ n. size * n) e
+
+-- an entry behind the first, among those that a list has
+pub neighbours : (size i : ℕ) (l : List ℕ) → 1 ≤ i → i < length l / size → Neighbours size l i
+neighbours size i l h k = record { later = h; inside = le_trans (mul-le-mul_left {m = i + 1} {n = length l / size} size (omega arith)) (mul-div-le (length l) size) }
+
+-- entry i and the one before it
+module _ (l : List ℕ) (size last i : ℕ) (N : Neighbours size l i) (few : last ≤ size) where
+  -- the numbers of both behind the first ones, and the first ones
+  abbrev x : List ℕ
+  x = take (size * i - (size * i - size + last)) (drop (size * i - size + last) l)
+
+  abbrev y : List ℕ
+  y = take (size * i + size - (size * i + last)) (drop (size * i + last) l)
+
+  abbrev u : List ℕ
+  u = take (size * i - size + last - (size * i - size)) (drop (size * i - size) l)
+
+  abbrev v : List ℕ
+  v = take (size * i + last - size * i) (drop (size * i) l)
+
+  long : size * i + size ≤ length l
+  long = omega (arith, N.inside, mul-suc size i, ap (λ n. size * n) (add-one i))
+
+  start : size * (i - 1) ≡ size * i - size
+  start = omega (arith, entry_back size i N.later)
+
+  same_long : length x ≡ length y
+  same_long =
+      let back = entry_back size i N.later in
+      length-take-le (size * i - (size * i - size + last)) (drop (size * i - size + last) l) (omega (arith, back, long, length-drop (size * i - size + last) l))
+      ∙ omega (arith, back, few)
+      ∙ sym (length-take-le (size * i + size - (size * i + last)) (drop (size * i + last) l) (omega (arith, long, few, length-drop (size * i + last) l)))
+
+  compared : list_lt (key_in last (entry_at size l (i - 1))) (key_in last (entry_at size l i)) ≡ (list_lt x y || (pointwise eqb x y && list_lt u v))
+  compared =
+      ap₂ list_lt
+      (ap (λ n. key_in last (take size (drop n l))) start ∙ key_read l (size * i - size) (size * i) size last few (omega (arith, entry_back size i N.later)) (omega (arith, long)))
+      (key_read l (size * i) (size * i + size) size last few refl long)
+      ∙ lt_behind x y u v same_long
+
+  pub when_less : {r : Bool} → r ≡ list_lt x y → r ≡ true → r ≡ list_lt (key_in last (entry_at size l (i - 1))) (key_in last (entry_at size l i))
+  when_less e h = h ∙ sym (compared ∙ ap (λ t. t || (pointwise eqb x y && list_lt u v)) (sym e ∙ h))
+
+  pub when_over : {s r : Bool} → s ≡ list_lt x y → s ≡ false → r ≡ pointwise eqb x y → r ≡ false → r ≡ list_lt (key_in last (entry_at size l (i - 1))) (key_in last (entry_at size l i))
+  when_over e h f k = k ∙ sym (compared ∙ ap₂ (λ t w. t || (w && list_lt u v)) (sym e ∙ h) (sym f ∙ k))
+
+  pub when_level : {s t r : Bool} → s ≡ list_lt x y → s ≡ false → t ≡ pointwise eqb x y → t ≡ true → r ≡ list_lt u v
+      → r ≡ list_lt (key_in last (entry_at size l (i - 1))) (key_in last (entry_at size l i))
+  when_level e h f k g = g ∙ sym (compared ∙ ap₂ (λ t w. t || (w && list_lt u v)) (sym e ∙ h) (sym f ∙ k))
+
+-- of pairs no number is compared behind the others
+pub as_pairs : (es : List Entry) → ascent_fault pair_key es ≡ ascent_fault (key_in 0) es
+as_pairs es = sym (λ i. ascent_fault (λ l. append-nil l i) es)
 
 -- ---- the walk
 
@@ -169,13 +205,3 @@ module _ (size : ℕ) (key : List ℕ → List ℕ) where
         → ascent_fault key (entries_in size l) ≡ unless r
     all_above z test same true h = rise (length l / size - 1) 1 (ascending_starts l z) refl (λ k a b. same k a b ∙ h k a b)
     all_above z test same false (k, a, b, h) = fall (k - 1) 1 k (ascending_starts l z) (omega arith) b (same k a b ∙ h)
-
--- ---- pairs and rows
-
-pub pair-test : (l : List ℕ) (i : ℕ) → 3 * (i + 1) ≤ length l → 1 ≤ i → {t : Bool} → t ≡ list_lt (pair_at l (3 * (i - 1))) (pair_at l (3 * i))
-    → list_lt (pair_key (take 3 (drop (3 * (i - 1)) l))) (pair_key (take 3 (drop (3 * i) l))) ≡ t
-pair-test l i h k e = ap₂ list_lt (pair_key_lem l (3 * (i - 1)) (omega arith)) (pair_key_lem l (3 * i) (omega arith)) ∙ sym e
-
-pub row-test : (l : List ℕ) (i : ℕ) → 5 * (i + 1) ≤ length l → 1 ≤ i → {t : Bool} → t ≡ list_lt (row_at l (5 * (i - 1))) (row_at l (5 * i))
-    → list_lt (row_key (take 5 (drop (5 * (i - 1)) l))) (row_key (take 5 (drop (5 * i) l))) ≡ t
-row-test l i h k e = ap₂ list_lt (row_key_lem l (5 * (i - 1)) (omega arith)) (row_key_lem l (5 * i) (omega arith)) ∙ sym e

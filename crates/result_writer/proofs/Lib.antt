@@ -1,4 +1,5 @@
 pub mod Turning
+pub mod ListOrder
 pub mod Ascending
 pub mod Spending
 pub mod Placing

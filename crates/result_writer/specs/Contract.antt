@@ -1,22 +1,24 @@
 -- Words of the crate's contracts. Definitions only; assumes nothing.
-use Rattle.std.specs.Prelude.{ℕ, ◌+◌, ◌-◌, ◌*◌, ◌≤◌, cond, List, [], ◌∷◌, leb, length, get_or, Option, None, Some}
+use Rattle.std.specs.Prelude.{ℕ, ◌+◌, ◌-◌, ◌*◌, ◌≤◌, cond, List, ◌++◌, leb, length, take, drop, Option, None, Some}
 use Rattle.definitions.specs.Verdict as verdict
 use Rattle.results.specs.Result.{Result, in_turn}
 use Rattle.refusals.specs.declared.Cause.{Cause}
+use Rattle.refusals.specs.declared.Refusal.{Refusal}
 use Rattle.refusals.specs.Refusals.{number_of}
 use Rattle.result_writer.specs.declared.Answer.{Answer}
+use Rattle.result_writer.specs.declared.RunResult.{RunResult}
 
 -- one step along the labels, with so many numbers started
 abbrev pub turn_of : ℕ → ℕ → ℕ → Option ℕ
 turn_of regions n label = cond (leb label n) (Some n) (cond (in_turn regions n label) (Some (n + 1)) None)
 
--- the key of the pair row that starts at k
-abbrev pub pair_at : List ℕ → ℕ → List ℕ
-pair_at l k = get_or l k 0 ∷ get_or l (k + 1) 0 ∷ get_or l (k + 2) 0 ∷ []
+-- the numbers of an entry as they are compared: behind the others the first n of them. It is `pair_key` for none, and `row_key` for one.
+abbrev pub key_in : ℕ → List ℕ → List ℕ
+key_in n numbers = drop n numbers ++ take n numbers
 
--- the key of the row that starts at k: its number comes last
-abbrev pub row_at : List ℕ → ℕ → List ℕ
-row_at l k = get_or l (k + 1) 0 ∷ get_or l (k + 2) 0 ∷ get_or l (k + 3) 0 ∷ get_or l (k + 4) 0 ∷ get_or l k 0 ∷ []
+-- the numbers of entry i, so many of them
+abbrev pub entry_at : ℕ → List ℕ → ℕ → List ℕ
+entry_at size l i = take size (drop (size * i) l)
 
 -- entry i, each of so many numbers, is there, and one before it
 pub record Neighbours (size : ℕ) (l : List ℕ) (i : ℕ) : Type 0 where
@@ -31,9 +33,17 @@ spent None size = None
 abbrev pub result_in : ℕ → List ℕ → List ℕ → List ℕ → List ℕ → Result
 result_in regions labels tallies pairs rows = record { regions = regions; labels = labels; tallies = tallies; pairs = pairs; rows = rows }
 
+-- what the struct of a run stands for
+abbrev pub result_of : RunResult → Result
+result_of r = result_in r.regions r.labels.now r.tallies.now r.pairs.now r.rows.now
+
 abbrev pub answer_in : Answer → verdict.Answer
 answer_in r = record { number = r.number; value = r.value }
 
 -- a refusal by its number, with place 0
 abbrev pub refused_by : Cause → Answer
 refused_by cause = record { number = number_of cause; value = 0 }
+
+-- the same with its place
+abbrev pub refused_at : Refusal → Answer
+refused_at refusal = record { number = number_of refusal.cause; value = refusal.place }

@@ -3,19 +3,19 @@
 
 #![tactic(auto)]
 
-ghost use Rattle.std.specs.Prelude.{◌≡◌, ◌&&◌, ◌||◌, ◌∷◌, ◌+◌, ◌-◌, ◌*◌, ◌/◌, ◌%◌, ◌≤◌, ◌<◌, leb, ltb, eqb, length};
-ghost use Rattle.definitions.specs.Limits.{tallies_per_span, numbers_per_pair, numbers_per_row};
+ghost use Rattle.std.specs.Prelude.{◌≡◌, ◌&&◌, ◌+◌, ◌-◌, ◌/◌, ◌%◌, ◌≤◌, ◌<◌, leb, eqb, length};
 ghost use Rattle.definitions.specs.Refusals.{unless};
 ghost use Rattle.definitions.specs.Scan.{concat_map};
 ghost use Rattle.definitions.specs.Sort.{list_lt};
 ghost use Rattle.results.specs.Shortest.{shortest, list_bytes};
-ghost use Rattle.results.specs.Result.{turns, labels_fault, ascent_fault, pair_key, row_key, rules_fault};
-ghost use Rattle.results.specs.ResultAnswers.{entries_in, placed, result_bytes, Writes};
-ghost use Rattle.put_shortest.specs.Contract.{Put};
-ghost use Rattle.result_writer.specs.Contract.{turn_of, pair_at, row_at, Neighbours, spent, result_in, answer_in, refused_by};
+ghost use Rattle.results.specs.Result.{turns, labels_fault, ascent_fault, rules_fault};
+ghost use Rattle.results.specs.ResultAnswers.{entries_in, placed, is_finished, result_bytes, Writes};
+ghost use Rattle.byte_writer.specs.Contract.{HasRoom, Appends};
+ghost use Rattle.result_writer.specs.Contract.{turn_of, key_in, entry_at, Neighbours, spent, result_in, result_of, answer_in, refused_by, refused_at};
 
+use byte_writer::Writer;
 use put_shortest::put_shortest;
-use refusals::Cause;
+use refusals::{Cause, Refusal};
 
 // ---- the rules
 
@@ -46,73 +46,33 @@ fn in_turn(regions: u64, labels: &[u64]) -> bool
     started == regions
 }
 
-// One number of a key and what stands behind it in the order.
-pub fn is_before(x: u64, y: u64, behind: bool) -> bool
-    ensures { result ≡ (ltb x y || (eqb x y && behind)) }
+// Entry i, of so many numbers, stands behind the one before it; of an entry the first numbers, so many of them, are compared behind the others.
+fn ascends(numbers: &[u64], size: usize, last: usize, i: usize) -> bool
+    requires { Neighbours size numbers.now i × (last ≤ size) }
+    ensures { result ≡ list_lt (key_in last (entry_at size numbers.now (i - 1))) (key_in last (entry_at size numbers.now i)) }
 {
-    x < y || x == y && behind
+    let at = size * i;
+    let before = at - size;
+    let a = &numbers[before + last..at];
+    let b = &numbers[at + last..at + size];
+    a < b || a == b && numbers[before..before + last] < numbers[at..at + last]
+}
+
+// Entries of so many numbers strictly ascend, by their numbers; of an entry the first ones, so many of them, are compared behind the others.
+fn entries_ascend(numbers: &[u64], size: usize, last: usize) -> bool
+    requires { (1 ≤ size) × (last ≤ size) }
+    ensures { ascent_fault (key_in last) (entries_in size numbers.now) ≡ unless result }
+{
+    (1..numbers.len() / size).all(|i| ascends(numbers, size, last, i))
 }
 
 const PAIR_SIZE: usize = 3;
 
-// Pair row i stands behind the one before it.
-fn pair_ascends(pairs: &[u64], i: usize) -> bool
-    requires { Neighbours numbers_per_pair pairs.now i }
-    ensures { result ≡ list_lt (pair_at pairs.now (numbers_per_pair * (i - 1))) (pair_at pairs.now (numbers_per_pair * i)) }
-{
-    let a = PAIR_SIZE * (i - 1);
-    let b = PAIR_SIZE * i;
-    let last = is_before(pairs[a + 2], pairs[b + 2], false);
-    let middle = is_before(pairs[a + 1], pairs[b + 1], last);
-    is_before(pairs[a], pairs[b], middle)
-}
-
-// Pairs strictly ascend, by their three numbers.
-fn pairs_ascend(pairs: &[u64]) -> bool
-    ensures { ascent_fault pair_key (entries_in numbers_per_pair pairs.now) ≡ unless result }
-{
-    (1..pairs.len() / PAIR_SIZE).all(|i| pair_ascends(pairs, i))
-}
-
 const ROW_SIZE: usize = 5;
 
-// Row i stands behind the one before it: the endpoints are compared first, the number, which stands first in a row, last.
-fn row_ascends(rows: &[u64], i: usize) -> bool
-    requires { Neighbours numbers_per_row rows.now i }
-    ensures { result ≡ list_lt (row_at rows.now (numbers_per_row * (i - 1))) (row_at rows.now (numbers_per_row * i)) }
-{
-    let a = ROW_SIZE * (i - 1);
-    let b = ROW_SIZE * i;
-    let number = is_before(rows[a], rows[b], false);
-    let d = is_before(rows[a + 4], rows[b + 4], number);
-    let c = is_before(rows[a + 3], rows[b + 3], d);
-    let y = is_before(rows[a + 2], rows[b + 2], c);
-    is_before(rows[a + 1], rows[b + 1], y)
-}
-
-// Rows strictly ascend, by endpoints as written and then number.
-fn rows_ascend(rows: &[u64]) -> bool
-    ensures { ascent_fault row_key (entries_in numbers_per_row rows.now) ≡ unless result }
-{
-    (1..rows.len() / ROW_SIZE).all(|i| row_ascends(rows, i))
-}
-
-// Pairs and rows ascend, and the labels are in turn.
-fn keeps_rules(regions: u64, labels: &[u64], tallies: &[u64], pairs: &[u64], rows: &[u64]) -> bool
-    ensures { rules_fault (placed (result_in regions labels.now tallies.now pairs.now rows.now))
-        ≡ unless result }
-{
-    in_turn(regions, labels) && pairs_ascend(pairs) && rows_ascend(rows)
-}
+const LABEL_SIZE: usize = 1;
 
 const TALLIES_SIZE: usize = 2;
-
-// No last entry is unfinished, in lists of these lengths.
-fn is_finished(tallies: usize, pairs: usize, rows: usize) -> bool
-    ensures { result ≡ (eqb (tallies % tallies_per_span) 0 && eqb (pairs % numbers_per_pair) 0 && eqb (rows % numbers_per_row) 0) }
-{
-    tallies % TALLIES_SIZE == 0 && pairs % PAIR_SIZE == 0 && rows % ROW_SIZE == 0
-}
 
 // ---- the room
 
@@ -158,72 +118,84 @@ pub fn spend_list(room: Option<usize>, size: usize, numbers: &[u64]) -> Option<u
     spend_numbers(counted, numbers)
 }
 
-const LABEL_SIZE: usize = 1;
-
-const KIND: u64 = 2;
-
-// A list of so many bytes has room for the sheet.
-fn fits(
-    regions: u64,
-    labels: &[u64],
-    tallies: &[u64],
-    pairs: &[u64],
-    rows: &[u64],
-    room: usize,
-) -> bool
-    ensures { result
-        ≡ leb (length (result_bytes (result_in regions labels.now tallies.now pairs.now rows.now))) room }
-{
-    let a = spend_number(Some(room), KIND);
-    let b = spend_number(a, regions);
-    let c = spend_list(b, LABEL_SIZE, labels);
-    let d = spend_list(c, TALLIES_SIZE, tallies);
-    let e = spend_list(d, PAIR_SIZE, pairs);
-    spend_list(e, ROW_SIZE, rows).is_some()
-}
-
 // ---- writing
 
-// Writes these numbers, and gives the place behind them.
-fn put_numbers(out: &mut [u8], at: usize, numbers: &[u64]) -> usize
-    requires { at + length (concat_map shortest numbers.now) ≤ length out.old }
-    ensures { Put out.old at (concat_map shortest numbers.now) out.new result }
+// Writes these numbers.
+fn put_numbers(w: &mut Writer, numbers: &[u64])
+    requires { HasRoom w.old (length (concat_map shortest numbers.now)) }
+    ensures { Appends w.old (concat_map shortest numbers.now) w.new }
 {
-    let mut next = at;
     for &n in numbers {
-        next = put_shortest(&mut *out, next, n);
+        put_shortest(w, n);
     }
-    next
 }
 
 // Writes a count of entries, each of `size` numbers, and the numbers.
-pub fn put_list(out: &mut [u8], at: usize, size: usize, numbers: &[u64]) -> usize
-    requires { (1 ≤ size) × (at + length (list_bytes size numbers.now) ≤ length out.old) }
-    ensures { Put out.old at (list_bytes size numbers.now) out.new result }
+pub fn put_list(w: &mut Writer, size: usize, numbers: &[u64])
+    requires { (1 ≤ size) × HasRoom w.old (length (list_bytes size numbers.now)) }
+    ensures { Appends w.old (list_bytes size numbers.now) w.new }
 {
-    let next = put_shortest(&mut *out, at, (numbers.len() / size) as u64);
-    put_numbers(&mut *out, next, numbers)
+    put_shortest(w, (numbers.len() / size) as u64);
+    put_numbers(w, numbers);
 }
 
-// Writes the sheet, and gives how many bytes it has.
-fn put_result(
+// ---- what a run found
+
+const KIND: u64 = 2;
+
+// How many regions there are, the labels of the cells, the tallies of the spans, the pairs and the rows.
+#[derive(Clone, Copy)]
+struct RunResult<'a> {
     regions: u64,
-    labels: &[u64],
-    tallies: &[u64],
-    pairs: &[u64],
-    rows: &[u64],
-    out: &mut [u8],
-) -> usize
-    requires { length (result_bytes (result_in regions labels.now tallies.now pairs.now rows.now)) ≤ length out.old }
-    ensures { Put out.old 0
-        (result_bytes (result_in regions labels.now tallies.now pairs.now rows.now)) out.new result }
-{
-    let a = put_shortest(&mut *out, 0, KIND);
-    let b = put_shortest(&mut *out, a, regions);
-    let c = put_list(&mut *out, b, LABEL_SIZE, labels);
-    let d = put_list(&mut *out, c, TALLIES_SIZE, tallies);
-    let e = put_list(&mut *out, d, PAIR_SIZE, pairs);
-    put_list(&mut *out, e, ROW_SIZE, rows)
+    labels: &'a [u64],
+    tallies: &'a [u64],
+    pairs: &'a [u64],
+    rows: &'a [u64],
+}
+
+impl RunResult<'_> {
+    // Pairs and rows ascend, and the labels are in turn. A row has its number first, and is compared by its endpoints before that.
+    fn keeps_rules(self) -> bool
+        ensures { rules_fault (placed (result_of self.entry)) ≡ unless result }
+    {
+        in_turn(self.regions, self.labels)
+            && entries_ascend(self.pairs, PAIR_SIZE, 0)
+            && entries_ascend(self.rows, ROW_SIZE, 1)
+    }
+
+    // No last entry is unfinished.
+    fn is_finished(self) -> bool
+        ensures { result ≡ is_finished (result_of self.entry) }
+    {
+        self.tallies.len() % TALLIES_SIZE == 0
+            && self.pairs.len() % PAIR_SIZE == 0
+            && self.rows.len() % ROW_SIZE == 0
+    }
+
+    // A list of so many bytes has room for the sheet.
+    fn fits(self, room: usize) -> bool
+        ensures { result ≡ leb (length (result_bytes (result_of self.entry))) room }
+    {
+        let a = spend_number(Some(room), KIND);
+        let b = spend_number(a, self.regions);
+        let c = spend_list(b, LABEL_SIZE, self.labels);
+        let d = spend_list(c, TALLIES_SIZE, self.tallies);
+        let e = spend_list(d, PAIR_SIZE, self.pairs);
+        spend_list(e, ROW_SIZE, self.rows).is_some()
+    }
+
+    // Writes the sheet.
+    fn put(self, w: &mut Writer)
+        requires { HasRoom w.old (length (result_bytes (result_of self))) }
+        ensures { Appends w.old (result_bytes (result_of self.entry)) w.new }
+    {
+        put_shortest(w, KIND);
+        put_shortest(w, self.regions);
+        put_list(w, LABEL_SIZE, self.labels);
+        put_list(w, TALLIES_SIZE, self.tallies);
+        put_list(w, PAIR_SIZE, self.pairs);
+        put_list(w, ROW_SIZE, self.rows);
+    }
 }
 
 // Number 0 and how many bytes were written, or a refusal's number and place.
@@ -234,12 +206,25 @@ pub struct Answer {
     pub value: u64,
 }
 
-pub fn refused(cause: Cause) -> Answer
-    ensures { result ≡ refused_by cause }
-{
-    Answer {
-        number: cause.number(),
-        value: 0,
+impl From<Cause> for Answer {
+    ghost from_gives = { λ cause answer. answer ≡ refused_by cause };
+
+    fn from(cause: Cause) -> Answer {
+        Answer {
+            number: cause.number(),
+            value: 0,
+        }
+    }
+}
+
+impl From<Refusal> for Answer {
+    ghost from_gives = { λ refusal answer. answer ≡ refused_at refusal };
+
+    fn from(refusal: Refusal) -> Answer {
+        Answer {
+            number: refusal.cause.number(),
+            value: refusal.place as u64,
+        }
     }
 }
 
@@ -255,18 +240,26 @@ pub fn result_writer_write_result(
     ensures { Writes (result_in regions labels.now tallies.now pairs.now rows.now)
         out.old (answer_in result) out.new }
 {
-    if !keeps_rules(regions, labels, tallies, pairs, rows) {
-        return refused(Cause::ResultSheet);
+    let found = RunResult {
+        regions,
+        labels,
+        tallies,
+        pairs,
+        rows,
+    };
+    if !found.keeps_rules() {
+        return Answer::from(Cause::ResultSheet);
     }
-    if !is_finished(tallies.len(), pairs.len(), rows.len()) {
-        return refused(Cause::Entries);
+    if !found.is_finished() {
+        return Answer::from(Cause::Entries);
     }
-    if !fits(regions, labels, tallies, pairs, rows, out.len()) {
-        return refused(Cause::Room);
+    if !found.fits(out.len()) {
+        return Answer::from(Cause::Room);
     }
-    let size = put_result(regions, labels, tallies, pairs, rows, out);
+    let mut writer = Writer { out, at: 0 };
+    found.put(&mut writer);
     Answer {
         number: 0,
-        value: size as u64,
+        value: writer.at as u64,
     }
 }

@@ -1,4 +1,3 @@
-pub mod Comparing
-pub mod Inserting
 pub mod Keys
-pub mod Collecting
+pub mod Sorting
+pub mod Writing

@@ -41,6 +41,7 @@ pub fn number(bytes: &[u8], at: usize) -> Result<Found<u64>, Refusal>
 {
     let mut value: u64 = 0;
     let mut scale: u64 = 1;
+    // Kept: the number is put together while its end is looked for, so that a chain would carry both and end early on every path.
     for next in at..bytes.len() {
         let byte = u64::from(bytes[next]);
         if ill_formed(next - at, byte) {
@@ -184,6 +185,7 @@ pub fn fill_numbers(bytes: &[u8], at: usize, count: usize, out: &mut [u64])
 }
 
 // Stores `count` cells that were judged before.
+// Kept: alike `fill_rest`, since a bound of `TryFrom` says nothing of the value that a contract speaks of.
 fn fill_cells(bytes: &[u8], at: usize, count: usize, out: &mut [u8])
     requires { (Held cell bytes.now at count) × (count ≤ length out.old) }
     ensures { out.new ≡ overwrite (values_at cell bytes.now at count) out.old }
@@ -486,6 +488,7 @@ fn fill_spans(
 }
 
 // Fills the lists with what was judged before.
+// Kept: the four lists stand by themselves, as the C interface lends them: only here would a struct of them be taken, and in its contract each list stands by itself too.
 fn fill(
     bytes: &[u8],
     kind: u64,

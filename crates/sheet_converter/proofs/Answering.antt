@@ -16,7 +16,7 @@ use Rattle.definitions.specs.Sheet.{endpoints_of, Sheet, well_formed, refused, r
 use Rattle.laws.specs.ListLaws.Overwritten.{sets_overwrite}
 use Rattle.sheet.specs.declared.Plan.{Plan}
 use Rattle.sheet.specs.Parts.{sheet_of}
-use Rattle.put_shortest.specs.Contract.{Put}
+use Rattle.byte_writer.specs.Contract.{Put}
 use Rattle.map_sheets.specs.SheetBytes.{sheet_bytes}
 use Rattle.map_sheets.specs.Writing.{written_at_exit}
 use Rattle.laws.specs.TableLaws.AcceptedCalls.{Numbered, refusal-numbered, or_numbered, spans-numbered, number-above}

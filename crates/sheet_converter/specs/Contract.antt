@@ -52,7 +52,3 @@ cut_out front back bytes = shortest 3 ++ take (front - 1) (drop 1 bytes) ++ drop
 pub record ConvertsPlan (bytes : List ℕ) (plan : Plan) (lent : List ℕ) (answer : Answer) (lent' : List ℕ) : Type 0 where
   pub said : answer ≡ convert_answer (well_formed (sheet_of bytes plan)) (length lent)
   pub left : lent' ≡ written_at_exit answer.number (sheet_bytes 3 (sheet_of bytes plan)) lent
-
--- a refusal by its number, with its place
-abbrev pub refused_at : code.Refusal → writer.Answer
-refused_at refusal = record { number = number_of refusal.cause; value = refusal.place }

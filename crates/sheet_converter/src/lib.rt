@@ -11,11 +11,12 @@ ghost use Rattle.definitions.specs.Sheet.{cell, endpoints_of, plain_cell_limit};
 ghost use Rattle.refusals.specs.Refusals.{refusal_in};
 ghost use Rattle.sheet.specs.Numbers.{Held, values_at};
 ghost use Rattle.sheet.specs.Parts.{cells_in, sheet_of, SheetHeld};
-ghost use Rattle.put_shortest.specs.Contract.{Put};
+ghost use Rattle.byte_writer.specs.Contract.{Put};
 ghost use Rattle.result_writer.specs.Contract.{answer_in};
 ghost use Rattle.map_sheets.specs.Converting.{same_numbers, Converts};
-ghost use Rattle.sheet_converter.specs.Contract.{is_other, lists_refusal, map_refusal, refusal_for, Cut, cut_out, ConvertsPlan, refused_at};
+ghost use Rattle.sheet_converter.specs.Contract.{is_other, lists_refusal, map_refusal, refusal_for, Cut, cut_out, ConvertsPlan};
 
+use byte_writer::Writer;
 use checks::anchors::anchors_fault;
 use checks::boundaries::boundaries_fault;
 use checks::cells::elevation_fits;
@@ -24,7 +25,7 @@ use checks::sizes::pass_fits;
 use checks::spans::spans_fault;
 use put_shortest::put_shortest;
 use refusals::{Cause, Refusal, ensure, no_fault};
-use result_writer::{Answer, refused};
+use result_writer::Answer;
 use sheet::{
     CELL_MOST, PLAIN_CELL_LIMIT, Plan, fill_endpoints, fill_numbers, item, judge_sheet, number_at,
 };
@@ -65,6 +66,7 @@ fn cells_fault(bytes: &[u8], at: usize, count: usize) -> Option<usize>
     ensures { result ≡ elevations_fault (values_at cell bytes.now at count) }
 {
     let mut next = at;
+    // Kept: where a cell stands shows only once the one before it is read, so that a chain would carry the place beside the count.
     for i in 0..count {
         let Ok(read) = item(bytes, next, CELL_MOST) else {
             return None;
@@ -147,35 +149,18 @@ fn plan_check(bytes: &[u8], plan: Plan) -> Result<(), Refusal>
 
 // ---- writing
 
-// Writes these bytes, and gives the place behind them.
-fn put_bytes(out: &mut [u8], at: usize, bytes: &[u8]) -> usize
-    requires { at + length bytes.now ≤ length out.old }
-    ensures { Put out.old at bytes.now out.new result }
-{
-    let end = at + bytes.len();
-    out[at..end].copy_from_slice(bytes);
-    end
-}
-
 const KIND: u64 = 3;
 
-// Writes the sheet with kind 3 in front, and without what stands between `front` and `back`.
+// Writes the sheet with kind 3 in front, and without what stands between `front` and `back`, and gives how many bytes it has.
 fn put_converted(bytes: &[u8], front: usize, back: usize, out: &mut [u8]) -> usize
     requires { Cut front back bytes.now (length out.old) }
     ensures { Put out.old 0 (cut_out front back bytes.now) out.new result }
 {
-    let a = put_shortest(&mut *out, 0, KIND);
-    let b = put_bytes(&mut *out, a, &bytes[1..front]);
-    put_bytes(&mut *out, b, &bytes[back..])
-}
-
-fn refused_at(refusal: Refusal) -> Answer
-    ensures { result ≡ refused_at refusal }
-{
-    Answer {
-        number: refusal.cause.number(),
-        value: refusal.place as u64,
-    }
+    let mut writer = Writer { out, at: 0 };
+    put_shortest(&mut writer, KIND);
+    writer.put(&bytes[1..front]);
+    writer.put(&bytes[back..]);
+    writer.at
 }
 
 // Converts a sheet that was judged before.
@@ -185,13 +170,13 @@ fn convert_plan(bytes: &[u8], plan: Plan, out: &mut [u8]) -> Answer
     ensures { ConvertsPlan bytes.now plan out.old (answer_in result) out.new }
 {
     if let Err(refusal) = plan_check(bytes, plan) {
-        return refused_at(refusal);
+        return Answer::from(refusal);
     }
     let parts = plan.parts;
     let front = parts.front;
     let back = parts.back;
     if out.len() < front + (bytes.len() - back) {
-        return refused(Cause::Room);
+        return Answer::from(Cause::Room);
     }
     let size = put_converted(bytes, front, back, out);
     Answer {
@@ -205,10 +190,10 @@ pub fn sheet_converter_convert_sheet(bytes: &[u8], out: &mut [u8]) -> Answer
     ensures { Converts bytes.now out.old (answer_in result) out.new }
 {
     if is_other_kind(bytes) {
-        return refused(Cause::Sheet);
+        return Answer::from(Cause::Sheet);
     }
     match judge_sheet(bytes, PLAIN_CELL_LIMIT) {
         Ok(plan) => convert_plan(bytes, plan, out),
-        Err(refusal) => refused_at(refusal),
+        Err(refusal) => Answer::from(refusal),
     }
 }

@@ -14,7 +14,7 @@ use Rattle.definitions.specs.Sheet.{Sheet}
 use Rattle.laws.specs.ListLaws.Overwritten.{sets_overwrite}
 use Rattle.map_sheets.specs.SheetBytes.{sheet_bytes}
 use Rattle.map_sheets.specs.Writing.{write_verdict, Writes}
-use Rattle.put_shortest.specs.Contract.{Put}
+use Rattle.byte_writer.specs.Contract.{Put}
 
 abbrev answer : ℕ → ℕ → Answer
 answer number value = record { number = number; value = value }

@@ -8,11 +8,12 @@ use Rattle.definitions.specs.Scan.{concat_map}
 use Rattle.results.specs.Shortest.{shortest, list_bytes}
 use Rattle.map_sheets.specs.SheetBytes.{sheet_bytes}
 use Rattle.map_sheets.specs.Writing.{stating}
-use Rattle.put_shortest.specs.Contract.{Put}
+use Rattle.byte_writer.specs.declared.Writer.{Writer}
+use Rattle.byte_writer.specs.Contract.{Appends}
+use Rattle.byte_writer.specs.Chains.{appends_then}
 use Rattle.result_writer.specs.Contract.{spent}
 use Rattle.std.specs.Prelude.{Option}
 use Rattle.result_writer.proofs.Spending.{spent-then}
-use Rattle.result_writer.proofs.Placing.{put_then}
 use Rattle.sheet_writer.specs.Contract.{opening}
 
 -- ---- the opening
@@ -25,10 +26,10 @@ opening-length pass width height = four (shortest 3) (shortest pass) (shortest w
     four : (a b c d : List ℕ) → length (a ++ b ++ c ++ d) ≡ length a + length b + length c + length d
     four a b c d = simp length-append refl
 
-pub opening-put : (pass width height : ℕ) {o a b c d : List ℕ} {i j k l : ℕ} → Put o 0 (shortest 3) a i → Put a i (shortest pass) b j
-    → Put b j (shortest width) c k → Put c k (shortest height) d l → Put o 0 (opening pass width height) d l
+pub opening-put : (pass width height : ℕ) {o a b c d : Writer} → Appends o (shortest 3) a → Appends a (shortest pass) b
+    → Appends b (shortest width) c → Appends c (shortest height) d → Appends o (opening pass width height) d
 unfolding opening
-opening-put pass width height p q s t = put_then (put_then (put_then p q) s) t
+opening-put pass width height p q s t = appends_then (appends_then (appends_then p q) s) t
 
 -- ---- the sheet, which holds no spans
 
@@ -48,12 +49,12 @@ module _ (pass width height : ℕ) (cells boundaries anchors : List ℕ) where
       four : (a b c d : List ℕ) → length (a ++ b ++ c ++ d) ≡ length a + length b + length c + length d
       four a b c d = simp length-append refl
 
-  pub sheet-put : {o a b c d : List ℕ} {i j k l : ℕ} → Put o 0 (opening pass width height) a i → Put a i (concat_map shortest cells) b j
-      → Put b j (list_bytes numbers_per_boundary boundaries) c k → Put c k (list_bytes numbers_per_anchor anchors) d l
-      → Put o 0 (sheet_bytes 3 (stating pass width height cells boundaries anchors)) d l
+  pub sheet-put : {o a b c d : Writer} → Appends o (opening pass width height) a → Appends a (concat_map shortest cells) b
+      → Appends b (list_bytes numbers_per_boundary boundaries) c → Appends c (list_bytes numbers_per_anchor anchors) d
+      → Appends o (sheet_bytes 3 (stating pass width height cells boundaries anchors)) d
   unfolding parts
-  sheet-put {o} {d = d} {l = l} p q s t =
-      let all : Put o 0 parts d l = put_then (put_then (put_then p q) s) t in
+  sheet-put {o} {d = d} p q s t =
+      let all : Appends o parts d = appends_then (appends_then (appends_then p q) s) t in
       rw in_parts all
 
   pub sheet-spent : (room : Option ℕ) {a b c d e f g : Option ℕ} → a ≡ spent room (length (shortest 3)) → b ≡ spent a (length (shortest pass))

@@ -3,21 +3,22 @@
 
 #![tactic(auto)]
 
-ghost use Rattle.std.specs.Prelude.{◌≡◌, ◌&&◌, ◌+◌, ◌/◌, ◌%◌, ◌≤◌, leb, eqb, length};
+ghost use Rattle.std.specs.Prelude.{◌≡◌, ◌&&◌, ◌/◌, ◌%◌, leb, eqb, length};
 ghost use Rattle.definitions.specs.Limits.{max_entries, numbers_per_boundary, numbers_per_anchor};
 ghost use Rattle.definitions.specs.Scan.{concat_map};
 ghost use Rattle.results.specs.Shortest.{shortest};
 ghost use Rattle.map_sheets.specs.SheetBytes.{sheet_bytes};
 ghost use Rattle.map_sheets.specs.Writing.{stating, Writes};
-ghost use Rattle.put_shortest.specs.Contract.{Put};
+ghost use Rattle.byte_writer.specs.Contract.{HasRoom, Appends};
 ghost use Rattle.result_writer.specs.Contract.{spent, answer_in};
-ghost use Rattle.sheet_writer.specs.Contract.{opening};
+ghost use Rattle.sheet_writer.specs.Contract.{opening, stated};
 
+use byte_writer::Writer;
 use checks::limits::{NUMBERS_PER_ANCHOR, NUMBERS_PER_BOUNDARY};
 use checks::sizes::{cells_fit, is_whole, sides_fit};
 use put_shortest::put_shortest;
 use refusals::Cause;
-use result_writer::{Answer, group_count, put_list, refused, spend_list, spend_number};
+use result_writer::{Answer, group_count, put_list, spend_list, spend_number};
 
 // No last boundary or anchor is unfinished, and there are at most 256 of each, in lists of these lengths.
 fn are_whole(boundaries: usize, anchors: usize) -> bool
@@ -31,6 +32,7 @@ fn are_whole(boundaries: usize, anchors: usize) -> bool
 // ---- the room
 
 // Takes the size of each of these cells.
+// Kept: alike `spend_numbers` of result_writer, since a bound of `Into` says nothing of the value that a contract speaks of.
 fn spend_cells(room: Option<usize>, cells: &[u8]) -> Option<usize>
     ensures { result ≡ spent room (length (concat_map shortest cells.now)) }
 {
@@ -41,73 +43,67 @@ fn spend_cells(room: Option<usize>, cells: &[u8]) -> Option<usize>
     Some(left)
 }
 
-const KIND: u64 = 3;
-
-// A list of so many bytes has room for the sheet.
-fn fits(
-    pass: u64,
-    width: u64,
-    height: u64,
-    cells: &[u8],
-    boundaries: &[u64],
-    anchors: &[u64],
-    room: usize,
-) -> bool
-    ensures { result
-        ≡ leb (length (sheet_bytes 3 (stating pass width height cells.now boundaries.now anchors.now))) room }
-{
-    let a = spend_number(Some(room), KIND);
-    let b = spend_number(a, pass);
-    let c = spend_number(b, width);
-    let d = spend_number(c, height);
-    let e = spend_cells(d, cells);
-    let f = spend_list(e, NUMBERS_PER_BOUNDARY, boundaries);
-    spend_list(f, NUMBERS_PER_ANCHOR, anchors).is_some()
-}
-
 // ---- writing
 
-// Writes these cells, and gives the place behind them.
-fn put_cells(out: &mut [u8], at: usize, cells: &[u8]) -> usize
-    requires { at + length (concat_map shortest cells.now) ≤ length out.old }
-    ensures { Put out.old at (concat_map shortest cells.now) out.new result }
+// Writes these cells.
+// Kept: alike `put_numbers` of result_writer, since a bound of `Into` says nothing of the value that a contract speaks of.
+fn put_cells(w: &mut Writer, cells: &[u8])
+    requires { HasRoom w.old (length (concat_map shortest cells.now)) }
+    ensures { Appends w.old (concat_map shortest cells.now) w.new }
 {
-    let mut next = at;
     for &cell in cells {
-        next = put_shortest(&mut *out, next, u64::from(cell));
+        put_shortest(w, u64::from(cell));
     }
-    next
 }
 
-// Writes the kind, the pass and both sides.
-fn put_opening(pass: u64, width: u64, height: u64, out: &mut [u8]) -> usize
-    requires { length (opening pass width height) ≤ length out.old }
-    ensures { Put out.old 0 (opening pass width height) out.new result }
-{
-    let a = put_shortest(&mut *out, 0, KIND);
-    let b = put_shortest(&mut *out, a, pass);
-    let c = put_shortest(&mut *out, b, width);
-    put_shortest(&mut *out, c, height)
-}
+const KIND: u64 = 3;
 
-// Writes the sheet, and gives how many bytes it has.
-fn put_sheet(
+// What a sheet states: the pass, both sides, the cells, and the numbers of the boundaries and of the anchors.
+#[derive(Clone, Copy)]
+struct Map<'a> {
     pass: u64,
     width: u64,
     height: u64,
-    cells: &[u8],
-    boundaries: &[u64],
-    anchors: &[u64],
-    out: &mut [u8],
-) -> usize
-    requires { length (sheet_bytes 3 (stating pass width height cells.now boundaries.now anchors.now)) ≤ length out.old }
-    ensures { Put out.old 0
-        (sheet_bytes 3 (stating pass width height cells.now boundaries.now anchors.now)) out.new result }
-{
-    let a = put_opening(pass, width, height, &mut *out);
-    let b = put_cells(&mut *out, a, cells);
-    let c = put_list(&mut *out, b, NUMBERS_PER_BOUNDARY, boundaries);
-    put_list(&mut *out, c, NUMBERS_PER_ANCHOR, anchors)
+    cells: &'a [u8],
+    boundaries: &'a [u64],
+    anchors: &'a [u64],
+}
+
+impl Map<'_> {
+    // A list of so many bytes has room for the sheet.
+    fn fits(self, room: usize) -> bool
+        ensures { result ≡ leb (length (sheet_bytes 3 (stated self.entry))) room }
+    {
+        let a = spend_number(Some(room), KIND);
+        let b = spend_number(a, self.pass);
+        let c = spend_number(b, self.width);
+        let d = spend_number(c, self.height);
+        let e = spend_cells(d, self.cells);
+        let f = spend_list(e, NUMBERS_PER_BOUNDARY, self.boundaries);
+        spend_list(f, NUMBERS_PER_ANCHOR, self.anchors).is_some()
+    }
+
+    // Writes the kind, the pass and both sides.
+    fn put_opening(self, w: &mut Writer)
+        requires { HasRoom w.old (length (opening self.pass self.width self.height)) }
+        ensures { Appends w.old (opening self.entry.pass self.entry.width self.entry.height) w.new }
+    {
+        put_shortest(w, KIND);
+        put_shortest(w, self.pass);
+        put_shortest(w, self.width);
+        put_shortest(w, self.height);
+    }
+
+    // Writes the sheet.
+    fn put(self, w: &mut Writer)
+        requires { HasRoom w.old (length (sheet_bytes 3 (stated self))) }
+        ensures { Appends w.old (sheet_bytes 3 (stated self.entry)) w.new }
+    {
+        self.put_opening(w);
+        put_cells(w, self.cells);
+        put_list(w, NUMBERS_PER_BOUNDARY, self.boundaries);
+        put_list(w, NUMBERS_PER_ANCHOR, self.anchors);
+    }
 }
 
 // Writes a map as a sheet of kind 3. For other languages too: include/jenwyllt.h declares it as jenwyllt_write_sheet.
@@ -123,21 +119,30 @@ pub fn sheet_writer_write_sheet(
     ensures { Writes (stating pass width height cells.now boundaries.now anchors.now)
         out.old (answer_in result) out.new }
 {
+    let map = Map {
+        pass,
+        width,
+        height,
+        cells,
+        boundaries,
+        anchors,
+    };
     if !sides_fit(width, height) {
-        return refused(Cause::Sides);
+        return Answer::from(Cause::Sides);
     }
     if !cells_fit(width, height, cells) {
-        return refused(Cause::Cells);
+        return Answer::from(Cause::Cells);
     }
     if !are_whole(boundaries.len(), anchors.len()) {
-        return refused(Cause::Entries);
+        return Answer::from(Cause::Entries);
     }
-    if !fits(pass, width, height, cells, boundaries, anchors, out.len()) {
-        return refused(Cause::Room);
+    if !map.fits(out.len()) {
+        return Answer::from(Cause::Room);
     }
-    let size = put_sheet(pass, width, height, cells, boundaries, anchors, out);
+    let mut writer = Writer { out, at: 0 };
+    map.put(&mut writer);
     Answer {
         number: 0,
-        value: size as u64,
+        value: writer.at as u64,
     }
 }

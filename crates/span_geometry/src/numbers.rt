@@ -1,4 +1,4 @@
-// Operations of Rust's numbers that Rattle lacks, and tests of signed numbers.
+// Differences, quotients and tests of signed numbers.
 ghost use Rattle.std.specs.Prelude.{◌≡◌, ◌-◌, ◌≤◌, ◌<◌};
 ghost use Rattle.std.specs.Int.Signed.{non_neg, shr_z};
 ghost use Rattle.definitions.specs.Spans.{diff, distance_between, is_zero, strictly_opposite};
@@ -30,16 +30,10 @@ pub fn strictly_opposite(left: i64, right: i64) -> bool
     ((left < 0) & (right > 0)) | ((left > 0) & (right < 0))
 }
 
-// The quotient by a positive number, rounded down. Rattle's / rounds toward zero: too high by one where something negative remains.
+// The quotient by a positive number, rounded down.
 pub fn div_euclid(n: i64, d: u64) -> i64
     requires { (0 < d) × (d ≤ max_pixel) }
     ensures { result ≡ shr_z n d }
 {
-    let divisor = d as i64;
-    let quotient = n / divisor;
-    if n % divisor < 0 {
-        quotient - 1
-    } else {
-        quotient
-    }
+    n.div_euclid(d as i64)
 }

@@ -27,8 +27,3 @@ pub fn read_full<R: Read>(input: &mut R, list: &mut [u8]) -> io::Result<usize>
 pub fn write_bytes<W: Write>(output: &mut W, bytes: &[u8]) -> io::Result<()> {
     output.write_all(bytes)
 }
-
-// Writes a number in decimal.
-pub fn write_decimal<W: Write>(output: &mut W, n: u64) -> io::Result<()> {
-    write!(output, "{n}")
-}

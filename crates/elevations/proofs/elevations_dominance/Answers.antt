@@ -9,4 +9,4 @@ pub dominance_of-requires : goal.dominance_of-requires
 dominance_of-requires c = each_below (search rules) (search rules) (search rules) (search rules)
 
 pub returns : goal.returns
-returns c = c.answer.ensures ∙ ap answer_of c.dominance_of.ensures
+returns c = c.from.ensures ∙ ap answer_of c.dominance_of.ensures

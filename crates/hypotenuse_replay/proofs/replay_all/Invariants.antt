@@ -5,7 +5,7 @@ use lib.ListN.{length}
 use Rattle.hypotenuse_replay.proofs.replay_all.Given as goal
 
 abbrev pub invariant-loop : goal.invariant-loop
-invariant-loop g l = (length l.buffer ≡ length l.initial.buffer) × (l.turn.held ≤ length l.buffer) × (l.turn.tally.answers ≤ l.turn.tally.lines) × (l.turn.tally.lines ≤ 65536 * l.counter) × (l.counter ≤ 1048576)
+invariant-loop g l = (length l.buffer ≡ length l.initial.buffer) × (l.turn.held ≤ length l.buffer) × (l.turn.tally.lines ≤ 65536 * l.counter) × (l.counter ≤ 1048576)
 
 abbrev pub decreases-loop : goal.decreases-loop
 decreases-loop g l = 1048576 - l.counter

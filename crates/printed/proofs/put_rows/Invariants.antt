@@ -5,7 +5,7 @@ use Rattle.printed.proofs.Listing.{Listing}
 use Rattle.printed.proofs.put_rows.Given as goal
 
 abbrev pub invariant-loop-k : goal.invariant-loop-k
-invariant-loop-k l = Listing l.initial.out l.at l.output l.kept l.out l.next l.k
+invariant-loop-k l = Listing l.initial.w l.output l.kept l.w l.k
 
 abbrev pub decreases-loop-k : goal.decreases-loop-k
 decreases-loop-k l = l.kept - l.k

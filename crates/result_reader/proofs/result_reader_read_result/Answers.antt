@@ -13,13 +13,13 @@ fill-requires c =
 pub returns-then-fits : goal.returns-then-fits
 returns-then-fits c =
     let each = c.fill.ensures in
-    answered-read c.in-Ok.ensures _ _ _ _ (sym c.fits.ensures ∙ c.if-fits.true) c.opened.ensures
+    answered-read c.in-Ok.ensures _ _ _ _ (sym c.fits.ensures ∙ c.if-fits.true) c.from.ensures
     each.labels each.tallies each.pairs each.rows
 
 pub returns-else-fits : goal.returns-else-fits
 returns-else-fits c =
-    answered-short c.in-Ok.ensures _ _ _ _ (sym c.fits.ensures ∙ c.if-fits.false) c.refused.ensures
+    answered-short c.in-Ok.ensures _ _ _ _ (sym c.fits.ensures ∙ c.if-fits.false) c.from-else-fits.ensures
 
 pub returns-in-Err : goal.returns-in-Err
 returns-in-Err c =
-    answered-refused _ _ _ _ _ _ c.in-Err.ensures c.refused-in-Err.ensures
+    answered-refused _ _ _ _ _ _ c.in-Err.ensures c.from-in-Err.ensures

@@ -1,31 +1,31 @@
 -- `sheet_converter::put_converted` meets its contract: kind 3, what stands before the spans, and what stands behind them. Assumes nothing.
-use native.Mathlib.Omega.{arith}
+use Rattle.std.proofs.Common.{rules, arith}
 use Rattle.results.specs.Shortest.{shortest_within, shortest}
-use Rattle.result_writer.proofs.Placing.{put_then, put-long}
+use Rattle.byte_writer.specs.Chains.{put-long, appends_then, put_left}
 use Rattle.sheet_converter.specs.Contract.{cut_out}
 use Rattle.sheet_converter.proofs.Copying.{put_whole, front_long, back_long}
 use Rattle.sheet_converter.proofs.put_converted.Goals as goal
 
-pub put_shortest-a-requires : goal.put_shortest-a-requires
+pub put_shortest-requires : goal.put_shortest-requires
 unfolding shortest shortest_within
-put_shortest-a-requires c =
+put_shortest-requires c =
     omega (arith, c.requires.begun, c.requires.fits)
 
-pub slice_bounds-put_bytes-count : goal.slice_bounds-put_bytes-count
-slice_bounds-put_bytes-count c =
+pub slice_bounds-put-count : goal.slice_bounds-put-count
+slice_bounds-put-count c =
     omega (arith, c.requires.begun)
 
-pub slice_bounds-put_bytes-start : goal.slice_bounds-put_bytes-start
-slice_bounds-put_bytes-start c =
+pub slice_bounds-put-start : goal.slice_bounds-put-start
+slice_bounds-put-start c =
     omega (arith, c.requires.begun)
 
-pub slice_bounds-put_bytes-end : goal.slice_bounds-put_bytes-end
-slice_bounds-put_bytes-end c =
+pub slice_bounds-put-end : goal.slice_bounds-put-end
+slice_bounds-put-end c =
     omega (arith, c.requires.ordered, c.requires.inside)
 
-pub put_bytes-b-requires : goal.put_bytes-b-requires
+pub put-requires : goal.put-requires
 unfolding shortest shortest_within
-put_bytes-b-requires c =
+put-requires c =
     omega (
       arith,
       c.requires.begun,
@@ -33,25 +33,25 @@ put_bytes-b-requires c =
       c.requires.inside,
       c.requires.fits,
       front_long c.args.bytes.now c.args.front c.requires.begun (omega (arith, c.requires.ordered, c.requires.inside)),
-      c.put_shortest-a.ensures.next_is,
-      put-long c.put_shortest-a.ensures,
+      c.put_shortest.ensures.put.next_is,
+      put-long c.put_shortest.ensures.put,
     )
 
-pub slice_bounds-put_bytes-count-2 : goal.slice_bounds-put_bytes-count-2
-slice_bounds-put_bytes-count-2 c =
+pub slice_bounds-put-count-2 : goal.slice_bounds-put-count-2
+slice_bounds-put-count-2 c =
     omega (arith, c.requires.inside)
 
-pub slice_bounds-put_bytes-start-2 : goal.slice_bounds-put_bytes-start-2
-slice_bounds-put_bytes-start-2 c =
+pub slice_bounds-put-start-2 : goal.slice_bounds-put-start-2
+slice_bounds-put-start-2 c =
     omega (arith, c.requires.inside)
 
-pub slice_bounds-put_bytes-end-2 : goal.slice_bounds-put_bytes-end-2
-slice_bounds-put_bytes-end-2 c =
+pub slice_bounds-put-end-2 : goal.slice_bounds-put-end-2
+slice_bounds-put-end-2 c =
     omega (arith, c.requires.inside)
 
-pub put_bytes-requires : goal.put_bytes-requires
+pub put-requires-2 : goal.put-requires-2
 unfolding shortest shortest_within
-put_bytes-requires c =
+put-requires-2 c =
     omega (
       arith,
       c.requires.begun,
@@ -60,14 +60,14 @@ put_bytes-requires c =
       c.requires.fits,
       front_long c.args.bytes.now c.args.front c.requires.begun (omega (arith, c.requires.ordered, c.requires.inside)),
       back_long c.args.bytes.now c.args.back,
-      c.put_shortest-a.ensures.next_is,
-      put-long c.put_shortest-a.ensures,
-      c.put_bytes-b.ensures.next_is,
-      put-long c.put_bytes-b.ensures,
+      c.put_shortest.ensures.put.next_is,
+      put-long c.put_shortest.ensures.put,
+      c.put.ensures.put.next_is,
+      put-long c.put.ensures.put,
     )
 
 pub returns : goal.returns
 unfolding cut_out
 returns c =
     let bytes = c.args.bytes.now in
-    put_then (put_then c.put_shortest-a.ensures c.put_bytes-b.ensures) (put_whole bytes c.args.back c.put_bytes.ensures)
+    put_left (appends_then (appends_then c.put_shortest.ensures c.put.ensures) (put_whole bytes c.args.back c.put-2.ensures)) (search rules)

@@ -6,7 +6,7 @@ use Rattle.sheet_converter.proofs.sheet_converter_convert_sheet.Goals as goal
 
 pub returns-then-is_other_kind : goal.returns-then-is_other_kind
 returns-then-is_other_kind c =
-    rw c.refused.ensures (converts_other c.args.bytes.now c.args.out.now (sym c.is_other_kind.ensures ∙ c.if-is_other_kind.true))
+    rw c.from.ensures (converts_other c.args.bytes.now c.args.out.now (sym c.is_other_kind.ensures ∙ c.if-is_other_kind.true))
 
 pub convert_plan-requires : goal.convert_plan-requires
 convert_plan-requires c =
@@ -23,4 +23,4 @@ returns-in-Ok c =
 
 pub returns-in-Err : goal.returns-in-Err
 returns-in-Err c =
-    rw c.refused_at.ensures (converts_refused c.args.bytes.now c.args.out.now (sym c.is_other_kind.ensures ∙ c.if-is_other_kind.false) c.in-Err.ensures)
+    rw c.from.ensures (converts_refused c.args.bytes.now c.args.out.now (sym c.is_other_kind.ensures ∙ c.if-is_other_kind.false) c.in-Err.ensures)

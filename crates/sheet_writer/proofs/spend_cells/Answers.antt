@@ -1,7 +1,7 @@
 -- `sheet_writer::spend_cells` meets its contract. The loop's invariant is `Spending`: what is left of the room has to do for the cells from i on. Assumes nothing.
-use Rattle.std.proofs.Common.{arith, ◌<◌}
+use Rattle.std.proofs.Common.{arith, ap, ◌∙◌, length, ◌<◌}
+use Rattle.results.specs.Shortest.{shortest}
 use Rattle.result_writer.proofs.Spending.{spending_starts, spending_goes_on, spending_stops, spending_ends, spent_none}
-use Rattle.sheet_writer.proofs.Cells.{cell-size}
 use Rattle.sheet_writer.proofs.spend_cells.Goals as goal
 
 pub returns-in_err-left : goal.returns-in_err-left
@@ -14,12 +14,12 @@ pub returns-in_err-left-2 : goal.returns-in_err-left-2
 returns-in_err-left-2 c =
     let short : c.loop-cell.left < c.group_count.result = omega (arith, c.in_err-left-2.ensures) in
     rw c.from_residual-in_err-left-2.ensures
-    (spending_stops c.loop-cell.invariant c.loop-cell-test.true (cell-size c.args.cells.now c.loop-cell.cell-index c.from.ensures c.group_count.ensures) short c.in_ok-left.was)
+    (spending_stops c.loop-cell.invariant c.loop-cell-test.true (c.group_count.ensures ∙ ap (λ n. length (shortest n)) c.from.ensures) short c.in_ok-left.was)
 
 pub loop-cell-preserved : goal.loop-cell-preserved
 loop-cell-preserved c =
     let (fits, rest) = c.in_ok-left-2.ensures in
-    rw rest (spending_goes_on c.loop-cell.invariant c.loop-cell-test.true (cell-size c.args.cells.now c.loop-cell.cell-index c.from.ensures c.group_count.ensures) fits)
+    rw rest (spending_goes_on c.loop-cell.invariant c.loop-cell-test.true (c.group_count.ensures ∙ ap (λ n. length (shortest n)) c.from.ensures) fits)
 
 pub returns : goal.returns
 returns c = spending_ends c.loop-cell.invariant c.loop-cell-test.false c.in_ok-left.was

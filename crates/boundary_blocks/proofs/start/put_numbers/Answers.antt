@@ -2,15 +2,14 @@
 use Prim.Native.Nat.{◌*◌}
 use native.Mathlib.Omega.{arith}
 use mathlib.Core.Path.{◌≡◌, refl, sym, ap, ◌∙◌}
-use lib.Seq.{sets}
+use lib.ListN.{get_or, set, length-set}
 use borrow.Author.Rules.{rules}
 use Rattle.definitions.specs.Scan.{concat_map}
 use Rattle.definitions.specs.Lists.{overwrite}
 use Rattle.laws.specs.ListLaws.FlatRows.{rows_in_lem}
 use mathlib.Core.List.{[], ◌∷◌}
-use Rattle.boundary_blocks.specs.Blocks.{part}
 use Rattle.boundary_blocks.specs.Start.{numbers_of}
-use Rattle.boundary_blocks.proofs.Placing.{row_more, number_block_lem}
+use Rattle.boundary_blocks.proofs.Placing.{row_more}
 use Rattle.boundary_blocks.proofs.start.put_numbers.Goals as goal
 
 pub loop-k-init : goal.loop-k-init
@@ -26,11 +25,10 @@ loop-k-preserved c =
     let old = given.numbers.now in
     let one : 1 * turn.k ≡ turn.k = omega arith in (
       omega arith,
-      search rules,
-      c.copy_block.ensures
-          ∙ ap (λ l. sets l turn.k (part (5 * turn.k) 1 rows)) turn.invariant.2
-          ∙ ap (λ n. sets (overwrite (numbers_of (rows_in_lem turn.k rows)) old) n (part (5 * turn.k) 1 rows)) (sym one)
-          ∙ row_more (λ r. r.number ∷ []) 1 (λ r. refl) (λ n. omega arith) refl rows old turn.k (search rules) (number_block_lem rows turn.k (search rules)),
+      length-set turn.numbers turn.k (get_or rows (5 * turn.k) 0) ∙ turn.invariant.1,
+      ap (λ l. set l turn.k (get_or rows (5 * turn.k) 0)) turn.invariant.2
+          ∙ ap (λ n. set (overwrite (numbers_of (rows_in_lem turn.k rows)) old) n (get_or rows (5 * turn.k) 0)) (sym one)
+          ∙ row_more (λ r. r.number ∷ []) 1 (λ r. refl) (λ n. omega arith) refl rows old turn.k (search rules) refl,
     )
 
 pub shape_of-numbers : goal.shape_of-numbers

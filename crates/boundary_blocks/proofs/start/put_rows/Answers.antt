@@ -2,6 +2,7 @@
 use Prim.Native.Nat.{◌+◌, ◌*◌}
 use native.Mathlib.Omega.{arith}
 use mathlib.Core.Path.{◌≡◌, refl, ap, ◌∙◌}
+use lib.ListN.{get_or, set, length-set}
 use lib.Seq.{sets}
 use borrow.Author.Rules.{rules}
 use Rattle.definitions.specs.Scan.{collect}
@@ -18,16 +19,15 @@ loop-k-init c = (omega arith, refl, refl)
 
 pub loop-k-preserved : goal.loop-k-preserved
 loop-k-preserved c =
-    let copy-block = c.copy_block in
     let turn = c.loop-k in
     let given = c.args in
     let numbers = given.numbers.now in
     let spans = given.spans.now in (
       omega arith,
-      search rules,
-      c.copy_block-in-loop-k.ensures
-          ∙ ap (λ l. sets l (5 * turn.k + 1) (part (4 * turn.k) 4 spans)) (copy-block.ensures ∙ ap (λ l. sets l (5 * turn.k) (part turn.k 1 numbers)) turn.invariant.2)
-          ∙ output_more numbers spans given.output.now turn.k (search rules) (search rules) (search rules),
+      c.copy_block.auto.to ∙ length-set turn.output (5 * turn.k) (get_or numbers turn.k 0) ∙ turn.invariant.1,
+      c.copy_block.ensures
+          ∙ ap (λ l. sets (set l (5 * turn.k) (get_or numbers turn.k 0)) (5 * turn.k + 1) (part (4 * turn.k) 4 spans)) turn.invariant.2
+          ∙ output_more numbers spans given.output.now turn.k (search rules) (search rules),
     )
 
 pub shape_of-output : goal.shape_of-output
