@@ -7,9 +7,10 @@ ghost use Rattle.context.specs.Shown.{pairs_between};
 ghost use Rattle.interior_proposals.specs.Owners.{Walkable, owned_by, owner_at, Owned, Owners};
 ghost use Rattle.interior_proposals.specs.Candidates.{Mapped, SomeMapped, AllMapped, is_marked, pair_marked, spoils_at, candidate};
 
-use crate::components::{larger_at, parent_of, smaller_at};
+use crate::components::parent_of;
 use crate::owners::{Components, Owner, touches};
 use context::PartitionContext;
+use context::pairs::row_at;
 
 const MAX_INTERIOR_EDGES: usize = 8;
 
@@ -27,7 +28,8 @@ fn any_anchored(marks: &[u16], pairs: &[u32], first: usize, end: usize) -> bool
     ensures { result ≡ any (pair_marked marks.now) (pairs_between pairs.now first end) }
 {
     (first..end).any(|k| {
-        is_anchored(marks, smaller_at(pairs, k)) | is_anchored(marks, larger_at(pairs, k))
+        let pair = row_at(pairs, k);
+        is_anchored(marks, pair.lo) | is_anchored(marks, pair.hi)
     })
 }
 

@@ -3,14 +3,15 @@ ghost use Rattle.std.specs.Prelude.{◌≡◌, List, [], ◌∷◌, ℕ, suc, �
 ghost use Rattle.definitions.specs.Limits.{max_side, numbers_per_pair, numbers_per_boundary, tallies_per_span};
 ghost use Rattle.definitions.specs.Context.{Context};
 ghost use Rattle.definitions.specs.RampInteriors.{is_ordinary, links};
-ghost use Rattle.context.specs.Shown.{ShownBoundaries, ShownTallies, ShownAnchored, ShownIncidents, pair_at, pairs_between};
+ghost use Rattle.context.specs.Shown.{ShownBoundaries, ShownTallies, ShownAnchored, ShownIncidents, pairs_between};
+ghost use Rattle.context.specs.Rows.{pair_form};
 ghost use Rattle.laws.specs.ListLaws.Beyond.{Beyond};
 ghost use Rattle.interior_proposals.specs.Forest.{Parented, Rooted, Found, Joinable, Placed, Merged, Rows, RowsJoinable, Forest, Names};
 ghost use Rattle.interior_proposals.specs.Given.{Given, Lent, SomeLent, flags_of, alone, links_of, CutJoinable, CutsJoinable, Prepared, Known};
 
 use context::PartitionContext;
+use context::pairs::{Pair, row_at};
 use geometry::boundaries::kind_at;
-use span_geometry::NUMBERS_PER_PAIR;
 
 // The parent of region r.
 pub fn parent_of(parents: &[u32], r: u32) -> u32
@@ -44,33 +45,17 @@ fn root_of(parents: &mut [u32], r: u32) -> u32
     x
 }
 
-// Joins the regions lo and hi: the larger root gets the smaller for its parent.
-fn join(parents: &mut [u32], lo: u32, hi: u32)
-    requires { Joinable parents.old (record { lo = lo; hi = hi }) }
+// Joins the regions of a pair: the larger root gets the smaller for its parent.
+fn join(parents: &mut [u32], pair: Pair)
+    requires { Joinable parents.old (pair_form pair) }
     ensures { (cs : List ℕ) →
         Parented cs parents.old →
-        Placed (length cs) (record { lo = lo; hi = hi }) →
-        Merged cs parents.old (record { lo = lo; hi = hi } ∷ []) parents.new }
+        Placed (length cs) (pair_form pair) →
+        Merged cs parents.old (pair_form pair ∷ []) parents.new }
 {
-    let a = root_of(parents, lo);
-    let b = root_of(parents, hi);
+    let a = root_of(parents, pair.lo);
+    let b = root_of(parents, pair.hi);
     set_parent(parents, a.max(b), a.min(b));
-}
-
-// The smaller region of row k.
-pub fn smaller_at(pairs: &[u32], k: usize) -> u32
-    requires { numbers_per_pair * k + 2 < length pairs.now }
-    ensures { result ≡ (pair_at pairs.now k).lo }
-{
-    pairs[NUMBERS_PER_PAIR * k + 1]
-}
-
-// The larger one.
-pub fn larger_at(pairs: &[u32], k: usize) -> u32
-    requires { numbers_per_pair * k + 2 < length pairs.now }
-    ensures { result ≡ (pair_at pairs.now k).hi }
-{
-    pairs[NUMBERS_PER_PAIR * k + 2]
 }
 
 // Joins the regions of each pair of the rows from `first` on, before `end`.
@@ -83,7 +68,7 @@ fn join_pairs(parents: &mut [u32], pairs: &[u32], first: usize, end: usize)
         Merged cs parents.old (pairs_between pairs.now first end) parents.new }
 {
     for k in first..end {
-        join(parents, smaller_at(pairs, k), larger_at(pairs, k));
+        join(parents, row_at(pairs, k));
     }
 }
 

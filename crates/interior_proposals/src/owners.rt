@@ -7,8 +7,9 @@ ghost use Rattle.context.specs.Shown.{pairs_between};
 ghost use Rattle.interior_proposals.specs.Given.{Kept, SomeKept, AllKept};
 ghost use Rattle.interior_proposals.specs.Owners.{Walkable, pair_named, Common, Owned, Owners};
 
-use crate::components::{is_ordinary, larger_at, parent_of, smaller_at};
+use crate::components::{is_ordinary, parent_of};
 use context::PartitionContext;
+use context::pairs::row_at;
 
 // The component in which all pairs of a boundary lie, by its name: none where the boundary is no ordinary full cut or has no pair.
 #[derive(Clone, Copy, PartialEq, Eq)]
@@ -32,9 +33,8 @@ pub fn touches(names: &[u32], pairs: &[u32], first: usize, end: usize, r: u32) -
     ensures { result ≡ any (pair_named names.now r) (pairs_between pairs.now first end) }
 {
     (first..end).any(|k| {
-        let lo = parent_of(names, smaller_at(pairs, k));
-        let hi = parent_of(names, larger_at(pairs, k));
-        (lo == r) | (hi == r)
+        let pair = row_at(pairs, k);
+        (parent_of(names, pair.lo) == r) | (parent_of(names, pair.hi) == r)
     })
 }
 
@@ -46,8 +46,8 @@ fn common_name(names: &[u32], pairs: &[u32], first: usize, end: usize) -> Owner
     if first == end {
         return Owner::None;
     }
-    let name = parent_of(names, smaller_at(pairs, first));
-    if (first..end).all(|k| parent_of(names, smaller_at(pairs, k)) == name) {
+    let name = parent_of(names, row_at(pairs, first).lo);
+    if (first..end).all(|k| parent_of(names, row_at(pairs, k).lo) == name) {
         Owner::One(name)
     } else {
         Owner::Several

@@ -36,7 +36,7 @@ module _ (C : Context) (m a outer r : ℕ) where
 
   pub single_by : {x z e k : Bool} {f : MouthKind} → C.anchored r ≡ x → (overlay_only C m a && (C.anchored outer || not (eqb (incident_count C r) 2))) ≡ z → other_end_incident C a r ≡ e
       → ((broad_mouth C m a || overlay_only C m a) && eqb (incident_count C r) 2) ≡ k → f ≡ cond k broad plain
-      → candidate_form C m a (then_some (not x && (not z && not e)) (record { outer = Some outer; kind = f })) ≡ approach_mouth C m a (Some (approach.Single outer r))
+      → candidate_form C m a (then_some (not x && (not z && not e)) (record { outer = Some outer; kind = f })) ≡ approach_mouth C m a (Some (approach.Single (record { outer = outer; approach = r })))
   unfolding approach_mouth single_fits
   single_by {x} {z} {e} hx hz he hk hf = formed (not x && (not z && not e)) hf ∙ sym (λ i. only_if (not (hx i) && (not (hz i) && not (he i))) (about (cond (hk i) broad plain)))
 
@@ -44,13 +44,13 @@ module _ (C : Context) (m a outer r : ℕ) where
   star_if o t f e w = only_if (not o && (t && (f && not e))) (about (cond w broad plain))
 
   star_by : {o t e w : Bool} (f : Bool) → overlay_only C m a ≡ o → eqb (incident_count C r) 2 ≡ t → all fits_in (regions_of (C.pairs m)) ≡ f → other_end_incident C a r ≡ e → broad_mouth C m a ≡ w
-      → approach_mouth C m a (Some (approach.Star outer r)) ≡ star_if o t f e w
+      → approach_mouth C m a (Some (approach.Star (record { outer = outer; approach = r }))) ≡ star_if o t f e w
   unfolding approach_mouth star_fits
   star_by f ho ht hf he hw = λ i. star_if (ho i) (ht i) (hf i) (he i) (hw i)
 
   module _ {o t e : Bool} (ho : overlay_only C m a ≡ o) (ht : eqb (incident_count C r) 2 ≡ t) (he : other_end_incident C a r ≡ e) where
     -- no star is proposed, whatever its regions
-    pub star_none : ((o || not t) || e) ≡ true → None ≡ approach_mouth C m a (Some (approach.Star outer r))
+    pub star_none : ((o || not t) || e) ≡ true → None ≡ approach_mouth C m a (Some (approach.Star (record { outer = outer; approach = r })))
     star_none h = sym (star_by (all fits_in (regions_of (C.pairs m))) ho ht refl he refl ∙ go o t e (all fits_in (regions_of (C.pairs m))) h)
       where
         go : (o t e f : Bool) → ((o || not t) || e) ≡ true → star_if o t f e (broad_mouth C m a) ≡ None
@@ -62,7 +62,7 @@ module _ (C : Context) (m a outer r : ℕ) where
 
     -- it is where they fit
     pub star_when : ((o || not t) || e) ≡ false → {f : Bool} {k : MouthKind} → all fits_in (regions_of (C.pairs m)) ≡ f → {w : Bool} → broad_mouth C m a ≡ w → k ≡ cond w broad plain
-        → candidate_form C m a (then_some f (record { outer = Some outer; kind = k })) ≡ approach_mouth C m a (Some (approach.Star outer r))
+        → candidate_form C m a (then_some f (record { outer = Some outer; kind = k })) ≡ approach_mouth C m a (Some (approach.Star (record { outer = outer; approach = r })))
     star_when h {f} hf {w} hw hk = formed f hk ∙ sym (star_by f ho ht hf he hw ∙ go o t e f h)
       where
         go : (o t e f : Bool) → ((o || not t) || e) ≡ false → star_if o t f e w ≡ only_if f (about (cond w broad plain))

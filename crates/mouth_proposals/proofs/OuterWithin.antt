@@ -62,12 +62,12 @@ module _ (C : Context) (a m : ℕ) (named : All (Named C.regions) (C.pairs m)) w
     approach_on : (A : Option Approach) → Within C.regions A → OnO P (approach_mouth C m a A)
     unfolding approach_mouth
     approach_on None w = absent
-    approach_on (Some (approach.Single outer r)) w =
-        let kind = cond ((broad_mouth C m a || overlay_only C m a) && eqb (incident_count C r) 2) broad plain in
-        on_only (single_fits C m a outer r) (proposal_of C m a (Some outer) kind) (formed (Some outer) kind w.0)
-    approach_on (Some (approach.Star outer r)) w =
+    approach_on (Some (approach.Single s)) w =
+        let kind = cond ((broad_mouth C m a || overlay_only C m a) && eqb (incident_count C s.approach) 2) broad plain in
+        on_only (single_fits C m a s.outer s.approach) (proposal_of C m a (Some s.outer) kind) (formed (Some s.outer) kind w.0)
+    approach_on (Some (approach.Star s)) w =
         let kind = cond (broad_mouth C m a) broad plain in
-        on_only (star_fits C m a outer r) (proposal_of C m a (Some outer) kind) (formed (Some outer) kind w.0)
+        on_only (star_fits C m a s.outer s.approach) (proposal_of C m a (Some s.outer) kind) (formed (Some s.outer) kind w.0)
 
     shaped_on : (b : Bool) → OnO P (shaped_mouth C m a (full_pair C a) (mouth_shape b (C.pairs m)))
     shaped_on true = subst (OnO P) (sym (shaped_is C m a named)) (approach_on (approach_of (full_pair C a) (mouth_shape true (C.pairs m))) (approach_within (C.pairs m) named (full_pair C a)))

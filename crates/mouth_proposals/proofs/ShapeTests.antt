@@ -131,15 +131,12 @@ all_distinct g l = all_as_any g (add_all [] (regions_of l)) ∙ ap not (any-add_
 
 module _ (p q s t : Pair) where
   abbrev named : ℕ → Bool
-  named x = contains x s || contains x t
+  named x = any (contains x) (s ∷ t ∷ [])
 
-  pub named_in-all : (((named p.lo && named p.hi) && named q.lo) && named q.hi) ≡ all (λ x. any (contains x) (s ∷ t ∷ [])) (distinct_regions (p ∷ q ∷ []))
-  unfolding all any
-  named_in-all = order (named p.lo) (named p.hi) (named q.lo) (named q.hi) ∙ (λ i. one p.lo i && (one p.hi i && (one q.lo i && (one q.hi i && true)))) ∙ sym (all_distinct (λ x. any (contains x) (s ∷ t ∷ [])) (p ∷ q ∷ []))
+  pub named_in-all : (((named p.lo && named p.hi) && named q.lo) && named q.hi) ≡ all named (distinct_regions (p ∷ q ∷ []))
+  unfolding all
+  named_in-all = order (named p.lo) (named p.hi) (named q.lo) (named q.hi) ∙ sym (all_distinct named (p ∷ q ∷ []))
     where
-      one : (x : ℕ) → named x ≡ (contains x s || (contains x t || false))
-      one x = ap (λ b. contains x s || b) (sym (or-false (contains x t)))
-
       order : (a b c d : Bool) → (((a && b) && c) && d) ≡ (a && (b && (c && (d && true))))
       order true true true true = refl
       order true true true false = refl
@@ -147,14 +144,10 @@ module _ (p q s t : Pair) where
       order true false c d = refl
       order false b c d = refl
 
-  pub one_common : {x y : Bool} → x ≡ (pair_eq p s || pair_eq p t) → y ≡ (pair_eq q s || pair_eq q t)
+  pub one_common : {x y : Bool} → x ≡ any (pair_eq p) (s ∷ t ∷ []) → y ≡ any (pair_eq q) (s ∷ t ∷ [])
       → ((x && not y) || (not x && y)) ≡ eqb (length (filter (λ e. any (pair_eq e) (s ∷ t ∷ [])) (p ∷ q ∷ []))) 1
-  unfolding any
-  one_common {x} {y} e f = go x y ∙ (λ i. eqb (bit (at p e i) + bit (at q f i)) 1) ∙ sym (ap (λ n. eqb n 1) (filter_two (λ e. any (pair_eq e) (s ∷ t ∷ [])) p q))
+  one_common {x} {y} e f = go x y ∙ (λ i. eqb (bit (e i) + bit (f i)) 1) ∙ sym (ap (λ n. eqb n 1) (filter_two (λ e. any (pair_eq e) (s ∷ t ∷ [])) p q))
     where
-      at : (r : Pair) {z : Bool} → z ≡ (pair_eq r s || pair_eq r t) → z ≡ (pair_eq r s || (pair_eq r t || false))
-      at r h = h ∙ ap (λ b. pair_eq r s || b) (sym (or-false (pair_eq r t)))
-
       go : (a b : Bool) → ((a && not b) || (not a && b)) ≡ eqb (bit a + bit b) 1
       go true true = refl
       go true false = refl

@@ -108,11 +108,11 @@ module _ (C : Context) (m a : ℕ) where
         go true = refl
         go false = refl
 
-    single-made : only_if (approach_fits C m a r (r ∷ []) true (C.anchored p.lo || C.anchored p.hi)) (made (other_region r p ∷ []) (r ∷ []) (two_port_broad C m a r (r ∷ []) true)) ≡ approach_mouth C m a (Some (approach.Single (other_region r p) r))
+    single-made : only_if (approach_fits C m a r (r ∷ []) true (C.anchored p.lo || C.anchored p.hi)) (made (other_region r p ∷ []) (r ∷ []) (two_port_broad C m a r (r ∷ []) true)) ≡ approach_mouth C m a (Some (approach.Single (record { outer = other_region r p; approach = r })))
     unfolding approach_mouth
     single-made =
         ap₂ only_if single_fits_lem (ap (λ o. made (o ∷ []) (r ∷ []) (two_port_broad C m a r (r ∷ []) true)) beyond ∙ made_is o inner ((broad_mouth C m a || overlay_only C m a) && eqb (incident_count C r) 2) single_two)
-        ∙ ap (λ o. approach_mouth C m a (Some (approach.Single o r))) (sym beyond)
+        ∙ ap (λ o. approach_mouth C m a (Some (approach.Single (record { outer = o; approach = r })))) (sym beyond)
 
   module _ (p q : Pair) {n : ℕ} (np : Named n p) (one : C.pairs m ≡ p ∷ []) (ramp : C.pairs a ≡ q ∷ []) where
     incident_mouth : (r : ℕ) → contains r p ≡ true → is_incident C m r ≡ true
@@ -129,13 +129,13 @@ module _ (C : Context) (m a : ℕ) where
     apart-hi : eqb p.hi p.lo ≡ false
     apart-hi = ne_eqb p.hi p.lo (λ k. omega (arith, k))
 
-    by_lo : contains p.lo q ≡ true → only_if (approach_fits C m a p.lo (p.lo ∷ []) true (C.anchored p.lo || C.anchored p.hi)) (made (other_region p.lo p ∷ []) (p.lo ∷ []) (two_port_broad C m a p.lo (p.lo ∷ []) true)) ≡ approach_mouth C m a (Some (approach.Single (other_region p.lo p) p.lo))
+    by_lo : contains p.lo q ≡ true → only_if (approach_fits C m a p.lo (p.lo ∷ []) true (C.anchored p.lo || C.anchored p.hi)) (made (other_region p.lo p ∷ []) (p.lo ∷ []) (two_port_broad C m a p.lo (p.lo ∷ []) true)) ≡ approach_mouth C m a (Some (approach.Single (record { outer = other_region p.lo p; approach = p.lo })))
     by_lo e =
         single-made p p.lo p.hi (ap (λ b. cond b p.hi p.lo) (eq-eqb p.lo p.lo refl)) refl
         (ap (inner_of (Some p.hi)) one ∙ one_inner p p.hi np apart-lo (eq-eqb p.hi p.hi refl))
         (incident_mouth p.lo (ap (λ b. b || eqb p.hi p.lo) (eq-eqb p.lo p.lo refl))) (incident_ramp p.lo e)
 
-    by_hi : contains p.hi q ≡ true → only_if (approach_fits C m a p.hi (p.hi ∷ []) true (C.anchored p.lo || C.anchored p.hi)) (made (other_region p.hi p ∷ []) (p.hi ∷ []) (two_port_broad C m a p.hi (p.hi ∷ []) true)) ≡ approach_mouth C m a (Some (approach.Single (other_region p.hi p) p.hi))
+    by_hi : contains p.hi q ≡ true → only_if (approach_fits C m a p.hi (p.hi ∷ []) true (C.anchored p.lo || C.anchored p.hi)) (made (other_region p.hi p ∷ []) (p.hi ∷ []) (two_port_broad C m a p.hi (p.hi ∷ []) true)) ≡ approach_mouth C m a (Some (approach.Single (record { outer = other_region p.hi p; approach = p.hi })))
     by_hi e =
         single-made p p.hi p.lo (ap (λ b. cond b p.hi p.lo) apart-lo) (or_comm (C.anchored p.lo) (C.anchored p.hi))
         (ap (inner_of (Some p.lo)) one ∙ one_inner p p.lo np (eq-eqb p.lo p.lo refl) apart-hi)
@@ -198,7 +198,7 @@ module _ (C : Context) (m a : ℕ) where
     unfolding two_port_broad
     star_two = ap (λ b. cond b ((broad_mouth C m a || overlay_only C m a) && false && only_incidents C r m a) (broad_mouth C m a)) several
 
-    star-made : only_if (approach_fits C m a r inner false (any C.anchored inner)) (made (outer ∷ []) inner (two_port_broad C m a r inner false)) ≡ approach_mouth C m a (Some (approach.Star outer r))
+    star-made : only_if (approach_fits C m a r inner false (any C.anchored inner)) (made (outer ∷ []) inner (two_port_broad C m a r inner false)) ≡ approach_mouth C m a (Some (approach.Star (record { outer = outer; approach = r })))
     unfolding approach_mouth
     star-made = ap₂ only_if star_fits_lem (made_is outer (sym inside) (broad_mouth C m a) star_two)
 

@@ -22,8 +22,8 @@ use Rattle.mouth_proposals.proofs.Fitting.{all-named-regions}
 
 pub within_more : {n k : ℕ} → n ≤ k → (A : Option Approach) → Within n A → Within k A
 within_more h None w = tt
-within_more h (Some (approach.Single outer r)) w = ((w.0.0, le_trans w.0.1 h), (w.1.0, le_trans w.1.1 h))
-within_more h (Some (approach.Star outer r)) w = ((w.0.0, le_trans w.0.1 h), (w.1.0, le_trans w.1.1 h))
+within_more h (Some (approach.Single s)) w = ((w.0.0, le_trans w.0.1 h), (w.1.0, le_trans w.1.1 h))
+within_more h (Some (approach.Star s)) w = ((w.0.0, le_trans w.0.1 h), (w.1.0, le_trans w.1.1 h))
 
 module _ {n : ℕ} where
   single-within : (p : Pair) → Named n p → (o : Option ℕ) → Numbered n o → Within n (single_at p o)

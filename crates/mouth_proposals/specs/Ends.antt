@@ -23,5 +23,5 @@ pub record EndsOf (C : Context) (a : ℕ) (ends : Option OtherEnds) : Type 0 whe
 -- and for the region of an approach, which is one of them
 abbrev pub EndKnown : Context → ℕ → Option OtherEnds → Option Approach → Type 0
 EndKnown C a ends None = Unit {0}
-EndKnown C a ends (Some (approach.Single outer r)) = end_at ends r ≡ other_end_incident C a r
-EndKnown C a ends (Some (approach.Star outer r)) = end_at ends r ≡ other_end_incident C a r
+EndKnown C a ends (Some (approach.Single s)) = end_at ends s.approach ≡ other_end_incident C a s.approach
+EndKnown C a ends (Some (approach.Star s)) = end_at ends s.approach ≡ other_end_incident C a s.approach

@@ -14,11 +14,18 @@ use crate::shapes::{Shape, region_of, star};
 use context::PartitionContext;
 use context::pairs::Pair;
 
-// The region outside and the approach, of a mouth of one pair or of a star.
+// The region outside a mouth, and the approach.
+#[derive(Clone, Copy, PartialEq, Eq)]
+pub struct Sides {
+    pub outer: u32,
+    pub approach: u32,
+}
+
+// The approach of a mouth of one pair or of a star.
 #[derive(Clone, Copy, PartialEq, Eq)]
 pub enum Approach {
-    Single(u32, u32),
-    Star(u32, u32),
+    Single(Sides),
+    Star(Sides),
 }
 
 fn other_region(r: u32, p: Pair) -> u32
@@ -54,11 +61,14 @@ fn approach_from(context: PartitionContext, m: usize, s: Shape, q: Pair) -> Opti
     match s {
         Shape::Single(p) => {
             let r = shared_region(context, m, None, q)?;
-            Some(Approach::Single(other_region(r, p), r))
+            Some(Approach::Single(Sides {
+                outer: other_region(r, p),
+                approach: r,
+            }))
         }
         Shape::Star(outer) => {
             let r = shared_region(context, m, Some(outer), q)?;
-            Some(Approach::Star(outer, r))
+            Some(Approach::Star(Sides { outer, approach: r }))
         }
     }
 }

@@ -3,17 +3,17 @@ ghost use Rattle.std.specs.Prelude.{◌≡◌, Some, true, false, cond, ℕ, ◌
 ghost use Rattle.definitions.specs.Scan.{all};
 ghost use Rattle.definitions.specs.MouthShapes.{regions_of, distinct_regions};
 ghost use Rattle.definitions.specs.Context.{Context, full_cut, no_ramp};
-ghost use Rattle.definitions.specs.RampMouths.{other_end_incident, broad_mouth, overlay_only, triangle_mouth};
+ghost use Rattle.definitions.specs.RampMouths.{other_end_incident, triangle_mouth};
 ghost use Rattle.context.specs.Shown.{pairs_between, ShownTallies, ShownPairs, ShownIncidents, ShownAnchored};
 ghost use Rattle.context.specs.Rows.{Stretch, NamedRow};
 ghost use Rattle.mouth_proposals.specs.Lent.{PassShows, PassShown};
 ghost use Rattle.mouth_proposals.specs.Outers.{mark_at, inner_fits, with_region};
-ghost use Rattle.mouth_proposals.specs.Candidates.{plain, broad, is_triangular, is_broad, Within, candidate_form, found_mouth, approach_mouth};
+ghost use Rattle.mouth_proposals.specs.Candidates.{plain, broad, is_triangular, is_broad, Within, Measured, candidate_form, found_mouth, approach_mouth};
 ghost use Rattle.mouth_proposals.specs.Ends.{EndsOf, EndKnown};
 
-use crate::approaches::{Approach, approach_of};
+use crate::approaches::{Approach, Sides, approach_of};
 use crate::ends::{OtherEnds, Ramp, other_end_at};
-use crate::measures::{Measures, broad_mouth, nearby_representative, overlay_representative};
+use crate::measures::Measures;
 use crate::regions::RegionMarks;
 use crate::shapes::triangle_representative;
 use context::PartitionContext;
@@ -69,52 +69,44 @@ pub enum Outers {
 }
 
 // Whether every inner region of the star of these rows fits.
-fn inner_fit(
-    pairs: &[u32],
-    regions: RegionMarks,
-    first: usize,
-    end: usize,
-    outer: u32,
-    r: u32,
-) -> bool
+fn inner_fit(pairs: &[u32], regions: RegionMarks, first: usize, end: usize, sides: Sides) -> bool
     requires ordered { first ≤ end }
     requires named_rows { (k : ℕ) →
         first ≤ k →
         k < end →
         NamedRow pairs.now (length regions.counts.now) k × NamedRow pairs.now (length regions.marks.now) k }
-    ensures { result ≡ all (inner_fits regions.entry.marks.now regions.entry.counts.now outer r) (regions_of (pairs_between pairs.now first end)) }
+    ensures { result ≡ all (inner_fits regions.entry.marks.now regions.entry.counts.now sides.outer sides.approach) (regions_of (pairs_between pairs.now first end)) }
 {
     (first..end).all(|k| {
         let p = row_at(pairs, k);
-        regions.fits(outer, r, p.lo) & regions.fits(outer, r, p.hi)
+        regions.fits(sides, p.lo) & regions.fits(sides, p.hi)
     })
 }
 
-// The proposal of a mouth of one pair; `blocked` says that the ramp's other end is an incident of r.
+// The proposal of a mouth of one pair; `blocked` says that the ramp's other end is an incident of the approach.
 fn single_mouth(
     regions: RegionMarks,
-    outer: u32,
-    r: u32,
+    sides: Sides,
     blocked: bool,
     measures: Measures,
 ) -> Option<Mouth>
-    requires outer_named { (1 ≤ outer) × (outer ≤ length regions.marks.now) }
-    requires r_named { (1 ≤ r) × ((r ≤ length regions.marks.now) × (r ≤ length regions.counts.now)) }
+    requires outer_named { (1 ≤ sides.outer) × (sides.outer ≤ length regions.marks.now) }
+    requires approach_named { (1 ≤ sides.approach) × ((sides.approach ≤ length regions.marks.now) × (sides.approach ≤ length regions.counts.now)) }
     ensures { (C : Context) (m a : ℕ) →
         ShownIncidents C regions.entry.counts.now →
         ShownAnchored C regions.entry.marks.now →
-        (outer ≤ C.regions) × (r ≤ C.regions) →
-        blocked ≡ other_end_incident C a r →
-        measures.wide ≡ broad_mouth C m a →
-        measures.overlay ≡ overlay_only C m a →
-        candidate_form C m a result ≡ approach_mouth C m a (Some (Approach.Single outer r)) }
+        (sides.outer ≤ C.regions) × (sides.approach ≤ C.regions) →
+        blocked ≡ other_end_incident C a sides.approach →
+        Measured C m a measures →
+        candidate_form C m a result ≡ approach_mouth C m a (Some (Approach.Single sides)) }
 {
-    let two = regions.incident_count(r) == 2;
-    let kept_out = measures.overlay & (regions.is_anchored(outer) | !two);
-    let fits = !regions.is_anchored(r) & (!kept_out & !blocked);
+    let overlay = measures.overlay_only();
+    let two = regions.incident_count(sides.approach) == 2;
+    let kept_out = overlay & (regions.is_anchored(sides.outer) | !two);
+    let fits = !regions.is_anchored(sides.approach) & (!kept_out & !blocked);
     fits.then_some(Mouth {
-        outer: Some(outer),
-        kind: MouthKind::of_approach((measures.wide | measures.overlay) & two),
+        outer: Some(sides.outer),
+        kind: MouthKind::of_approach((measures.broad | overlay) & two),
     })
 }
 
@@ -123,8 +115,7 @@ fn star_mouth(
     context: PartitionContext,
     regions: RegionMarks,
     m: usize,
-    outer: u32,
-    r: u32,
+    sides: Sides,
     blocked: bool,
     measures: Measures,
 ) -> Option<Mouth>
@@ -133,26 +124,25 @@ fn star_mouth(
         get_or context.starts.now m 0 ≤ k →
         k < get_or context.starts.now (m + 1) 0 →
         NamedRow context.pairs.now (length regions.counts.now) k × NamedRow context.pairs.now (length regions.marks.now) k }
-    requires r_named { (1 ≤ r) × (r ≤ length regions.counts.now) }
+    requires approach_named { (1 ≤ sides.approach) × (sides.approach ≤ length regions.counts.now) }
     ensures { (C : Context) (a : ℕ) →
         ShownPairs C context.entry.pairs.now context.entry.starts.now →
         ShownIncidents C regions.entry.counts.now →
         ShownAnchored C regions.entry.marks.now →
         m < C.count →
-        r ≤ C.regions →
-        blocked ≡ other_end_incident C a r →
-        measures.wide ≡ broad_mouth C m a →
-        measures.overlay ≡ overlay_only C m a →
-        candidate_form C m a result ≡ approach_mouth C m a (Some (Approach.Star outer r)) }
+        sides.approach ≤ C.regions →
+        blocked ≡ other_end_incident C a sides.approach →
+        Measured C m a measures →
+        candidate_form C m a result ≡ approach_mouth C m a (Some (Approach.Star sides)) }
 {
-    if measures.overlay | (regions.incident_count(r) != 2) | blocked {
+    if measures.overlay_only() | (regions.incident_count(sides.approach) != 2) | blocked {
         return None;
     }
     let first = context.starts[m];
     let end = context.starts[m + 1];
-    inner_fit(context.pairs, regions, first, end, outer, r).then_some(Mouth {
-        outer: Some(outer),
-        kind: MouthKind::of_approach(measures.wide),
+    inner_fit(context.pairs, regions, first, end, sides).then_some(Mouth {
+        outer: Some(sides.outer),
+        kind: MouthKind::of_approach(measures.broad),
     })
 }
 
@@ -229,24 +219,17 @@ fn approach_mouth(
         m < C.count →
         Within C.regions approach →
         EndKnown C a ends approach →
-        measures.wide ≡ broad_mouth C m a →
-        measures.overlay ≡ overlay_only C m a →
+        Measured C m a measures →
         candidate_form C m a result ≡ approach_mouth C m a approach }
 {
     match approach? {
-        Approach::Single(outer, r) => {
-            single_mouth(regions, outer, r, other_end_at(ends, r), measures)
+        Approach::Single(sides) => {
+            let blocked = other_end_at(ends, sides.approach);
+            single_mouth(regions, sides, blocked, measures)
         }
-        Approach::Star(outer, r) => {
-            star_mouth(
-                context,
-                regions,
-                m,
-                outer,
-                r,
-                other_end_at(ends, r),
-                measures,
-            )
+        Approach::Star(sides) => {
+            let blocked = other_end_at(ends, sides.approach);
+            star_mouth(context, regions, m, sides, blocked, measures)
         }
     }
 }
@@ -280,18 +263,12 @@ pub fn mouth_candidate(
     if !triangle & approach.is_none() {
         return None;
     }
-    let wide = broad_mouth(context.boundaries, m, a);
-    let nearby = nearby_representative(context.boundaries, m, a);
-    let overlay = overlay_representative(context.boundaries, m, a);
-    if !(wide | nearby | overlay) {
+    let measures = Measures::of(context.boundaries, m, a);
+    if !measures.any() {
         return None;
     }
-    if nearby & triangle {
+    if measures.nearby & triangle {
         return triangle_mouth(context, regions, m);
     }
-    let measures = Measures {
-        wide,
-        overlay: overlay & !nearby & !wide,
-    };
     approach_mouth(context, regions, m, ramp.ends, approach, measures)
 }

@@ -2,6 +2,8 @@
 ghost use Rattle.std.specs.Prelude.{◌≡◌, ◌-◌, ◌≤◌, length, get_or};
 ghost use Rattle.mouth_proposals.specs.Outers.{mark_at, inner_fits};
 
+use crate::approaches::Sides;
+
 #[derive(Clone, Copy)]
 pub struct RegionMarks<'a> {
     pub counts: &'a [u32],
@@ -23,11 +25,12 @@ impl RegionMarks<'_> {
         self.counts[r as usize - 1]
     }
 
-    // Whether region s of a star about `outer`, whose approach is r, fits.
-    pub fn fits(self, outer: u32, r: u32, s: u32) -> bool
+    // Whether region s of a star with these sides fits.
+    pub fn fits(self, sides: Sides, s: u32) -> bool
         requires { (1 ≤ s) × ((s ≤ length self.counts.now) × (s ≤ length self.marks.now)) }
-        ensures { result ≡ inner_fits self.entry.marks.now self.entry.counts.now outer r s }
+        ensures { result ≡ inner_fits self.entry.marks.now self.entry.counts.now sides.outer sides.approach s }
     {
-        (s == outer) | (!self.is_anchored(s) & ((s == r) | (self.incident_count(s) == 1)))
+        (s == sides.outer)
+            | (!self.is_anchored(s) & ((s == sides.approach) | (self.incident_count(s) == 1)))
     }
 }

@@ -4,7 +4,7 @@ use lib.Arith.{lt_of_le-ne}
 use Rattle.laws.specs.ListLaws.Chains.{all_from_range}
 use Rattle.context.specs.Shown.{pair_at, pairs_between}
 use Rattle.interior_proposals.specs.Owners.{low_named, none}
-use Rattle.interior_proposals.proofs.Walks.{row_in, low_in_lem}
+use Rattle.interior_proposals.proofs.Walks.{row_low, row_in, low_in_lem}
 use Rattle.interior_proposals.proofs.RowScans.{between_none}
 use Rattle.interior_proposals.proofs.Commons.{common_one, common-several}
 use Rattle.interior_proposals.proofs.owners.common_name.Goals as goal
@@ -13,15 +13,15 @@ pub returns-then-first-end : goal.returns-then-first-end
 returns-then-first-end c =
     none (sym (ap (pairs_between c.args.pairs.now c.args.first) c.if-first-end.true) ∙ between_none c.args.pairs.now c.args.first)
 
-pub smaller_at-requires : goal.smaller_at-requires
-smaller_at-requires c =
+pub row_at-requires : goal.row_at-requires
+row_at-requires c =
     let some_row : c.args.first < c.args.end = lt_of_le-ne c.requires.rising c.if-first-end.false in
     row_in c.requires (omega arith) some_row
 
 pub parent_of-name-requires : goal.parent_of-name-requires
 parent_of-name-requires c =
     let some_row : c.args.first < c.args.end = lt_of_le-ne c.requires.rising c.if-first-end.false in
-    low_in_lem c.requires (omega arith) some_row c.smaller_at.ensures
+    low_in_lem c.requires (omega arith) some_row (row_low c.args.pairs.now c.args.first c.row_at.ensures)
 
 pub returns-then-all : goal.returns-then-all
 returns-then-all c =
@@ -29,7 +29,7 @@ returns-then-all c =
     let name = c.parent_of-name.result in
     let rows = c.args.pairs.now in
     let names = c.args.names.now in
-    common_one names rows c.args.first c.args.end some_row (c.parent_of-name.ensures ∙ ap (λ x. get_or names (x - 1) 0) c.smaller_at.ensures) _
+    common_one names rows c.args.first c.args.end some_row (c.parent_of-name.ensures ∙ ap (λ x. get_or names (x - 1) 0) (row_low c.args.pairs.now c.args.first c.row_at.ensures)) _
     (all_from_range _ _ _ c.all.result (λ k. low_named names name (pair_at rows k) ≡ true) (λ k. low_named names name (pair_at rows k) ≡ false)
     c.all.ensures.ran (λ x q k. search (rules, tests)) (λ x q k. search (rules, tests))) c.if-all.true
 
@@ -39,6 +39,6 @@ returns-else-all c =
     let name = c.parent_of-name.result in
     let rows = c.args.pairs.now in
     let names = c.args.names.now in
-    common-several names rows c.args.first c.args.end some_row (c.parent_of-name.ensures ∙ ap (λ x. get_or names (x - 1) 0) c.smaller_at.ensures) _
+    common-several names rows c.args.first c.args.end some_row (c.parent_of-name.ensures ∙ ap (λ x. get_or names (x - 1) 0) (row_low c.args.pairs.now c.args.first c.row_at.ensures)) _
     (all_from_range _ _ _ c.all.result (λ k. low_named names name (pair_at rows k) ≡ true) (λ k. low_named names name (pair_at rows k) ≡ false)
     c.all.ensures.ran (λ x q k. search (rules, tests)) (λ x q k. search (rules, tests))) c.if-all.false

@@ -12,7 +12,7 @@ use Rattle.mouth_proposals.proofs.mouths.inner_fit.Goals as goal
 pub returns : goal.returns
 returns c =
     let s = c.args in
-    let fits = inner_fits s.regions.marks.now s.regions.counts.now s.outer s.r in
+    let fits = inner_fits s.regions.marks.now s.regions.counts.now s.sides.outer s.sides.approach in
     let both : Pair → Bool = λ p. fits p.lo && fits p.hi in
     all_from_yields_List (λ k. both (pair_at s.pairs.now k)) _ _ c.all.result c.all.ensures.ran (YieldsList-from_range _ _ _ refl refl) (λ x b q k. search (rules, tests))
     ∙ all_in_rows both s.pairs.now _ _

@@ -8,9 +8,10 @@ use Rattle.mouth_proposals.proofs.mouths.single_mouth.Goals as goal
 pub returns : goal.returns
 returns c =
     let s = c.args in
-    λ C m a I A n b w o.
-    let two = two_shown A I s.r c.requires.r_named.0 n.1 c.incident_count-two.ensures in
+    λ C m a I A n b M.
+    let o = c.overlay_only-overlay.ensures C m a M in
+    let two = two_shown A I s.sides.approach c.requires.approach_named.0 n.1 c.incident_count-two.ensures in
     ap (candidate_form C m a) c.then_some.ensures
-    ∙ single_by C m a s.outer s.r (anchored-shown A s.r c.requires.r_named.0 n.1 c.is_anchored-2.ensures)
-    (λ i. sym o i && (anchored-shown A s.outer c.requires.outer_named.0 n.0 c.is_anchored.ensures i || not (two i))) (sym b) (λ i. (sym w i || sym o i) && two i)
+    ∙ single_by C m a s.sides.outer s.sides.approach (anchored-shown A s.sides.approach c.requires.approach_named.0 n.1 c.is_anchored-2.ensures)
+    (λ i. sym o i && (anchored-shown A s.sides.outer c.requires.outer_named.0 n.0 c.is_anchored.ensures i || not (two i))) (sym b) (λ i. (sym M.broad i || sym o i) && two i)
     c.of_approach.ensures
