@@ -43,11 +43,11 @@ pub struct SpanWalk<'a> {
 
 impl SpanWalk<'_> {
     // The cell at m across column, or row, k.
-    fn cell(self, k: usize, m: usize) -> WalkPosition
+    fn cell(self, columns: bool, k: usize, m: usize) -> WalkPosition
+        requires { columns ≡ self.strip.columns }
         ensures x { result.x ≡ cond self.entry.strip.columns k m }
         ensures y { result.y ≡ cond self.entry.strip.columns m k }
     {
-        let columns = self.strip.columns;
         WalkPosition {
             x: pick(columns, k, m),
             y: pick(columns, m, k),
@@ -62,10 +62,11 @@ impl SpanWalk<'_> {
     }
 
     // How many cells each of them has.
-    fn breadth(self) -> usize
+    fn breadth(self, columns: bool) -> usize
+        requires { columns ≡ self.strip.columns }
         ensures { result ≡ minor_side self.entry.strip self.entry.grid.width self.entry.grid.height }
     {
-        pick(self.strip.columns, self.grid.height, self.grid.width)
+        pick(columns, self.grid.height, self.grid.width)
     }
 }
 
@@ -115,9 +116,11 @@ fn walk_column<V: StepVisitor>(walk: SpanWalk, visitor: &mut V, k: usize)
     requires is_ready { V.ready (walk_map walk) (column_steps walk k) max_side visitor.old }
     ensures { V.visited (walk_map walk.entry) (column_steps walk.entry k) max_side visitor.old visitor.new }
 {
-    let range = near_range(walk.g, walk.strip, k as u64, walk.breadth() as u64);
+    let columns = walk.strip.columns;
+    let breadth = walk.breadth(columns);
+    let range = near_range(walk.g, walk.strip, k as u64, breadth as u64);
     for m in range.first as usize..range.last as usize + 1 {
-        walk_cell(walk, visitor, walk.cell(k, m));
+        walk_cell(walk, visitor, walk.cell(columns, k, m));
     }
 }
 
@@ -132,7 +135,7 @@ fn is_placed(beyond: usize, limit: usize) -> bool
 }
 
 // Visits the cut steps of the cell at `beyond` - 2 across column, or row, k, if there is one. Its changes of sides are given.
-fn walk_across<V: StepVisitor>(
+fn walk_across<V: StepVisitor, const COLUMNS: bool>(
     walk: SpanWalk,
     visitor: &mut V,
     k: usize,
@@ -140,6 +143,7 @@ fn walk_across<V: StepVisitor>(
     changes: u16,
 )
     requires asked { ColumnIn walk k }
+    requires axis { COLUMNS ≡ walk.strip.columns }
     requires changes { CrossedAt (segment_of walk.g) walk.strip k beyond changes }
     requires is_ready { V.ready (walk_map walk) (across_steps walk k beyond) 1 visitor.old }
     ensures { V.visited (walk_map walk.entry) (across_steps walk.entry k beyond) 1 visitor.old visitor.new }
@@ -147,16 +151,16 @@ fn walk_across<V: StepVisitor>(
     if changes == 0 {
         return;
     }
-    if !is_placed(beyond, walk.breadth()) {
+    if !is_placed(beyond, walk.breadth(COLUMNS)) {
         return;
     }
-    let cell = walk.cell(k, beyond - 2);
+    let cell = walk.cell(COLUMNS, k, beyond - 2);
     let directions = visitor.crossed_directions(walk, cell, changes);
     visitor.visit(walk, cell, directions);
 }
 
 // Visits the cut steps of the candidates in column, or row, k, by the first places past the line there and beside it: those of four cells.
-fn walk_crossing<V: StepVisitor>(
+fn walk_crossing<V: StepVisitor, const COLUMNS: bool>(
     walk: SpanWalk,
     visitor: &mut V,
     k: usize,
@@ -165,22 +169,28 @@ fn walk_crossing<V: StepVisitor>(
     after: usize,
 )
     requires asked { ColumnIn walk k }
+    requires axis { COLUMNS ≡ walk.strip.columns }
     requires follows { FollowsIn walk.strip (segment_of walk.g) k before here after }
     requires is_ready { V.ready (walk_map walk) (column_steps walk k) max_side visitor.old }
     ensures { V.visited (walk_map walk.entry) (column_steps walk.entry k) max_side visitor.old visitor.new }
 {
-    let columns = walk.strip.columns;
     let back = before + 2 - here;
     let ahead = after + 2 - here;
     for j in 0..4 {
-        let changes = side_changes(columns, back, ahead, j);
-        walk_across(walk, visitor, k, here + j, changes);
+        let changes = side_changes(COLUMNS, back, ahead, j);
+        walk_across::<V, COLUMNS>(walk, visitor, k, here + j, changes);
     }
 }
 
 // Visits the cut steps of the candidates in the columns, or rows, from `from` on before `to`, which are between the span's ends.
-fn walk_between<V: StepVisitor>(walk: SpanWalk, visitor: &mut V, from: usize, to: usize)
+fn walk_between<V: StepVisitor, const COLUMNS: bool>(
+    walk: SpanWalk,
+    visitor: &mut V,
+    from: usize,
+    to: usize,
+)
     requires asked { ColumnsIn walk from to }
+    requires axis { COLUMNS ≡ walk.strip.columns }
     requires between { BetweenAsked (segment_of walk.g) walk.strip from to × (from < to) }
     requires is_ready { V.ready (walk_map walk) (columns_steps walk from to) (max_side * (to - from)) visitor.old }
     ensures { V.visited (walk_map walk.entry) (columns_steps walk.entry from to) (max_side * (to - from)) visitor.old visitor.new }
@@ -191,7 +201,7 @@ fn walk_between<V: StepVisitor>(walk: SpanWalk, visitor: &mut V, from: usize, to
     let mut here = next_place(strip, tie, from as u64 - 1, before);
     for k in from..to {
         let after = next_place(strip, tie, k as u64, here);
-        walk_crossing(
+        walk_crossing::<V, COLUMNS>(
             walk,
             visitor,
             k,
@@ -257,7 +267,11 @@ fn walk_part<V: StepVisitor>(walk: SpanWalk, visitor: &mut V, from: usize, to: u
         walk_column(walk, visitor, from);
         return;
     }
-    walk_between(walk, visitor, from, to);
+    if walk.strip.columns {
+        walk_between::<V, true>(walk, visitor, from, to);
+    } else {
+        walk_between::<V, false>(walk, visitor, from, to);
+    }
 }
 
 // Visits the cut steps of one span. One without a column, or row, between its ends has single ones only.

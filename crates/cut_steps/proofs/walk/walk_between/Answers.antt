@@ -81,6 +81,7 @@ walk_crossing-requires g c =
     let i = c.loop-k.invariant in
     record {
       asked = (asked.0, column-asked asked.1 i.0.from_k c.loop-k-test.true);
+      axis = c.requires.axis;
       follows = follows-in c.requires.between.0 asked.1.usable c.tie_of-tie.ensures i.0.from_k c.loop-k-test.true i.1 i.2 c.next_place-after.ensures.crossing i.3 c.next_place-after.ensures.close;
       is_ready = ready_at g.met.V.StepVisitor.laws (walk_map walk) (column_steps walk) max_side a.from a.to i.0 refl (le_refl _) c.requires.is_ready c.loop-k-test.true;
     }

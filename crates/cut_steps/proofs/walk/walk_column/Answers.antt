@@ -11,7 +11,7 @@ use Rattle.cut_steps.proofs.Walks.{cell_of_column, range-joined, range-few}
 use Rattle.cut_steps.proofs.walk.walk_column.Goals as goal
 
 pub near_range-range-requires : goal.near_range-range-requires
-near_range-range-requires g c = let p = c.requires.asked in (p.0.sound, p.1.usable, column_in p.0.narrow p.0.short p.1, omega (arith, c.breadth.ensures, p.1.some))
+near_range-range-requires g c = let p = c.requires.asked in (p.0.sound, p.1.usable, column_in p.0.narrow p.0.short p.1, omega (arith, c.breadth-breadth.ensures, p.1.some))
 
 pub loop-m-init : goal.loop-m-init
 loop-m-init g c =
@@ -27,9 +27,9 @@ walk_cell-requires g c =
     let r = c.near_range-range.result in
     let p = c.requires.asked in
     let near = c.near_range-range.ensures in
-    let i = cell_in walk.strip.columns c.cell.ensures.x c.cell.ensures.y p.1.column (omega (arith, c.loop-m-test.true, near.inside, c.breadth.ensures)) in
+    let i = cell_in walk.strip.columns c.cell.ensures.x c.cell.ensures.y p.1.column (omega (arith, c.loop-m-test.true, near.inside, c.breadth-breadth.ensures)) in
     let R = ready_at g.met.V.StepVisitor.laws M (cut_across M (segment_of walk.g) walk.strip.columns k) 1 r.first (r.last + 1) c.loop-m.invariant
-    (range-joined M (segment_of walk.g) walk.strip k c.breadth.ensures near) (range-few walk.strip r.first r.last p.0.narrow p.0.short c.breadth.ensures near.inside) c.requires.is_ready c.loop-m-test.true in
+    (range-joined M (segment_of walk.g) walk.strip k c.breadth-breadth.ensures near) (range-few walk.strip r.first r.last p.0.narrow p.0.short c.breadth-breadth.ensures near.inside) c.requires.is_ready c.loop-m-test.true in
     record {
       asked = cell_of_column p.0 i.0 i.1;
       is_ready = subst (λ q. g.V.StepVisitor.ready M (cut_from M (segment_of walk.g) q) 1 c.loop-m.visitor) (sym (cell_at walk.strip.columns k c.loop-m.m c.cell.ensures.x c.cell.ensures.y)) R;
@@ -52,5 +52,5 @@ returns g c =
     let r = c.near_range-range.result in
     let p = c.requires.asked in
     let near = c.near_range-range.ensures in
-    visited_as g.met.V.StepVisitor.laws M (sym (range-joined M (segment_of walk.g) walk.strip k c.breadth.ensures near))
-    (passing-done g.met.V.StepVisitor.laws M (cut_across M (segment_of walk.g) walk.strip.columns k) 1 r.first (r.last + 1) c.loop-m.invariant c.loop-m-test.false (range-few walk.strip r.first r.last p.0.narrow p.0.short c.breadth.ensures near.inside))
+    visited_as g.met.V.StepVisitor.laws M (sym (range-joined M (segment_of walk.g) walk.strip k c.breadth-breadth.ensures near))
+    (passing-done g.met.V.StepVisitor.laws M (cut_across M (segment_of walk.g) walk.strip.columns k) 1 r.first (r.last + 1) c.loop-m.invariant c.loop-m-test.false (range-few walk.strip r.first r.last p.0.narrow p.0.short c.breadth-breadth.ensures near.inside))

@@ -2,13 +2,13 @@
 -- nothing.
 use Prim.Native.Nat.{ℕ, ◌+◌, ◌-◌, ◌*◌, ◌≤◌}
 use native.Mathlib.Omega.{arith}
-use mathlib.Core.Path.{◌≡◌, refl, sym, subst}
+use mathlib.Core.Path.{◌≡◌, refl, sym, ap, ◌∙◌, subst}
 use Rattle.definitions.specs.Limits.{max_side}
 use Rattle.definitions.specs.Grid.{Segment}
 use Rattle.span_geometry.specs.declared.strips.Strip.{Strip}
 use Rattle.span_geometry.specs.Shapes.{segment_of}
 use Rattle.line_crossings.proofs.Moving.{small}
-use Rattle.cut_steps.specs.Crossed.{FollowsIn}
+use Rattle.cut_steps.specs.Crossed.{changes_at, FollowsIn}
 use Rattle.cut_steps.specs.Walks.{walk_map, across_steps}
 use Rattle.cut_steps.proofs.Across.{tie-few, crossing_at}
 use Rattle.cut_steps.proofs.Passing.{Passing, visited_as, passing-start, passing-more, passing-done, ready_at}
@@ -76,7 +76,9 @@ walk_across-requires g c =
     let joined = four-joined walk.grid.width walk.grid.height walk.grid.cells.now (segment_of walk.g) c.requires.asked.1 c.requires.follows in
     record {
       asked = c.requires.asked;
-      changes = crossing_at c.requires.follows c.loop-j.j refl c.side_changes-changes.ensures;
+      axis = c.requires.axis;
+      changes = crossing_at c.requires.follows c.loop-j.j refl
+          (c.side_changes-changes.ensures ∙ ap (λ t. changes_at t (a.before + 2 - a.here) 2 (a.after + 2 - a.here) c.loop-j.j) c.requires.axis);
       is_ready = ready_at g.met.V.StepVisitor.laws M (across_steps walk a.k) 1 a.here (a.here + 4) c.loop-j.invariant.1 joined (four_few a.here) c.requires.is_ready (omega (arith, c.loop-j-test.true));
     }
 

@@ -1,6 +1,7 @@
 -- `walk_part` meets its contract: a part of more than one column, or row, is between the span's ends. Assumes nothing.
 use Prim.Native.Nat.{ℕ, ◌+◌, ◌-◌, ◌*◌, ◌≤◌, ◌<◌}
 use native.Mathlib.Omega.{arith}
+use mathlib.Core.Path.{sym}
 use native.Mathlib.Nat.{le_refl}
 use Rattle.definitions.specs.Limits.{max_side}
 use Rattle.span_geometry.specs.Shapes.{segment_of}
@@ -36,4 +37,8 @@ returns-then-to-from g c =
 
 pub walk_between-requires : goal.walk_between-requires
 walk_between-requires g c =
-    record { asked = c.requires.asked; between = (c.requires.part.between c.if-to-from.false, c.requires.part.some); is_ready = c.requires.is_ready }
+    record { asked = c.requires.asked; axis = sym c.if-walk.true; between = (c.requires.part.between c.if-to-from.false, c.requires.part.some); is_ready = c.requires.is_ready }
+
+pub walk_between-requires-else-walk : goal.walk_between-requires-else-walk
+walk_between-requires-else-walk g c =
+    record { asked = c.requires.asked; axis = sym c.if-walk.false; between = (c.requires.part.between c.if-to-from.false, c.requires.part.some); is_ready = c.requires.is_ready }
