@@ -1,5 +1,4 @@
 mod Passing
-mod Filling
 mod WordLaws
 mod Numbers
 mod Marks

@@ -1,7 +1,8 @@
 // Labels take the place of parents, from the first cell on: a parent stands before its child, so that it has its label when the child's is asked for.
 ghost use Rattle.std.specs.Prelude.{◌≡◌, ℕ, ◌≤◌, length};
-ghost use Rattle.row_runs.specs.Numbered.{label_at, LabelAsked, Filled, Named, NumberAsked, Numbered};
+ghost use Rattle.row_runs.specs.Numbered.{label_at, LabelAsked, Named, NumberAsked, Numbered};
 
+use crate::run::put_alike;
 use crate::tests::is_walkable;
 
 // The label of the stretch whose first cell is c, where `id` labels are given before it. Who is his own parent gets the next.
@@ -19,15 +20,6 @@ fn label_at(cells: &[u8], labels: &[u32], c: usize, id: u32) -> u32
     labels[p]
 }
 
-fn put_label(labels: &mut [u32], from: usize, end: usize, label: u32)
-    requires { (from ≤ end) × (end ≤ length labels.old) }
-    ensures { Filled from end label labels.old labels.new }
-{
-    for c in from..end {
-        labels[c] = label;
-    }
-}
-
 // All stretches, one behind another. The greatest label given is how many there are.
 pub fn number(cells: &[u8], labels: &mut [u32], queue: &[u32], n: usize) -> usize
     requires { NumberAsked cells.now labels.old queue.now n }
@@ -41,7 +33,7 @@ pub fn number(cells: &[u8], labels: &mut [u32], queue: &[u32], n: usize) -> usiz
     while c < n {
         let e = queue[c] as usize;
         let label = label_at(cells, labels, c, id);
-        put_label(labels, c, e, label);
+        put_alike(labels, c, e, label);
         id = id.max(label);
         c = e;
     }

@@ -32,6 +32,7 @@ fn alike_end(cells: &[u8], from: usize, end: usize, walkable: bool) -> usize
     ensures { Until (walks_as walkable cells.now) from end result }
 {
     let words = (end - from) / 8;
+    // Kept: `find` would give the word and not its flags, which would then be asked for twice.
     for k in 0..words {
         let c = from + 8 * k;
         let flags = unlike_flags(cells, c, walkable);

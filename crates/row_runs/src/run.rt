@@ -1,11 +1,20 @@
 // The cells of a row get their parents: those of a run its first cell, all others themselves.
-ghost use Rattle.std.specs.Prelude.{ℕ, ◌≤◌, ◌<◌};
+ghost use Rattle.std.specs.Prelude.{ℕ, ◌≤◌, ◌<◌, length};
 ghost use Rattle.parents.specs.Forest.{Forest};
+ghost use Rattle.row_runs.specs.Numbered.{Filled};
 ghost use Rattle.row_runs.specs.Names.{Fresh, RunAsked, RunPut, PutAsked, StretchPut, ScanAsked, RowScanned};
 
 use crate::grid::CutGrid;
 use crate::row::stretch_end;
 use crate::tests::is_walkable;
+
+// One value for all entries of a stretch.
+pub fn put_alike(list: &mut [u32], from: usize, end: usize, value: u32)
+    requires { (from ≤ end) × (end ≤ length list.old) }
+    ensures { Filled from end value list.old list.new }
+{
+    list[from..end].fill(value);
+}
 
 pub fn put_run(parents: &mut [u32], from: usize, end: usize)
     requires { RunAsked parents.old from end }
@@ -15,9 +24,7 @@ pub fn put_run(parents: &mut [u32], from: usize, end: usize)
         end ≤ n →
         RunPut n name from end parents.old parents.new }
 {
-    for c in from..end {
-        parents[c] = from as u32;
-    }
+    put_alike(parents, from, end, from as u32);
 }
 
 // A gap's cells stay alone.

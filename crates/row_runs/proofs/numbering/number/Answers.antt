@@ -14,8 +14,8 @@ pub label_at-label-requires : goal.label_at-label-requires
 label_at-label-requires c =
     label-asked c.loop-c.invariant c.requires c.loop-c-test.true
 
-pub put_label-requires : goal.put_label-requires
-put_label-requires c =
+pub put_alike-requires : goal.put_alike-requires
+put_alike-requires c =
     let I = c.loop-c.invariant in
     let A = c.requires in
     let h = c.loop-c-test.true in
@@ -27,7 +27,7 @@ loop-c-smaller c =
 
 pub loop-c-preserved : goal.loop-c-preserved
 loop-c-preserved c =
-    numbering_goes_on c.loop-c.invariant c.requires c.loop-c-test.true refl c.label_at-label.ensures c.put_label.ensures c.max-id.ensures
+    numbering_goes_on c.loop-c.invariant c.requires c.loop-c-test.true refl c.label_at-label.ensures c.put_alike.ensures c.max-id.ensures
 
 pub shape_of-labels : goal.shape_of-labels
 shape_of-labels c = labels_long_lem c.loop-c.invariant c.requires
