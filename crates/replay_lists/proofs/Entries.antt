@@ -1,14 +1,12 @@
--- Entries one by one: a list that is copied, and a walk from the back that stops at the first entry that changed. Assumes nothing.
+-- Entries one by one of a list that is copied, and how many of a copy changed. Assumes nothing.
 use Prim.Native.Nat.{ℕ, ◌+◌, ◌-◌, ◌≤◌, ◌<◌, min}
 use native.Mathlib.Omega.{arith}
 use mathlib.Core.Path.{◌≡◌, sym, subst, ◌∙◌}
-use mathlib.Core.Logic.{inl, inr}
 use mathlib.Core.List.{List}
-use native.Mathlib.Nat.{eq-or-lt_of_le}
 use borrow.Author.Count.{below_more}
 use lib.ListN.{length, get_or, set, take, length-take}
 use lib.Seq.{get_or-set_same, get_or-set_other, get_or-take}
-use Rattle.replay_lists.specs.Contract.{held_at, Copied, Changed}
+use Rattle.replay_lists.specs.Contract.{Copied, Changed}
 
 -- one entry more is copied
 pub copied_more : (l m : List ℕ) (i v : ℕ) → i < length m → v ≡ get_or l i 0 → ((k : ℕ) → k < i → get_or m k 0 ≡ get_or l k 0)
@@ -36,24 +34,3 @@ module _ (l m : List ℕ) (n : ℕ) (e : n ≡ min 4096 (length l)) (f : n ≤ l
   changed_copied {r} C =
       let whole : n - 0 ≡ n = omega arith in
       changed_taken (subst (λ k. Changed (take k m) r) whole C)
-
--- ---- from the back: the entries from n on are as they were
-
-pub record LeftFrom (l : List ℕ) (n : ℕ) : Type 0 where
-  pub within : n ≤ length l
-  pub left : (i : ℕ) → n ≤ i → i < length l → get_or l i 0 ≡ held_at i
-
-pub left-all : (l : List ℕ) → LeftFrom l (length l)
-left-all l = record { within = omega arith; left = λ i h k. absurd (omega (arith, h, k)) }
-
-pub left_more : (l : List ℕ) (n : ℕ) → 0 < n → LeftFrom l n → get_or l (n - 1) 0 ≡ held_at (n - 1) → LeftFrom l (n - 1)
-left_more l n h F e = record { within = omega (arith, F.within); left = λ i a b. elim (eq-or-lt_of_le a) [ inl q ↦ subst (λ k. get_or l k 0 ≡ held_at k) q e | inr lt ↦ F.left i (omega (arith, lt, h)) b ] }
-
-pub changed_at : (l : List ℕ) (n : ℕ) → 0 < n → LeftFrom l n → (get_or l (n - 1) 0 ≡ held_at (n - 1) → ⊥) → Changed l n
-changed_at l n h F d = record { within = F.within; left = F.left; last = λ i q e. d (subst (λ k. get_or l k 0 ≡ held_at k) (before i q) e) }
-  where
-    before : (i : ℕ) → n ≡ i + 1 → i ≡ n - 1
-    before i q = omega (arith, q)
-
-pub changed_none : (l : List ℕ) (n : ℕ) → n ≡ 0 → LeftFrom l n → Changed l 0
-changed_none l n z F = record { within = omega arith; left = λ i h k. F.left i (omega (arith, z)) k; last = λ i q e. absurd (omega (arith, q)) }

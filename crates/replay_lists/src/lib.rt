@@ -45,12 +45,9 @@ pub fn wide_numbers_before() -> [u64; 4096]
 fn changed(list: &[u64]) -> usize
     ensures { Changed list.now result }
 {
-    for last in (0..list.len()).rev() {
-        if list[last] != held_before(last) {
-            return last + 1;
-        }
-    }
-    0
+    (0..list.len())
+        .rfind(|&last| list[last] != held_before(last))
+        .map_or(0, |last| last + 1)
 }
 
 // How many entries in front are zero.
