@@ -2,7 +2,8 @@
 
 ghost use Rattle.game_lists.specs.Forms.{answer_in};
 ghost use Rattle.topology.specs.Games.{PlayedOver};
-ghost use Rattle.topology.specs.Contract.{exported, RanOver};
+ghost use Rattle.refusals.specs.Answers.{answer_in};
+ghost use Rattle.topology.specs.Contract.{RanOver};
 ghost use Rattle.ranked_finish.specs.Ends.{ranked_form};
 ghost use Rattle.topology.specs.Ranked.{RankedOver};
 ghost use Rattle.report_figures.specs.Forms.{report_form};
@@ -14,7 +15,6 @@ use context::Region;
 use game_lists::play::GameAnswer;
 use ranked_finish::RankedAnswer;
 use report_figures::{Report, Reported};
-use topology::TopologyAnswer;
 use topology::to_rest::RestAnswer;
 use topology::two_desks::DesksAnswer;
 
@@ -89,7 +89,7 @@ pub extern "C" fn jenwyllt_kept_boundaries(
     pairs: &mut [u32],
     records: &mut [Region],
     output: &mut [u64],
-) -> TopologyAnswer
+) -> Answer
     ensures { RanOver pass
         (record {
           width = width;
@@ -106,7 +106,7 @@ pub extern "C" fn jenwyllt_kept_boundaries(
           records = records.old;
           output = output.old;
         })
-        (exported result)
+        (answer_in result)
         (record {
           labels = labels.new;
           masks = masks.new;

@@ -64,7 +64,8 @@ use Rattle.ranked_list.proofs.RankedLaws.{chosen}
 use Rattle.ranked_list.proofs.RankedCalls.{ranked_in, Greedy}
 use Rattle.ranked_list.proofs.RankedCalls as ranks
 use Rattle.topology.specs.Lent.{LentLists, LeftLists, lent_map, lent_call}
-use Rattle.topology.specs.Contract.{exported, RanOver}
+use Rattle.refusals.specs.Answers.{answer_in}
+use Rattle.topology.specs.Contract.{RanOver}
 use Rattle.topology.specs.Desks.{LentBoth, LeftBoth, shared_lent, RanBothOver}
 use Rattle.topology.specs.declared.two_desks.DesksAnswer.{DesksAnswer}
 use Rattle.topology.specs.Rest.{RestRanOver}
@@ -326,11 +327,11 @@ pool_accepted = returned.accepted
 
 -- two calls with one desk, beside whatever other desk, in either order, whatever the shared lists held at entry, as long as they are as long
 module _ {x x' : ℕ} {L L' : LentBoth} {A B C : Desk} {r r' : DesksAnswer} {E E' : LeftBoth} (same : SameGround (shared_lent L) (shared_lent L')) where
-  pub route-desk-free : RanBothOver x L A B r E → RanBothOver x' L' A C r' E' → (exported r.route ≡ exported r'.route) × (E.route_output_lem ≡ E'.route_output_lem)
+  pub route-desk-free : RanBothOver x L A B r E → RanBothOver x' L' A C r' E' → (answer_in r.route ≡ answer_in r'.route) × (E.route_output_lem ≡ E'.route_output_lem)
   route-desk-free call call' = desks.route-free same call.ran call'.ran
 
   pub coaching-desk-free : RanBothOver x L A B r E → RanBothOver x' L' C B r' E'
-      → (exported r.coaching ≡ exported r'.coaching) × (E.coaching_output_lem ≡ E'.coaching_output_lem)
+      → (answer_in r.coaching ≡ answer_in r'.coaching) × (E.coaching_output_lem ≡ E'.coaching_output_lem)
   coaching-desk-free call call' = desks.coaching-free same call.ran call'.ran
 
 -- the shared lists are the same, whatever the desks and their order
@@ -342,26 +343,26 @@ desk-lists-free call call' = desks.lists-free call.ran call'.ran
 module _ {x : ℕ} {L : LentBoth} {A B : Desk} {r : DesksAnswer} {E : LeftBoth} (call : RanBothOver x L A B r E) where
   -- a desk that is accepted has what the call of its pass with its lists alone has, and so do the shared lists
   pub route-desk-alone : r.route.number ≡ 0
-      → Ran (desk.alone (shared_lent L) A) (exported r.route) E.labels E.masks E.queue E.tallies E.pairs (map record_of E.records) E.route_output_lem
+      → Ran (desk.alone (shared_lent L) A) (answer_in r.route) E.labels E.masks E.queue E.tallies E.pairs (map record_of E.records) E.route_output_lem
   route-desk-alone = desk-calls.route-alone call.ran
 
   pub coaching-desk-alone : r.coaching.number ≡ 0
-      → Ran (desk.alone (shared_lent L) B) (exported r.coaching) E.labels E.masks E.queue E.tallies E.pairs (map record_of E.records) E.coaching_output_lem
+      → Ran (desk.alone (shared_lent L) B) (answer_in r.coaching) E.labels E.masks E.queue E.tallies E.pairs (map record_of E.records) E.coaching_output_lem
   coaching-desk-alone = desk-calls.coaching-alone call.ran
 
   -- a refusal over the shared lists goes to both
   pub desks_refused-both : {f : Refusal} → shared_refusal (shared_lent L) ≡ Some f
-      → RefusedWith A f (exported r.route) E.route_output_lem × RefusedWith B f (exported r.coaching) E.coaching_output_lem
+      → RefusedWith A f (answer_in r.route) E.route_output_lem × RefusedWith B f (answer_in r.coaching) E.coaching_output_lem
   desks_refused-both = desks.goes_to_both call.ran
 
   -- a desk's own leaves its output as it was, and the shared lists as on success
   pub route-desk-refused : {f : Refusal} → shared_refusal (shared_lent L) ≡ None → desk_refusal (shared_lent L) A ≡ Some f
-      → RefusedWith A f (exported r.route) E.route_output_lem
+      → RefusedWith A f (answer_in r.route) E.route_output_lem
       × LeftAsOnSuccess (shared_lent L) E.labels E.masks E.queue E.tallies E.pairs (map record_of E.records)
   route-desk-refused = desks.route-refused call.ran
 
   pub coaching-desk-refused : {f : Refusal} → shared_refusal (shared_lent L) ≡ None → desk_refusal (shared_lent L) B ≡ Some f
-      → RefusedWith B f (exported r.coaching) E.coaching_output_lem
+      → RefusedWith B f (answer_in r.coaching) E.coaching_output_lem
       × LeftAsOnSuccess (shared_lent L) E.labels E.masks E.queue E.tallies E.pairs (map record_of E.records)
   coaching-desk-refused = desks.coaching-refused call.ran
 

@@ -10,7 +10,7 @@ ghost use Rattle.pass_lists.specs.Finished.{Finishes};
 ghost use Rattle.ranked_finish.specs.Ends.{ranked_form, RankedRefused, RankedFinished};
 ghost use Rattle.refusals.specs.Refusals.{number_of};
 
-use call_partition::scratch::clear_scratch;
+use areas::scratch::clear_scratch;
 use pass_lists::finish;
 use ranked_rows::NUMBERS_PER_RANKED;
 use refusals::{Cause, Refusal};

@@ -16,9 +16,10 @@ use Rattle.report_figures.specs.Forms.{report_form}
 use Rattle.report_figures.specs.Calls.{CallLeft, ReportedCall}
 use Rattle.report_figures.proofs.Called.{call-left, call-added}
 use Rattle.topology.specs.Lent.{LentLists, LeftLists, lent_call}
-use Rattle.topology.specs.Contract.{exported, RanOver}
+use Rattle.topology.specs.Contract.{RanOver}
 use Rattle.topology.specs.Reports.{ReportedOver}
-use Rattle.topology.specs.declared.TopologyAnswer.{TopologyAnswer}
+use Rattle.refusals.specs.Answers.{answer_in}
+use Rattle.refusals.specs.declared.answers.Answer.{Answer}
 use Rattle.topology.proofs.Lending.{leaves}
 
 -- the lists that are lent to be filled, as they were
@@ -26,7 +27,7 @@ abbrev pub untouched : LentLists → LeftLists
 untouched L = leaves L.labels L.masks L.queue L.tallies L.pairs L.records L.output
 
 module _ {pass : ℕ} {L : LentLists} where
-  module _ {a : TopologyAnswer} {E : LeftLists} (ran : RanOver pass L (exported a) E) where
+  module _ {a : Answer} {E : LeftLists} (ran : RanOver pass L (answer_in a) E) where
     -- what adding it asks
     pub ran-left : CallLeft pass a.number a.value E.output
     ran-left = call-left (lent_call pass L) ran.ran.answer ran.ran.output
@@ -36,7 +37,7 @@ module _ {pass : ℕ} {L : LentLists} where
         → ReportedOver (report_form report) pass L r E
     ran-reported report e k {r} K =
         let room : report.runs < max_runs = ltb-true report.runs max_runs (sym e ∙ k) in
-        let same : exported a ≡ record { number = r.number; value = r.value } = λ i. record { number = sym K.same_number i; value = sym K.same_value i } in
+        let same : answer_in a ≡ record { number = r.number; value = r.value } = λ i. record { number = sym K.same_number i; value = sym K.same_value i } in
         record {
           report =
               K.added

@@ -39,10 +39,11 @@ use Rattle.desk_checks.proofs.DeskReady.{desk-ready}
 use Rattle.topology.specs.Filled.{Filled}
 use Rattle.topology.specs.Marks.{IsPass, Lent, MarkedFor}
 use Rattle.rest_lists.proofs.Inner.{zeroed-length}
-use Rattle.topology.specs.Contract.{exported, written}
+use Rattle.topology.specs.Contract.{written}
 use Rattle.topology.specs.Desks.{desk_of, Ground, shared_of, Partitioned, Terrain, DeskRan, DesksRan, RanBothOver}
 use Rattle.topology.proofs.Lending.{lends_both, leaves-both}
-use Rattle.topology.specs.declared.TopologyAnswer.{TopologyAnswer}
+use Rattle.refusals.specs.Answers.{answer_in}
+use Rattle.refusals.specs.declared.answers.Answer.{Answer}
 use Rattle.topology.specs.declared.two_desks.DesksAnswer.{DesksAnswer}
 use Rattle.topology.proofs.Calling.{is_pass, ready-lent, ran_over, needed-few}
 
@@ -106,7 +107,7 @@ module _ {G : Ground} {w h : ℕ} {spans : List ℕ} {regions rows : ℕ} {l m q
 
   module _ (pass : ℕ) (boundaries anchors o : List ℕ) where
     -- its own lists are refused
-    pub desk-refused : {a : TopologyAnswer} → exported a ≡ answer_from (own_refusal w h spans pass boundaries anchors (length o)) 0 → (a.number ≡ 0 → ⊥)
+    pub desk-refused : {a : Answer} → answer_in a ≡ answer_from (own_refusal w h spans pass boundaries anchors (length o)) 0 → (a.number ≡ 0 → ⊥)
         → DeskRan G w h spans (desk_of pass boundaries anchors o) m q a m q o
     desk-refused {a} e positive =
         let own = refused_is (own_refusal w h spans pass boundaries anchors (length o)) a.number a.value e positive in
@@ -117,7 +118,7 @@ module _ {G : Ground} {w h : ℕ} {spans : List ℕ} {regions rows : ℕ} {l m q
         }
 
     -- they are not
-    pub desk-passed : {a : TopologyAnswer} → exported a ≡ answer_from (own_refusal w h spans pass boundaries anchors (length o)) 0 → a.number ≡ 0
+    pub desk-passed : {a : Answer} → answer_in a ≡ answer_from (own_refusal w h spans pass boundaries anchors (length o)) 0 → a.number ≡ 0
         → own_refusal w h spans pass boundaries anchors (length o) ≡ None
     desk-passed e zero = own-numbered w h spans pass boundaries anchors (length o) 0 (sym (ap (λ (x : verdict.Answer). x.number) e) ∙ zero)
 
@@ -173,7 +174,7 @@ module _ {G : Ground} {w h : ℕ} {spans : List ℕ} {regions rows : ℕ} {l m q
             }
 
         -- what it leaves
-        pub desk-ran : {m₃ q₃ o₃ : List ℕ} {a : TopologyAnswer} → a.number ≡ 0
+        pub desk-ran : {m₃ q₃ o₃ : List ℕ} {a : Answer} → a.number ≡ 0
             → Finished (h * w) (length boundaries / numbers_per_boundary) boundaries removed m₂ q₂ o m₃ q₃ o₃ a.value
             → DeskRan G w h spans (desk_of pass boundaries anchors o) m q a m₃ q₃ o₃
         unfolding call_exit exit_with stage_of map_in map_of cell_count
@@ -181,7 +182,7 @@ module _ {G : Ground} {w h : ℕ} {spans : List ℕ} {regions rows : ℕ} {l m q
             let D = desk_of pass boundaries anchors o in
             let S = shared_of w h spans G in
             let ran = (ran_over own own-filled marked refl refl fin).ran in
-            let e : ◌≡◌ {A = verdict.Answer} (exported a) (record { number = 0; value = a.value }) = λ i. record { number = zero i; value = a.value } in
+            let e : ◌≡◌ {A = verdict.Answer} (answer_in a) (record { number = 0; value = a.value }) = λ i. record { number = zero i; value = a.value } in
             record {
               served = record {
                 answer = e ∙ ran.answer ∙ sym (answer-alone S D (none_shared P) passed);
@@ -194,12 +195,12 @@ module _ {G : Ground} {w h : ℕ} {spans : List ℕ} {regions rows : ℕ} {l m q
 -- ---- both desks
 
 -- each over what the other left, whichever goes first
-module _ {G : Ground} {w h : ℕ} {spans : List ℕ} {A B : Desk} {a b : TopologyAnswer} {m q m₂ q₂ o u : List ℕ} {r : DesksAnswer} (e : r ≡ record { route = a; coaching = b }) where
-  both-ran : Served (shared_of w h spans G) A (exported a) o → Served (shared_of w h spans G) B (exported b) u → m₂ ≡ m → q₂ ≡ q → DesksRan G w h spans A B m q r m₂ q₂ o u
+module _ {G : Ground} {w h : ℕ} {spans : List ℕ} {A B : Desk} {a b : Answer} {m q m₂ q₂ o u : List ℕ} {r : DesksAnswer} (e : r ≡ record { route = a; coaching = b }) where
+  both-ran : Served (shared_of w h spans G) A (answer_in a) o → Served (shared_of w h spans G) B (answer_in b) u → m₂ ≡ m → q₂ ≡ q → DesksRan G w h spans A B m q r m₂ q₂ o u
   both-ran x y f g =
       record {
-        route = subst (λ (z : DesksAnswer). Served (shared_of w h spans G) A (exported z.route) o) (sym e) x;
-        coaching = subst (λ (z : DesksAnswer). Served (shared_of w h spans G) B (exported z.coaching) u) (sym e) y;
+        route = subst (λ (z : DesksAnswer). Served (shared_of w h spans G) A (answer_in z.route) o) (sym e) x;
+        coaching = subst (λ (z : DesksAnswer). Served (shared_of w h spans G) B (answer_in z.coaching) u) (sym e) y;
         same_masks = f;
         same_queue = g;
       }
@@ -236,8 +237,8 @@ both-refused {w = w} {h} {cells} {spans} {A} {B} {l} {m} {q} {t} {p} {s} {number
     let refused : (D : Desk) → Served S D (record { number = number; value = place }) D.output = λ D. served-refused S D (ap (λ f. or_else f (desk_refusal S D)) F.refused) in
     record {
       ran = record {
-        route = subst (λ (x : DesksAnswer). Served S A (exported x.route) A.output) (sym e) (refused A);
-        coaching = subst (λ (x : DesksAnswer). Served S B (exported x.coaching) B.output) (sym e) (refused B);
+        route = subst (λ (x : DesksAnswer). Served S A (answer_in x.route) A.output) (sym e) (refused A);
+        coaching = subst (λ (x : DesksAnswer). Served S B (answer_in x.coaching) B.output) (sym e) (refused B);
         shared = F.left;
       };
       beyond = refl;

@@ -7,17 +7,12 @@ use Rattle.definitions.specs.Verdict as verdict
 use Rattle.context.specs.Records.{record_of}
 use Rattle.call_partition.specs.Contract.{Ran}
 use Rattle.topology.specs.declared.Refused.{Refused}
-use Rattle.topology.specs.declared.TopologyAnswer.{TopologyAnswer}
 use Rattle.topology.specs.Numbers.{with_records}
 use Rattle.topology.specs.Lent.{LentLists, LeftLists, lent_map, lent_call}
 
 abbrev pub answer_of : Result ℕ Refused → verdict.Answer
 answer_of (Ok rows) = record { number = 0; value = rows }
 answer_of (Err r) = record { number = r.number; value = r.place }
-
--- as the exported call gives it
-abbrev pub exported : TopologyAnswer → verdict.Answer
-exported a = record { number = a.number; value = a.value }
 
 -- how many records a call that answers with this number writes, of a map of n regions
 abbrev pub written : ℕ → ℕ → ℕ

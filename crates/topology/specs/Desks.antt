@@ -9,8 +9,9 @@ use Rattle.call_partition.specs.Prepared.{ReadyAs}
 use Rattle.desks.specs.Desks.{Shared, Desk, shared_refusal, answer_from, Served, RanBoth}
 use Rattle.desk_checks.specs.Shared.{lent_both}
 use Rattle.topology.specs.Filled.{Filled}
-use Rattle.topology.specs.Contract.{exported, written}
-use Rattle.topology.specs.declared.TopologyAnswer.{TopologyAnswer}
+use Rattle.refusals.specs.Answers.{answer_in}
+use Rattle.refusals.specs.declared.answers.Answer.{Answer}
+use Rattle.topology.specs.Contract.{written}
 use Rattle.topology.specs.declared.two_desks.DesksAnswer.{DesksAnswer}
 
 abbrev pub desk_of : ℕ → List ℕ → List ℕ → List ℕ → Desk
@@ -48,15 +49,15 @@ pub record Terrain (G : Ground) (w h : ℕ) (spans : List ℕ) (regions rows : �
   pub emptied : q ≡ zeroed (h * w) G.queue
 
 -- a desk was served; masks and queue are as they were
-pub record DeskRan (G : Ground) (w h : ℕ) (spans : List ℕ) (D : Desk) (m q : List ℕ) (a : TopologyAnswer) (m' q' o' : List ℕ) : Type 0 where
-  pub served : Served (shared_of w h spans G) D (exported a) o'
+pub record DeskRan (G : Ground) (w h : ℕ) (spans : List ℕ) (D : Desk) (m q : List ℕ) (a : Answer) (m' q' o' : List ℕ) : Type 0 where
+  pub served : Served (shared_of w h spans G) D (answer_in a) o'
   pub same_masks : m' ≡ m
   pub same_queue : q' ≡ q
 
 -- both were
 pub record DesksRan (G : Ground) (w h : ℕ) (spans : List ℕ) (A B : Desk) (m q : List ℕ) (r : DesksAnswer) (m' q' o u : List ℕ) : Type 0 where
-  pub route : Served (shared_of w h spans G) A (exported r.route) o
-  pub coaching : Served (shared_of w h spans G) B (exported r.coaching) u
+  pub route : Served (shared_of w h spans G) A (answer_in r.route) o
+  pub coaching : Served (shared_of w h spans G) B (answer_in r.coaching) u
   pub same_masks : m' ≡ m
   pub same_queue : q' ≡ q
 
@@ -98,6 +99,6 @@ written_both L = written (answer_from (shared_refusal (shared_lent L)) 0).number
 -- Route desk A and coaching desk B; records that are not written are as they were, not only as `record_of` shows them.
 pub record RanBothOver (order : ℕ) (L : LentBoth) (A B : Desk) (r : DesksAnswer) (E : LeftBoth) : Type 0 where
   pub ran :
-      RanBoth order (shared_lent L) A B (exported r.route) (exported r.coaching)
+      RanBoth order (shared_lent L) A B (answer_in r.route) (answer_in r.coaching)
       E.labels E.masks E.queue E.tallies E.pairs (map record_of E.records) E.route_output_lem E.coaching_output_lem
   pub beyond : drop (written_both L) E.records ≡ drop (written_both L) L.records

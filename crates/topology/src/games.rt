@@ -4,12 +4,15 @@ ghost use Rattle.topology.specs.Games.{Begun, RunsKept, RanKept, PlayedOver};
 
 use crate::marks::mark_removed;
 use crate::records::{fill, renew};
+use areas::lists::PartitionLists;
 use call_partition::Ready;
+use call_partition::asked::Asked;
 use checks::limits::{NUMBERS_PER_BOUNDARY, NUMBERS_PER_SPAN};
 use context::Region;
 use game_lists::checked::prepare_game;
 use game_lists::kept::divide_kept;
 use game_lists::play::{GameAnswer, play, refused};
+use grid_steps::grid::TerrainGrid;
 use pass_lists::finish;
 
 // How many rows are kept, and the regions and rows of pairs of the kept graph.
@@ -121,9 +124,19 @@ pub fn run_kept(
         queue,
         &mut removed,
     );
-    let graph = divide_kept(
-        width, height, cells, spans, &removed, rows, room, labels, masks, queue, tallies, pairs,
-    );
+    let grid = TerrainGrid {
+        width,
+        height,
+        cells,
+    };
+    let mut lists = PartitionLists {
+        labels: &mut *labels,
+        masks: &mut *masks,
+        queue: &mut *queue,
+        tallies: &mut *tallies,
+        pairs: &mut *pairs,
+    };
+    let graph = divide_kept(grid, spans, &removed, rows, room, &mut lists);
     renew(records, regions, graph.regions, width, cells, labels, queue);
     let kept = finish(
         needed,
@@ -191,10 +204,22 @@ pub fn topology_runner_and_guard(
     let room = records.len();
     let lent = output.len();
     let table = verdicts.len();
-    let prepared = prepare_game(
-        pass, width, height, cells, spans, boundaries, anchors, room, lent, table, labels, masks,
-        queue, tallies, pairs,
-    );
+    let asked = Asked {
+        width,
+        height,
+        cells,
+        spans,
+        boundaries,
+        anchors,
+    };
+    let mut lists = PartitionLists {
+        labels: &mut *labels,
+        masks: &mut *masks,
+        queue: &mut *queue,
+        tallies: &mut *tallies,
+        pairs: &mut *pairs,
+    };
+    let prepared = prepare_game(pass, asked, room, lent, table, &mut lists);
     match prepared {
         Err(refusal) => refused(refusal),
         Ok(Ready { regions, rows }) => {

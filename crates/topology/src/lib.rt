@@ -18,22 +18,18 @@ pub mod to_rest;
 pub mod two_desks;
 
 ghost use Rattle.std.specs.Prelude.{◌≡◌};
-ghost use Rattle.topology.specs.Contract.{answer_of, exported, RanOver};
+ghost use Rattle.refusals.specs.Answers.{answer_in};
+ghost use Rattle.topology.specs.Contract.{answer_of, RanOver};
 
+use areas::lists::PartitionLists;
+use call_partition::asked::Asked;
 use call_partition::{Ready, prepare};
 use checks::limits::{NUMBERS_PER_BOUNDARY, NUMBERS_PER_SPAN};
 use context::Region;
 use marks::mark_removed;
 use pass_lists::finish;
 use records::fill;
-
-// The number is 0 and the value how many rows are kept, or they are a refusal's number and place.
-#[repr(C)]
-#[derive(Clone, Copy)]
-pub struct TopologyAnswer {
-    pub number: u64,
-    pub value: u64,
-}
+use refusals::answers::Answer;
 
 // A refusal as its number and place: what C's struct holds may be any number, so that it names no cause.
 #[derive(Clone, Copy, Debug, PartialEq, Eq)]
@@ -43,8 +39,8 @@ pub struct Refused {
 }
 
 // How many rows are kept, or the refusal: for callers in Rattle.
-pub fn answer_of(a: TopologyAnswer) -> Result<usize, Refused>
-    ensures { answer_of result ≡ exported a }
+pub fn answer_of(a: Answer) -> Result<usize, Refused>
+    ensures { answer_of result ≡ answer_in a }
 {
     if a.number == 0 {
         return Ok(a.value as usize);
@@ -71,7 +67,7 @@ pub fn topology_kept_boundaries(
     pairs: &mut [u32],
     records: &mut [Region],
     output: &mut [u64],
-) -> TopologyAnswer
+) -> Answer
     ensures { RanOver pass
         (record {
           width = width;
@@ -88,7 +84,7 @@ pub fn topology_kept_boundaries(
           records = records.old;
           output = output.old;
         })
-        (exported result)
+        (answer_in result)
         (record {
           labels = labels.exit.now;
           masks = masks.new;
@@ -101,15 +97,24 @@ pub fn topology_kept_boundaries(
 {
     let room = records.len();
     let lent = output.len();
-    let prepared = prepare(
-        pass, width, height, cells, spans, boundaries, anchors, room, lent, labels, masks, queue,
-        tallies, pairs,
-    );
+    let asked = Asked {
+        width,
+        height,
+        cells,
+        spans,
+        boundaries,
+        anchors,
+    };
+    let mut lists = PartitionLists {
+        labels: &mut *labels,
+        masks: &mut *masks,
+        queue: &mut *queue,
+        tallies: &mut *tallies,
+        pairs: &mut *pairs,
+    };
+    let prepared = prepare(pass, asked, room, lent, &mut lists);
     match prepared {
-        Err(refusal) => TopologyAnswer {
-            number: refusal.cause.number(),
-            value: refusal.place as u64,
-        },
+        Err(refusal) => Answer::from(Err(refusal)),
         Ok(Ready { regions, rows }) => {
             let columns = width as usize;
             let needed = height as usize * columns;
@@ -141,10 +146,7 @@ pub fn topology_kept_boundaries(
                 queue,
                 output,
             );
-            TopologyAnswer {
-                number: 0,
-                value: kept as u64,
-            }
+            Answer::from(Ok(kept))
         }
     }
 }

@@ -12,6 +12,8 @@ ghost use Rattle.topology.specs.Ranked.{Ranked, RankedFor, RankedOver};
 
 use crate::junction_pass::{NO_ROW, select_junctions};
 use crate::records::fill;
+use areas::lists::PartitionLists;
+use call_partition::asked::Asked;
 use call_partition::{Ready, prepare};
 use checks::limits::{NUMBERS_PER_BOUNDARY, NUMBERS_PER_SPAN};
 use context::Region;
@@ -153,10 +155,22 @@ pub fn topology_ranked_junctions(
 {
     let room = records.len();
     let lent = output.len();
-    let prepared = prepare(
-        3, width, height, cells, spans, boundaries, anchors, room, lent, labels, masks, queue,
-        tallies, pairs,
-    );
+    let asked = Asked {
+        width,
+        height,
+        cells,
+        spans,
+        boundaries,
+        anchors,
+    };
+    let mut lists = PartitionLists {
+        labels: &mut *labels,
+        masks: &mut *masks,
+        queue: &mut *queue,
+        tallies: &mut *tallies,
+        pairs: &mut *pairs,
+    };
+    let prepared = prepare(3, asked, room, lent, &mut lists);
     match prepared {
         Err(refusal) => refused(refusal),
         Ok(Ready { regions, rows }) => {

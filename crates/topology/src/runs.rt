@@ -5,17 +5,18 @@ ghost use Rattle.report_figures.specs.Forms.{report_form};
 ghost use Rattle.report_figures.specs.Calls.{CallLeft, ReportedCall};
 ghost use Rattle.topology.specs.Reports.{ReportedOver};
 
-use crate::{TopologyAnswer, topology_kept_boundaries};
+use crate::topology_kept_boundaries;
 use checks::limits::NUMBERS_PER_BOUNDARY;
 use context::Region;
 use report_figures::call_figures::{answered, beyond, has_room};
+use refusals::answers::Answer;
 use report_figures::{Report, Reported};
 
 // What the call answered, and the report with it.
 fn added(
     report: Report,
     pass: u64,
-    answer: TopologyAnswer,
+    answer: Answer,
     boundaries: &[u64],
     output: &[u64],
 ) -> Reported

@@ -9,9 +9,12 @@ ghost use Rattle.topology.specs.Rest.{rest_answer, RestRanOver, Stands, Underway
 
 use crate::marks::mark_removed;
 use crate::records::{fill, renew};
+use areas::lists::PartitionLists;
 use call_partition::Ready;
+use call_partition::asked::Asked;
 use checks::limits::NUMBERS_PER_BOUNDARY;
 use context::Region;
+use grid_steps::grid::TerrainGrid;
 use rest_lists::begin::begin_rest;
 use rest_lists::kept::{Standing, divide_again, finish_rest, keep_left};
 use rest_lists::turns::{first_turn, next_turn, rounds_of};
@@ -177,9 +180,19 @@ pub fn turn_once(
         return standing;
     }
     let room = records.len();
-    let next = divide_again(
-        width, height, cells, spans, left, first, room, labels, masks, queue, tallies, pairs,
-    );
+    let grid = TerrainGrid {
+        width,
+        height,
+        cells,
+    };
+    let mut lists = PartitionLists {
+        labels: &mut *labels,
+        masks: &mut *masks,
+        queue: &mut *queue,
+        tallies: &mut *tallies,
+        pairs: &mut *pairs,
+    };
+    let next = divide_again(grid, spans, left, first, room, &mut lists);
     renew(
         records,
         first.regions,
@@ -253,7 +266,7 @@ pub fn run_turns(
     // Kept: what a pass removes decides whether another follows, so no range or chain has these turns as its items.
     while turn.quiet < 3 {
         let next = turn_once(
-            turn.pass, width, height, cells, anchors, first, standing, labels, masks, queue,
+            turn.pass.number(), width, height, cells, anchors, first, standing, labels, masks, queue,
             tallies, pairs, records, numbers, spans, boundaries,
         );
         turn = next_turn(turn, next.kept != standing.kept);
@@ -314,20 +327,26 @@ pub fn topology_run_to_rest(
     let mut numbers = [0u64; 256];
     let mut kept_spans = [0u64; 1024];
     let mut kept_boundaries = [0u64; 2304];
-    let prepared = begin_rest(
+    let asked = Asked {
         width,
         height,
         cells,
         spans,
         boundaries,
         anchors,
+    };
+    let mut lists = PartitionLists {
+        labels: &mut *labels,
+        masks: &mut *masks,
+        queue: &mut *queue,
+        tallies: &mut *tallies,
+        pairs: &mut *pairs,
+    };
+    let prepared = begin_rest(
+        asked,
         room,
         lent,
-        labels,
-        masks,
-        queue,
-        tallies,
-        pairs,
+        &mut lists,
         &mut numbers,
         &mut kept_spans,
         &mut kept_boundaries,

@@ -1,33 +1,31 @@
 // Two desks over one partition (SPECIFICATION 19.13): the terrain is partitioned once and its records are filled, then each desk has its own checks and its pass. A desk finds
 // the shared lists as they are on success, and leaves them so.
-ghost use Rattle.std.specs.Prelude.{◌≡◌, ◌≤◌};
-ghost use Rattle.definitions.specs.Limits.{max_side};
+ghost use Rattle.std.specs.Prelude.{◌≡◌};
 ghost use Rattle.refusals.specs.Refusals.{number_of};
-ghost use Rattle.desks.specs.Desks.{own_refusal, answer_from};
-ghost use Rattle.topology.specs.Contract.{exported};
 ghost use Rattle.topology.specs.Desks.{desk_of, Ground, Terrain, DeskRan, DesksRan, RanBothOver};
 
-use crate::TopologyAnswer;
 use crate::marks::mark_removed;
 use crate::records::fill;
 use call_partition::Ready;
-use call_partition::scratch::clear_scratch;
+use areas::lists::PartitionLists;
+use areas::scratch::clear_scratch;
 use checks::limits::{NUMBERS_PER_BOUNDARY, NUMBERS_PER_SPAN};
 use context::Region;
-use desk_checks::own::check_desk;
+use desk_checks::own::{Desk, check_desk};
 use desk_checks::shared::prepare_shared;
 use pass_lists::finish;
 use refusals::Refusal;
+use refusals::answers::Answer;
 
 // The answer to each desk.
 #[repr(C)]
 #[derive(Clone, Copy)]
 pub struct DesksAnswer {
-    pub route: TopologyAnswer,
-    pub coaching: TopologyAnswer,
+    pub route: Answer,
+    pub coaching: Answer,
 }
 
-fn both(first: TopologyAnswer, second: TopologyAnswer) -> DesksAnswer
+fn both(first: Answer, second: Answer) -> DesksAnswer
     ensures { result ≡ record { route = first; coaching = second } }
 {
     DesksAnswer {
@@ -43,37 +41,8 @@ fn refused_both(refusal: Refusal) -> DesksAnswer
       coaching = record { number = number_of refusal.cause; value = refusal.place };
     } }
 {
-    let answer = TopologyAnswer {
-        number: refusal.cause.number(),
-        value: refusal.place as u64,
-    };
+    let answer = Answer::from(Err(refusal));
     both(answer, answer)
-}
-
-// What a desk's own checks answer: number 0 where they pass.
-fn own_answer(
-    pass: u64,
-    width: u64,
-    height: u64,
-    spans: &[u64],
-    boundaries: &[u64],
-    anchors: &[u64],
-    output: usize,
-) -> TopologyAnswer
-    requires { (width ≤ max_side) × (height ≤ max_side) }
-    ensures { exported result
-        ≡ answer_from (own_refusal width height spans.now pass boundaries.now anchors.now output) 0 }
-{
-    match check_desk(pass, width, height, spans, boundaries, anchors, output) {
-        Err(refusal) => TopologyAnswer {
-            number: refusal.cause.number(),
-            value: refusal.place as u64,
-        },
-        Ok(()) => TopologyAnswer {
-            number: 0,
-            value: 0,
-        },
-    }
 }
 
 // One desk: its checks, then its pass. Masks and queue are zero over the needed length, before and after.
@@ -93,7 +62,7 @@ pub fn run_desk(
     masks: &mut [u16],
     queue: &mut [u32],
     output: &mut [u64],
-) -> TopologyAnswer
+) -> Answer
     requires { (G : Ground) × Terrain G width height spans.now regions rows
         labels.now masks.old queue.old tallies.now pairs.now records.now }
     ensures { (G : Ground) → Terrain G width height spans.now regions rows
@@ -102,9 +71,13 @@ pub fn run_desk(
         masks.old queue.old result masks.new queue.new output.new }
 {
     let lent = output.len();
-    let refused = own_answer(pass, width, height, spans, boundaries, anchors, lent);
-    if refused.number != 0 {
-        return refused;
+    let desk = Desk {
+        pass,
+        boundaries,
+        anchors,
+    };
+    if let Err(refusal) = check_desk(width, height, spans, desk, lent) {
+        return Answer::from(Err(refusal));
     }
     let columns = width as usize;
     let needed = height as usize * columns;
@@ -135,10 +108,7 @@ pub fn run_desk(
         queue,
         output,
     );
-    TopologyAnswer {
-        number: 0,
-        value: kept as u64,
-    }
+    Answer::from(Ok(kept))
 }
 
 // Both desks, in the order told: the route desk goes first where `order` is 0, the coaching desk where it is any other number.
@@ -298,9 +268,14 @@ pub fn topology_two_desks(
         }) }
 {
     let room = records.len();
-    let prepared = prepare_shared(
-        width, height, cells, spans, room, labels, masks, queue, tallies, pairs,
-    );
+    let mut lists = PartitionLists {
+        labels: &mut *labels,
+        masks: &mut *masks,
+        queue: &mut *queue,
+        tallies: &mut *tallies,
+        pairs: &mut *pairs,
+    };
+    let prepared = prepare_shared(width, height, cells, spans, room, &mut lists);
     match prepared {
         Err(refusal) => refused_both(refusal),
         Ok(Ready { regions, rows }) => {
