@@ -1,6 +1,6 @@
 // What `topology` exports to C.
 
-ghost use Rattle.game_lists.specs.Forms.{answer_in};
+ghost use Rattle.game_lists.specs.Forms.{answer_in as game_answer};
 ghost use Rattle.topology.specs.Games.{PlayedOver};
 ghost use Rattle.refusals.specs.Answers.{answer_in};
 ghost use Rattle.topology.specs.Contract.{RanOver};
@@ -54,7 +54,7 @@ pub extern "C" fn jenwyllt_runner_and_guard(
           records = records.old;
           output = output.old;
         })
-        goal verdicts.old (answer_in result)
+        goal verdicts.old (game_answer result)
         (record {
           labels = labels.new;
           masks = masks.new;

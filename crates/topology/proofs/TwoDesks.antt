@@ -22,7 +22,7 @@ use Rattle.context.specs.declared.Region.{Region}
 use Rattle.context.specs.Records.{record_of, max_cells}
 use Rattle.areas.proofs.Labelling.{zeroed_rest, zeroed-again}
 use Rattle.refusals.specs.declared.Refusal as code
-use Rattle.refusals.specs.Refusals.{number_of}
+use Rattle.refusals.specs.Refusals.{number_of, refusal_of}
 use Rattle.call_partition.specs.declared.Ready.{Ready}
 use Rattle.call_partition.specs.Prepared.{ReadyAs}
 use Rattle.call_partition.proofs.Exits.{verdict-kept, ran_complete}
@@ -31,7 +31,7 @@ use Rattle.pass_lists.proofs.AfterChecks.{ready-sides, ready-fit}
 use Rattle.pass_lists.proofs.AfterPartition.{ready_finishes}
 use Rattle.desks.specs.Desks.{Shared, Desk, alone, shared_refusal, own_refusal, desk_refusal, first_of, answer_from, desk_answer, output_from, desk_output, Served, LeftShared}
 use Rattle.desks.specs.Terrain.{regions_same, records_same}
-use Rattle.desks.proofs.SharedCalls.{shared_as_call, shared-numbered, own-numbered, refused_is}
+use Rattle.desks.proofs.SharedCalls.{shared_as_call, shared-numbered}
 use Rattle.desks.proofs.Alone.{answer-alone, output-alone}
 use Rattle.desk_checks.specs.AloneCalls.{terrain-left}
 use Rattle.desk_checks.specs.Shared.{lent_both, RefusedBoth, SharedAs}
@@ -42,8 +42,7 @@ use Rattle.rest_lists.proofs.Inner.{zeroed-length}
 use Rattle.topology.specs.Contract.{written}
 use Rattle.topology.specs.Desks.{desk_of, Ground, shared_of, Partitioned, Terrain, DeskRan, DesksRan, RanBothOver}
 use Rattle.topology.proofs.Lending.{lends_both, leaves-both}
-use Rattle.refusals.specs.Answers.{answer_in}
-use Rattle.refusals.specs.declared.answers.Answer.{Answer}
+use Rattle.refusals.specs.Answers.{answer_in, answer_of}
 use Rattle.topology.specs.declared.two_desks.DesksAnswer.{DesksAnswer}
 use Rattle.topology.proofs.Calling.{is_pass, ready-lent, ran_over, needed-few}
 
@@ -107,20 +106,14 @@ module _ {G : Ground} {w h : ℕ} {spans : List ℕ} {regions rows : ℕ} {l m q
 
   module _ (pass : ℕ) (boundaries anchors o : List ℕ) where
     -- its own lists are refused
-    pub desk-refused : {a : Answer} → answer_in a ≡ answer_from (own_refusal w h spans pass boundaries anchors (length o)) 0 → (a.number ≡ 0 → ⊥)
-        → DeskRan G w h spans (desk_of pass boundaries anchors o) m q a m q o
-    desk-refused {a} e positive =
-        let own = refused_is (own_refusal w h spans pass boundaries anchors (length o)) a.number a.value e positive in
+    pub desk-refused : {x : code.Refusal} → Some (refusal_of x) ≡ own_refusal w h spans pass boundaries anchors (length o)
+        → DeskRan G w h spans (desk_of pass boundaries anchors o) m q (answer_of (Err x)) m q o
+    desk-refused own =
         record {
-          served = served-refused (shared_of w h spans G) (desk_of pass boundaries anchors o) (ap₂ or_else (none_shared P) own);
+          served = served-refused (shared_of w h spans G) (desk_of pass boundaries anchors o) (ap₂ or_else (none_shared P) (sym own));
           same_masks = refl;
           same_queue = refl;
         }
-
-    -- they are not
-    pub desk-passed : {a : Answer} → answer_in a ≡ answer_from (own_refusal w h spans pass boundaries anchors (length o)) 0 → a.number ≡ 0
-        → own_refusal w h spans pass boundaries anchors (length o) ≡ None
-    desk-passed e zero = own-numbered w h spans pass boundaries anchors (length o) 0 (sym (ap (λ (x : verdict.Answer). x.number) e) ∙ zero)
 
     module _ (passed : own_refusal w h spans pass boundaries anchors (length o) ≡ None) where
       abbrev M : Map
@@ -174,18 +167,17 @@ module _ {G : Ground} {w h : ℕ} {spans : List ℕ} {regions rows : ℕ} {l m q
             }
 
         -- what it leaves
-        pub desk-ran : {m₃ q₃ o₃ : List ℕ} {a : Answer} → a.number ≡ 0
-            → Finished (h * w) (length boundaries / numbers_per_boundary) boundaries removed m₂ q₂ o m₃ q₃ o₃ a.value
-            → DeskRan G w h spans (desk_of pass boundaries anchors o) m q a m₃ q₃ o₃
+        pub desk-ran : {m₃ q₃ o₃ : List ℕ} {n : ℕ}
+            → Finished (h * w) (length boundaries / numbers_per_boundary) boundaries removed m₂ q₂ o m₃ q₃ o₃ n
+            → DeskRan G w h spans (desk_of pass boundaries anchors o) m q (answer_of (Ok n)) m₃ q₃ o₃
         unfolding call_exit exit_with stage_of map_in map_of cell_count
-        desk-ran {a = a} zero fin =
+        desk-ran fin =
             let D = desk_of pass boundaries anchors o in
             let S = shared_of w h spans G in
             let ran = (ran_over own own-filled marked refl refl fin).ran in
-            let e : ◌≡◌ {A = verdict.Answer} (answer_in a) (record { number = 0; value = a.value }) = λ i. record { number = zero i; value = a.value } in
             record {
               served = record {
-                answer = e ∙ ran.answer ∙ sym (answer-alone S D (none_shared P) passed);
+                answer = ran.answer ∙ sym (answer-alone S D (none_shared P) passed);
                 output = ran.output ∙ sym (output-alone S D (none_shared P) passed);
               };
               same_masks = ran.masks ∙ sym T.cleared;
@@ -195,12 +187,13 @@ module _ {G : Ground} {w h : ℕ} {spans : List ℕ} {regions rows : ℕ} {l m q
 -- ---- both desks
 
 -- each over what the other left, whichever goes first
-module _ {G : Ground} {w h : ℕ} {spans : List ℕ} {A B : Desk} {a b : Answer} {m q m₂ q₂ o u : List ℕ} {r : DesksAnswer} (e : r ≡ record { route = a; coaching = b }) where
-  both-ran : Served (shared_of w h spans G) A (answer_in a) o → Served (shared_of w h spans G) B (answer_in b) u → m₂ ≡ m → q₂ ≡ q → DesksRan G w h spans A B m q r m₂ q₂ o u
+module _ {G : Ground} {w h : ℕ} {spans : List ℕ} {A B : Desk} {a b : verdict.Answer} {m q m₂ q₂ o u : List ℕ} {r : DesksAnswer}
+    (e : (answer_in r.route ≡ a) × (answer_in r.coaching ≡ b)) where
+  both-ran : Served (shared_of w h spans G) A a o → Served (shared_of w h spans G) B b u → m₂ ≡ m → q₂ ≡ q → DesksRan G w h spans A B m q r m₂ q₂ o u
   both-ran x y f g =
       record {
-        route = subst (λ (z : DesksAnswer). Served (shared_of w h spans G) A (answer_in z.route) o) (sym e) x;
-        coaching = subst (λ (z : DesksAnswer). Served (shared_of w h spans G) B (answer_in z.coaching) u) (sym e) y;
+        route = subst (λ z. Served (shared_of w h spans G) A z o) (sym e.0) x;
+        coaching = subst (λ z. Served (shared_of w h spans G) B z u) (sym e.1) y;
         same_masks = f;
         same_queue = g;
       }
@@ -230,15 +223,15 @@ module _ {w h : ℕ} {cells spans : List ℕ} {room : ℕ} {l m q t p l' m' q' t
 -- a shared refusal goes to both
 pub both-refused : {order w h : ℕ} {cells spans : List ℕ} {A B : Desk} {l m q t p : List ℕ} {s : List Region} {number place : ℕ} {l' m' q' t' p' : List ℕ} {r : DesksAnswer}
     → RefusedBoth (lent_both w h cells spans l m q t p (map record_of s)) number place l' m' q' t' p' (map record_of s)
-    → r ≡ record { route = record { number = number; value = place }; coaching = record { number = number; value = place } }
+    → (answer_in r.route ≡ record { number = number; value = place }) × (answer_in r.coaching ≡ record { number = number; value = place })
     → RanBothOver order (lends_both w h cells spans l m q t p s) A B r (leaves-both l' m' q' t' p' s A.output B.output)
 both-refused {w = w} {h} {cells} {spans} {A} {B} {l} {m} {q} {t} {p} {s} {number} {place} F e =
     let S = lent_both w h cells spans l m q t p (map record_of s) in
     let refused : (D : Desk) → Served S D (record { number = number; value = place }) D.output = λ D. served-refused S D (ap (λ f. or_else f (desk_refusal S D)) F.refused) in
     record {
       ran = record {
-        route = subst (λ (x : DesksAnswer). Served S A (answer_in x.route) A.output) (sym e) (refused A);
-        coaching = subst (λ (x : DesksAnswer). Served S B (answer_in x.coaching) B.output) (sym e) (refused B);
+        route = subst (λ z. Served S A z A.output) (sym e.0) (refused A);
+        coaching = subst (λ z. Served S B z B.output) (sym e.1) (refused B);
         shared = F.left;
       };
       beyond = refl;

@@ -10,7 +10,7 @@ use Rattle.desks.specs.Desks.{Shared, Desk, shared_refusal, answer_from, Served,
 use Rattle.desk_checks.specs.Shared.{lent_both}
 use Rattle.topology.specs.Filled.{Filled}
 use Rattle.refusals.specs.Answers.{answer_in}
-use Rattle.refusals.specs.declared.answers.Answer.{Answer}
+use Rattle.definitions.specs.Verdict as verdict
 use Rattle.topology.specs.Contract.{written}
 use Rattle.topology.specs.declared.two_desks.DesksAnswer.{DesksAnswer}
 
@@ -49,8 +49,8 @@ pub record Terrain (G : Ground) (w h : ℕ) (spans : List ℕ) (regions rows : �
   pub emptied : q ≡ zeroed (h * w) G.queue
 
 -- a desk was served; masks and queue are as they were
-pub record DeskRan (G : Ground) (w h : ℕ) (spans : List ℕ) (D : Desk) (m q : List ℕ) (a : Answer) (m' q' o' : List ℕ) : Type 0 where
-  pub served : Served (shared_of w h spans G) D (answer_in a) o'
+pub record DeskRan (G : Ground) (w h : ℕ) (spans : List ℕ) (D : Desk) (m q : List ℕ) (a : verdict.Answer) (m' q' o' : List ℕ) : Type 0 where
+  pub served : Served (shared_of w h spans G) D a o'
   pub same_masks : m' ≡ m
   pub same_queue : q' ≡ q
 

@@ -1,7 +1,7 @@
 // Two desks over one partition (SPECIFICATION 19.13): the terrain is partitioned once and its records are filled, then each desk has its own checks and its pass. A desk finds
 // the shared lists as they are on success, and leaves them so.
 ghost use Rattle.std.specs.Prelude.{◌≡◌};
-ghost use Rattle.refusals.specs.Refusals.{number_of};
+ghost use Rattle.refusals.specs.Answers.{answer_in, answer_of};
 ghost use Rattle.topology.specs.Desks.{desk_of, Ground, Terrain, DeskRan, DesksRan, RanBothOver};
 
 use crate::marks::mark_removed;
@@ -25,34 +25,21 @@ pub struct DesksAnswer {
     pub coaching: Answer,
 }
 
-fn both(first: Answer, second: Answer) -> DesksAnswer
-    ensures { result ≡ record { route = first; coaching = second } }
+fn both(route: Result<usize, Refusal>, coaching: Result<usize, Refusal>) -> DesksAnswer
+    ensures { (answer_in result.route ≡ answer_of route) × (answer_in result.coaching ≡ answer_of coaching) }
 {
     DesksAnswer {
-        route: first,
-        coaching: second,
+        route: Answer::from(route),
+        coaching: Answer::from(coaching),
     }
 }
 
-// "a refusal over the shared lists comes first and goes to both"
-fn refused_both(refusal: Refusal) -> DesksAnswer
-    ensures { result ≡ record {
-      route = record { number = number_of refusal.cause; value = refusal.place };
-      coaching = record { number = number_of refusal.cause; value = refusal.place };
-    } }
-{
-    let answer = Answer::from(Err(refusal));
-    both(answer, answer)
-}
-
-// One desk: its checks, then its pass. Masks and queue are zero over the needed length, before and after.
+// One desk: its checks, then its pass. Gives how many rows are kept. Masks and queue are zero over the needed length, before and after.
 pub fn run_desk(
-    pass: u64,
+    desk: Desk,
     width: u64,
     height: u64,
     spans: &[u64],
-    boundaries: &[u64],
-    anchors: &[u64],
     regions: usize,
     rows: usize,
     labels: &[u32],
@@ -62,37 +49,29 @@ pub fn run_desk(
     masks: &mut [u16],
     queue: &mut [u32],
     output: &mut [u64],
-) -> Answer
+) -> Result<usize, Refusal>
     requires { (G : Ground) × Terrain G width height spans.now regions rows
         labels.now masks.old queue.old tallies.now pairs.now records.now }
     ensures { (G : Ground) → Terrain G width height spans.now regions rows
         labels.now masks.old queue.old tallies.now pairs.now records.now
-        → DeskRan G width height spans.now (desk_of pass boundaries.now anchors.now output.old)
-        masks.old queue.old result masks.new queue.new output.new }
+        → DeskRan G width height spans.now (desk_of desk.entry.pass desk.entry.boundaries.now desk.entry.anchors.now output.old)
+        masks.old queue.old (answer_of result) masks.new queue.new output.new }
 {
-    let lent = output.len();
-    let desk = Desk {
-        pass,
-        boundaries,
-        anchors,
-    };
-    if let Err(refusal) = check_desk(width, height, spans, desk, lent) {
-        return Answer::from(Err(refusal));
-    }
+    check_desk(width, height, spans, desk, output.len())?;
     let columns = width as usize;
     let needed = height as usize * columns;
     let mut removed = [false; 256];
     mark_removed(
-        pass,
+        desk.pass,
         records,
         columns,
         needed,
         labels,
-        anchors,
+        desk.anchors,
         regions,
         rows,
         spans.len() / NUMBERS_PER_SPAN,
-        boundaries,
+        desk.boundaries,
         tallies,
         pairs,
         masks,
@@ -101,14 +80,14 @@ pub fn run_desk(
     );
     let kept = finish(
         needed,
-        boundaries.len() / NUMBERS_PER_BOUNDARY,
-        boundaries,
+        desk.boundaries.len() / NUMBERS_PER_BOUNDARY,
+        desk.boundaries,
         &removed,
         masks,
         queue,
         output,
     );
-    Answer::from(Ok(kept))
+    Ok(kept)
 }
 
 // Both desks, in the order told: the route desk goes first where `order` is 0, the coaching desk where it is any other number.
@@ -119,12 +98,8 @@ pub fn run_desks(
     spans: &[u64],
     regions: usize,
     rows: usize,
-    route_pass: u64,
-    route_boundaries: &[u64],
-    route_anchors: &[u64],
-    coaching_pass: u64,
-    coaching_boundaries: &[u64],
-    coaching_anchors: &[u64],
+    route_desk: Desk,
+    coaching_desk: Desk,
     labels: &[u32],
     tallies: &[u32],
     pairs: &[u32],
@@ -139,19 +114,17 @@ pub fn run_desks(
     ensures { (G : Ground) → Terrain G width height spans.now regions rows
         labels.now masks.old queue.old tallies.now pairs.now records.now
         → DesksRan G width height spans.now
-        (desk_of route_pass route_boundaries.now route_anchors.now route_output.old)
-        (desk_of coaching_pass coaching_boundaries.now coaching_anchors.now coaching_output.old)
+        (desk_of route_desk.entry.pass route_desk.entry.boundaries.now route_desk.entry.anchors.now route_output.old)
+        (desk_of coaching_desk.entry.pass coaching_desk.entry.boundaries.now coaching_desk.entry.anchors.now coaching_output.old)
         masks.old queue.old result
         masks.new queue.new route_output.new coaching_output.new }
 {
     if order == 0 {
         let route = run_desk(
-            route_pass,
+            route_desk,
             width,
             height,
             spans,
-            route_boundaries,
-            route_anchors,
             regions,
             rows,
             labels,
@@ -163,12 +136,10 @@ pub fn run_desks(
             route_output,
         );
         let coaching = run_desk(
-            coaching_pass,
+            coaching_desk,
             width,
             height,
             spans,
-            coaching_boundaries,
-            coaching_anchors,
             regions,
             rows,
             labels,
@@ -182,12 +153,10 @@ pub fn run_desks(
         return both(route, coaching);
     }
     let coaching = run_desk(
-        coaching_pass,
+        coaching_desk,
         width,
         height,
         spans,
-        coaching_boundaries,
-        coaching_anchors,
         regions,
         rows,
         labels,
@@ -199,12 +168,10 @@ pub fn run_desks(
         coaching_output,
     );
     let route = run_desk(
-        route_pass,
+        route_desk,
         width,
         height,
         spans,
-        route_boundaries,
-        route_anchors,
         regions,
         rows,
         labels,
@@ -277,9 +244,20 @@ pub fn topology_two_desks(
     };
     let prepared = prepare_shared(width, height, cells, spans, room, &mut lists);
     match prepared {
-        Err(refusal) => refused_both(refusal),
+        // "a refusal over the shared lists comes first and goes to both"
+        Err(refusal) => both(Err(refusal), Err(refusal)),
         Ok(Ready { regions, rows }) => {
             let columns = width as usize;
+            let route_desk = Desk {
+                pass: route_pass,
+                boundaries: route_boundaries,
+                anchors: route_anchors,
+            };
+            let coaching_desk = Desk {
+                pass: coaching_pass,
+                boundaries: coaching_boundaries,
+                anchors: coaching_anchors,
+            };
             fill(records, regions, columns, cells, labels, queue);
             clear_scratch(masks, queue, height as usize * columns);
             let answers = run_desks(
@@ -289,12 +267,8 @@ pub fn topology_two_desks(
                 spans,
                 regions,
                 rows,
-                route_pass,
-                route_boundaries,
-                route_anchors,
-                coaching_pass,
-                coaching_boundaries,
-                coaching_anchors,
+                route_desk,
+                coaching_desk,
                 labels,
                 tallies,
                 pairs,

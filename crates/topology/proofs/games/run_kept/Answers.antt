@@ -29,9 +29,9 @@ renew-requires-clause-first_in c =
     let F = c.fill.ensures _ (runs_fills G) in
     let D = c.mark_removed.ensures _ (runs-lent G F) in
     let m = c.mark_removed.auto in
-    let d = c.divide_kept-graph.auto in
-    let N = c.divide_kept-graph.ensures _ (runs_divides G F m.masks m.queue D) in
-    runs_first G F m.masks m.queue D N d.labels d.masks d.queue c.fill.auto.records
+    let d = c.divide_kept-graph.ensures.same in
+    let N = c.divide_kept-graph.ensures.divided _ (runs_divides G F m.masks m.queue D) in
+    runs_first G F m.masks m.queue D N d.labels_long d.masks_long d.queue_long_lem c.fill.auto.records
 
 pub renew-requires-clause-map_shown : goal.renew-requires-clause-map_shown
 renew-requires-clause-map_shown c =
@@ -39,9 +39,9 @@ renew-requires-clause-map_shown c =
     let F = c.fill.ensures _ (runs_fills G) in
     let D = c.mark_removed.ensures _ (runs-lent G F) in
     let m = c.mark_removed.auto in
-    let d = c.divide_kept-graph.auto in
-    let N = c.divide_kept-graph.ensures _ (runs_divides G F m.masks m.queue D) in
-    (_, runs_renews G F m.masks m.queue D N d.labels d.masks d.queue c.fill.auto.records)
+    let d = c.divide_kept-graph.ensures.same in
+    let N = c.divide_kept-graph.ensures.divided _ (runs_divides G F m.masks m.queue D) in
+    (_, runs_renews G F m.masks m.queue D N d.labels_long d.masks_long d.queue_long_lem c.fill.auto.records)
 
 pub finish-kept-requires : goal.finish-kept-requires
 finish-kept-requires c =
@@ -49,16 +49,16 @@ finish-kept-requires c =
     let F = c.fill.ensures _ (runs_fills G) in
     let D = c.mark_removed.ensures _ (runs-lent G F) in
     let m = c.mark_removed.auto in
-    let d = c.divide_kept-graph.auto in
-    let N = c.divide_kept-graph.ensures _ (runs_divides G F m.masks m.queue D) in
-    runs_finishes G F m.masks m.queue D N d.labels d.masks d.queue
+    let d = c.divide_kept-graph.ensures.same in
+    let N = c.divide_kept-graph.ensures.divided _ (runs_divides G F m.masks m.queue D) in
+    runs_finishes G F m.masks m.queue D N d.labels_long d.masks_long d.queue_long_lem
 
 pub returns : goal.returns
 returns c = λ B G.
     let F = c.fill.ensures _ (runs_fills G) in
     let D = c.mark_removed.ensures _ (runs-lent G F) in
     let m = c.mark_removed.auto in
-    let d = c.divide_kept-graph.auto in
-    let N = c.divide_kept-graph.ensures _ (runs_divides G F m.masks m.queue D) in
-    let renews = runs_renews G F m.masks m.queue D N d.labels d.masks d.queue c.fill.auto.records in
-    ran-kept_graph G F m.masks m.queue D N d.labels d.masks d.queue (c.renew.ensures _ renews) c.finish-kept.ensures refl refl refl
+    let d = c.divide_kept-graph.ensures.same in
+    let N = c.divide_kept-graph.ensures.divided _ (runs_divides G F m.masks m.queue D) in
+    let renews = runs_renews G F m.masks m.queue D N d.labels_long d.masks_long d.queue_long_lem c.fill.auto.records in
+    ran-kept_graph G F m.masks m.queue D N d.labels_long d.masks_long d.queue_long_lem (c.renew.ensures _ renews) c.finish-kept.ensures refl refl refl

@@ -42,13 +42,13 @@ pub renew-requires-clause-map_shown : goal.renew-requires-clause-map_shown
 renew-requires-clause-map_shown c =
     let T = c.requires.lists_stand.3 in
     let at = c.pass_kept-left.ensures _ (asked T) in
-    let again = c.divide_again-next.ensures _ _ _ _ (asks_again T c.args.pass at.count at.held at.masks at.queue) in
-    (_, again_fills T c.args.pass at.count at.held at.masks at.queue again c.divide_again-next.auto.queue)
+    let again = c.divide_again-next.ensures.divided _ _ _ _ (asks_again T c.args.pass at.count at.held at.masks at.queue) in
+    (_, again_fills T c.args.pass at.count at.held at.masks at.queue again c.divide_again-next.ensures.same.queue_long_lem)
 
 pub returns : goal.returns
 returns c = λ O s places T.
     let at = c.pass_kept-left.ensures _ (asked T) in
-    let again = c.divide_again-next.ensures _ _ _ _ (asks_again T c.args.pass at.count at.held at.masks at.queue) in
-    let size = c.divide_again-next.auto in
-    let fills = again_fills T c.args.pass at.count at.held at.masks at.queue again size.queue in
-    stands-again T c.args.pass at.count at.held at.masks at.queue again size.labels size.masks size.queue size.tallies size.pairs c.renew.auto.records (c.renew.ensures _ fills)
+    let again = c.divide_again-next.ensures.divided _ _ _ _ (asks_again T c.args.pass at.count at.held at.masks at.queue) in
+    let size = c.divide_again-next.ensures.same in
+    let fills = again_fills T c.args.pass at.count at.held at.masks at.queue again size.queue_long_lem in
+    stands-again T c.args.pass at.count at.held at.masks at.queue again size.labels_long size.masks_long size.queue_long_lem size.tallies_long size.pairs_long c.renew.auto.records (c.renew.ensures _ fills)

@@ -1,42 +1,45 @@
 -- A desk over the terrain: its own checks, then the pass and the rows of the call with its lists alone (TwoDesks).
-use Rattle.std.proofs.Common.{refl, arith}
+use Rattle.std.proofs.Common.{rules, refl, sym, ap, ◌≡◌, ◌∙◌, arith}
+use Rattle.std.specs.Prelude.{Err}
 use Rattle.topology.proofs.Calling.{no_marks}
-use Rattle.topology.proofs.TwoDesks.{sides-within, desk-refused, desk-passed, desk-few, desk-pass, desk-lent, desk_finishes, desk-ran}
+use Rattle.topology.proofs.TwoDesks.{sides-within, desk-refused, desk-few, desk-pass, desk-lent, desk_finishes, desk-ran}
 use Rattle.topology.proofs.two_desks.run_desk.Goals as goal
 
-pub own_answer-refused-requires : goal.own_answer-refused-requires
-own_answer-refused-requires c = sides-within c.requires.1.partitioned
+pub check_desk-requires : goal.check_desk-requires
+check_desk-requires c = sides-within c.requires.1.partitioned
 
-pub returns-then-refused-ne0 : goal.returns-then-refused-ne0
-returns-then-refused-ne0 c = λ G T. desk-refused T c.args.pass c.args.boundaries.now c.args.anchors.now c.args.output.now c.own_answer-refused.ensures c.if-refused-ne0.true
+pub returns-in_err-check_desk : goal.returns-in_err-check_desk
+returns-in_err-check_desk c = λ G T.
+    let d = c.args.desk in
+    let given : c.from_residual.result ≡ Err c.in_err-check_desk.field-0.0 = search rules in
+    rw given (desk-refused T d.pass d.boundaries.now d.anchors.now c.args.output.now c.in_err-check_desk.ensures)
 
 pub overflow_mul-needed : goal.overflow_mul-needed
 overflow_mul-needed c =
-    let T = c.requires.1 in
-    let passed = desk-passed T c.args.pass c.args.boundaries.now c.args.anchors.now c.args.output.now c.own_answer-refused.ensures c.if-refused-ne0.false in
-    record { fits = omega (arith, desk-few T c.args.pass c.args.boundaries.now c.args.anchors.now c.args.output.now passed) }
+    let d = c.args.desk in
+    record { fits = omega (arith, desk-few c.requires.1 d.pass d.boundaries.now d.anchors.now c.args.output.now (sym c.in_ok-check_desk.ensures)) }
 
 pub mark_removed-requires-clause-map_shown : goal.mark_removed-requires-clause-map_shown
 mark_removed-requires-clause-map_shown c =
-    let T = c.requires.1 in
-    let passed = desk-passed T c.args.pass c.args.boundaries.now c.args.anchors.now c.args.output.now c.own_answer-refused.ensures c.if-refused-ne0.false in
-    (_, desk-lent T c.args.pass c.args.boundaries.now c.args.anchors.now c.args.output.now passed)
+    let d = c.args.desk in
+    (_, desk-lent c.requires.1 d.pass d.boundaries.now d.anchors.now c.args.output.now (sym c.in_ok-check_desk.ensures))
 
 pub mark_removed-requires-clause-before_marking : goal.mark_removed-requires-clause-before_marking
 mark_removed-requires-clause-before_marking c =
-    let T = c.requires.1 in
-    let passed = desk-passed T c.args.pass c.args.boundaries.now c.args.anchors.now c.args.output.now c.own_answer-refused.ensures c.if-refused-ne0.false in
-    (desk-pass T c.args.pass c.args.boundaries.now c.args.anchors.now c.args.output.now passed, no_marks)
+    let d = c.args.desk in
+    (desk-pass c.requires.1 d.pass d.boundaries.now d.anchors.now c.args.output.now (sym c.in_ok-check_desk.ensures), no_marks)
 
 pub finish-kept-requires : goal.finish-kept-requires
 finish-kept-requires c =
     let T = c.requires.1 in
-    let passed = desk-passed T c.args.pass c.args.boundaries.now c.args.anchors.now c.args.output.now c.own_answer-refused.ensures c.if-refused-ne0.false in
-    let lent = desk-lent T c.args.pass c.args.boundaries.now c.args.anchors.now c.args.output.now passed in
-    desk_finishes T c.args.pass c.args.boundaries.now c.args.anchors.now c.args.output.now passed (c.mark_removed.ensures _ lent)
+    let d = c.args.desk in
+    let passed = sym c.in_ok-check_desk.ensures in
+    let lent = desk-lent T d.pass d.boundaries.now d.anchors.now c.args.output.now passed in
+    desk_finishes T d.pass d.boundaries.now d.anchors.now c.args.output.now passed (c.mark_removed.ensures _ lent)
 
 pub returns : goal.returns
 returns c = λ G T.
-    let passed = desk-passed T c.args.pass c.args.boundaries.now c.args.anchors.now c.args.output.now c.own_answer-refused.ensures c.if-refused-ne0.false in
-    let lent = desk-lent T c.args.pass c.args.boundaries.now c.args.anchors.now c.args.output.now passed in
-    desk-ran T c.args.pass c.args.boundaries.now c.args.anchors.now c.args.output.now passed (c.mark_removed.ensures _ lent) refl c.finish-kept.ensures
+    let d = c.args.desk in
+    let passed = sym c.in_ok-check_desk.ensures in
+    let lent = desk-lent T d.pass d.boundaries.now d.anchors.now c.args.output.now passed in
+    desk-ran T d.pass d.boundaries.now d.anchors.now c.args.output.now passed (c.mark_removed.ensures _ lent) c.finish-kept.ensures
