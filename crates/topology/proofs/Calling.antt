@@ -34,7 +34,7 @@ use Rattle.topology.specs.Held.{HoldsRecords, filled-held, map-counted}
 use Rattle.topology.specs.Mouths.{NoMarks}
 use Rattle.topology.specs.Marks.{MapContext, IsPass, Lent, MarkedFor}
 use Rattle.topology.specs.Contract.{RanOver}
-use Rattle.topology.proofs.Lending.{lends, leaves}
+use Rattle.topology.specs.Lent.{lends, leaves}
 
 -- ---- the marks before the pass
 

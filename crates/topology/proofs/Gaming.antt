@@ -44,7 +44,7 @@ use Rattle.topology.specs.declared.games.Second.{Second}
 use Rattle.topology.specs.Filled.{Fills, Filled, Renewed}
 use Rattle.topology.specs.Marks.{IsPass, Lent, MarkedFor}
 use Rattle.topology.specs.Games.{Begun, RunsKept, RanKept}
-use Rattle.topology.proofs.Lending.{lends, leaves}
+use Rattle.topology.specs.Lent.{lends, leaves}
 use Rattle.topology.proofs.Calling.{is_pass, ready_fills, ready-lent, marked}
 
 module _ {B : Begun} {pass w h : ℕ} {cells spans boundaries anchors : List ℕ} {regions rows : ℕ} {l m q t p : List ℕ} {s : List Region} {o : List ℕ}

@@ -29,7 +29,7 @@ use Rattle.game_lists.proofs.Answering.{late_complete, played_complete}
 use Rattle.game_lists.proofs.Ready.{ready-early, kept-edges}
 use Rattle.topology.specs.declared.games.Second.{Second}
 use Rattle.topology.specs.Games.{Begun, RunsKept, RanKept, written_at, PlayedOver}
-use Rattle.topology.proofs.Lending.{lends, leaves}
+use Rattle.topology.specs.Lent.{lends, leaves}
 
 -- the lists as they were lent
 abbrev pub begun : ℕ → List ℕ → List ℕ → List ℕ → List ℕ → List ℕ → Begun

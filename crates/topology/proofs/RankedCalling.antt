@@ -33,7 +33,7 @@ use Rattle.ranked_finish.specs.Ends.{ranked_form, RankedFinished}
 use Rattle.ranked_finish.proofs.Exits.{ranked-done, ranked-short, refused-ran}
 use Rattle.topology.specs.Filled.{Filled}
 use Rattle.topology.specs.Ranked.{Lists, RankedFor, RankedOver}
-use Rattle.topology.proofs.Lending.{lends, leaves}
+use Rattle.topology.specs.Lent.{lends, leaves}
 use Rattle.topology.proofs.Calling.{marked}
 
 -- ---- the rows of the map: none, where counts differ

@@ -15,12 +15,11 @@ use Rattle.report_figures.specs.declared.Reported.{Reported}
 use Rattle.report_figures.specs.Forms.{report_form}
 use Rattle.report_figures.specs.Calls.{CallLeft, ReportedCall}
 use Rattle.report_figures.proofs.Called.{call-left, call-added}
-use Rattle.topology.specs.Lent.{LentLists, LeftLists, lent_call}
+use Rattle.topology.specs.Lent.{LentLists, LeftLists, lent_call, leaves}
 use Rattle.topology.specs.Contract.{RanOver}
 use Rattle.topology.specs.Reports.{ReportedOver}
 use Rattle.refusals.specs.Answers.{answer_in}
 use Rattle.refusals.specs.declared.answers.Answer.{Answer}
-use Rattle.topology.proofs.Lending.{leaves}
 
 -- the lists that are lent to be filled, as they were
 abbrev pub untouched : LentLists → LeftLists

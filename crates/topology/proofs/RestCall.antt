@@ -34,8 +34,8 @@ use Rattle.rest_lists.proofs.Between.{flat-kept, kept-starts}
 use Rattle.rest_lists.proofs.Ending.{numbers_fit, ends-fit, output-fits, masks-fit, queue-fit, rest-ran}
 use Rattle.topology.specs.declared.to_rest.RestAnswer.{RestAnswer}
 use Rattle.topology.specs.Filled.{Fills, Filled}
-use Rattle.topology.specs.Rest.{rest_answer, rest_written, RestRanOver, Stands, RanToRest}
-use Rattle.topology.proofs.Lending.{lends, leaves, run-lists}
+use Rattle.topology.specs.Rest.{rest_answer, rest_written, RestRanOver, Stands, RanToRest, run-lists}
+use Rattle.topology.specs.Lent.{lends, leaves}
 use Rattle.topology.proofs.Calling.{ready_fills}
 
 -- ---- before the first pass

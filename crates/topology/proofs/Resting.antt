@@ -38,8 +38,8 @@ use Rattle.rest_lists.proofs.Between.{flat-kept, all-kept, kept-still, kept_divi
 use Rattle.topology.specs.Filled.{Fills, Renewed}
 use Rattle.topology.specs.Held.{HoldsRecords, held_first}
 use Rattle.topology.specs.Marks.{Lent, MarkedFor}
-use Rattle.topology.specs.Rest.{Stands, Underway, Passes, Passed}
-use Rattle.topology.proofs.Lending.{run-lists, pass-lists}
+use Rattle.topology.specs.Rest.{Stands, Underway, Passes, Passed, run-lists}
+use Rattle.topology.proofs.Lending.{pass-lists}
 use Rattle.topology.proofs.Calling.{ready-shows, ready_fills}
 use Rattle.topology.proofs.Filling.{map-drop}
 

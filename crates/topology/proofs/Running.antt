@@ -21,8 +21,7 @@ use Rattle.rest_lists.specs.Turns.{turn_of, turn_after, quiet_after}
 use Rattle.rest_lists.proofs.Turned.{TurnsAt, turns-start, turns_next}
 use Rattle.topology.specs.declared.to_rest.RestAnswer.{RestAnswer}
 use Rattle.topology.specs.Marks.{IsPass}
-use Rattle.topology.specs.Rest.{Stands, RanToRest}
-use Rattle.topology.proofs.Lending.{run-lists}
+use Rattle.topology.specs.Rest.{Stands, RanToRest, run-lists}
 use Rattle.topology.proofs.Resting.{kept-few}
 
 -- the starting map

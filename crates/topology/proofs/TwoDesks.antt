@@ -40,8 +40,7 @@ use Rattle.topology.specs.Filled.{Filled}
 use Rattle.topology.specs.Marks.{IsPass, Lent, MarkedFor}
 use Rattle.rest_lists.proofs.Inner.{zeroed-length}
 use Rattle.topology.specs.Contract.{written}
-use Rattle.topology.specs.Desks.{desk_of, Ground, shared_of, Partitioned, Terrain, DeskRan, DesksRan, RanBothOver}
-use Rattle.topology.proofs.Lending.{lends_both, leaves-both}
+use Rattle.topology.specs.Desks.{desk_of, Ground, shared_of, Partitioned, Terrain, DeskRan, DesksRan, lends_both, leaves-both, RanBothOver}
 use Rattle.refusals.specs.Answers.{answer_in, answer_of}
 use Rattle.topology.specs.declared.two_desks.DesksAnswer.{DesksAnswer}
 use Rattle.topology.proofs.Calling.{is_pass, ready-lent, ran_over, needed-few}

@@ -1,18 +1,13 @@
--- The contract of the call that runs a pass, over the lent records as they are declared, and what an answer stands for. Definitions only; assumes nothing.
-use Rattle.std.specs.Prelude.{ℕ, zero, suc, min, ◌≡◌, List, map, drop, replicate, Result, Ok, Err}
+-- The contract of the call that runs a pass, over the lent records as they are declared. Definitions only; assumes nothing.
+use Rattle.std.specs.Prelude.{ℕ, zero, suc, min, ◌≡◌, List, map, drop, replicate}
 use Rattle.definitions.specs.Partition.{region_count}
 use Rattle.definitions.specs.RegionRecord.{empty_region}
 use Rattle.definitions.specs.RegionRecord as def
 use Rattle.definitions.specs.Verdict as verdict
 use Rattle.context.specs.Records.{record_of}
 use Rattle.call_partition.specs.Contract.{Ran}
-use Rattle.topology.specs.declared.Refused.{Refused}
 use Rattle.topology.specs.Numbers.{with_records}
 use Rattle.topology.specs.Lent.{LentLists, LeftLists, lent_map, lent_call}
-
-abbrev pub answer_of : Result ℕ Refused → verdict.Answer
-answer_of (Ok rows) = record { number = 0; value = rows }
-answer_of (Err r) = record { number = r.number; value = r.place }
 
 -- how many records a call that answers with this number writes, of a map of n regions
 abbrev pub written : ℕ → ℕ → ℕ
@@ -56,6 +51,28 @@ pub record LeftHere : Type 0 where
   pub pairs : List ℕ
   pub output : List ℕ
   pub numbers : List ℕ
+
+abbrev pub lends_here : (w h : ℕ) (cells spans boundaries anchors l m q t p : List ℕ) → ℕ → (o n : List ℕ) → LentHere
+lends_here w h cells spans boundaries anchors l m q t p room o n =
+    record {
+      width = w;
+      height = h;
+      cells = cells;
+      spans = spans;
+      boundaries = boundaries;
+      anchors = anchors;
+      labels = l;
+      masks = m;
+      queue = q;
+      tallies = t;
+      pairs = p;
+      room = room;
+      output = o;
+      numbers = n;
+    }
+
+abbrev pub leaves_here : (l m q t p o n : List ℕ) → LeftHere
+leaves_here l m q t p o n = record { labels = l; masks = m; queue = q; tallies = t; pairs = p; output = o; numbers = n }
 
 -- as the definitions have it: with `room` of its records, or all where it has no more, that are empty at entry
 abbrev pub here_call : ℕ → LentHere → verdict.Lent

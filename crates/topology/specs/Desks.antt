@@ -87,6 +87,14 @@ pub record LeftBoth : Type 0 where
   pub route_output_lem : List ℕ
   pub coaching_output_lem : List ℕ
 
+-- both, of the lists one by one, in this order
+abbrev pub lends_both : (w h : ℕ) (cells spans l m q t p : List ℕ) → List Region → LentBoth
+lends_both w h cells spans l m q t p s =
+    record { width = w; height = h; cells = cells; spans = spans; labels = l; masks = m; queue = q; tallies = t; pairs = p; records = s }
+
+abbrev pub leaves-both : (l m q t p : List ℕ) → List Region → (o u : List ℕ) → LeftBoth
+leaves-both l m q t p s o u = record { labels = l; masks = m; queue = q; tallies = t; pairs = p; records = s; route_output_lem = o; coaching_output_lem = u }
+
 -- as the definitions have it: the records as `record_of` shows them
 abbrev pub shared_lent : LentBoth → Shared
 shared_lent L =

@@ -53,3 +53,26 @@ lent_call pass L =
       records = map record_of L.records;
       output = L.output;
     }
+
+-- ---- the same, of what is asked and the lists one by one, in this order
+
+abbrev pub lends : (w h : ℕ) (cells spans boundaries anchors l m q t p : List ℕ) → List Region → List ℕ → LentLists
+lends w h cells spans boundaries anchors l m q t p s o =
+    record {
+      width = w;
+      height = h;
+      cells = cells;
+      spans = spans;
+      boundaries = boundaries;
+      anchors = anchors;
+      labels = l;
+      masks = m;
+      queue = q;
+      tallies = t;
+      pairs = p;
+      records = s;
+      output = o;
+    }
+
+abbrev pub leaves : (l m q t p : List ℕ) → List Region → List ℕ → LeftLists
+leaves l m q t p s o = record { labels = l; masks = m; queue = q; tallies = t; pairs = p; records = s; output = o }

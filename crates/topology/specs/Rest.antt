@@ -45,6 +45,9 @@ pub record RunLists : Type 0 where
   pub spans : List ℕ
   pub boundaries : List ℕ
 
+abbrev pub run-lists : (l m q t p : List ℕ) → List Region → (n b d : List ℕ) → RunLists
+run-lists l m q t p s n b d = record { labels = l; masks = m; queue = q; tallies = t; pairs = p; records = s; numbers = n; spans = b; boundaries = d }
+
 -- The lists stand as `KeptLists` says, and the records, that were lent as s, are those of what is kept, then empty ones as far as the first partition filled them.
 pub record Stands (w h : ℕ) (cells anchors : List ℕ) (O : Origin) (s : List Region) (places : List ℕ) (first standing : Standing) (R : RunLists) : Type 0 where
   pub lists :

@@ -1,5 +1,8 @@
 // The call that plays on the kept graph of a map (document 02, request 14): a pass, the partition by what it keeps, and the game.
 ghost use Rattle.game_lists.specs.Forms.{answer_in};
+ghost use Rattle.areas.specs.Lists.{of_lists, SameLists};
+ghost use Rattle.call_partition.specs.Asking.{of_asked};
+ghost use Rattle.topology.specs.Lent.{lends, leaves};
 ghost use Rattle.topology.specs.Games.{Begun, RunsKept, RanKept, PlayedOver};
 
 use crate::marks::mark_removed;
@@ -26,100 +29,50 @@ pub struct Second {
 // Behind the first partition: runs the pass, partitions again by what it keeps, and writes the rows.
 pub fn run_kept(
     pass: u64,
+    asked: Asked,
+    ready: Ready,
+    lists: &mut PartitionLists,
     records: &mut [Region],
-    width: usize,
-    height: usize,
-    cells: &[u8],
-    spans: &[u64],
-    boundaries: &[u64],
-    anchors: &[u64],
-    regions: usize,
-    rows: usize,
-    labels: &mut [u32],
-    masks: &mut [u16],
-    queue: &mut [u32],
-    tallies: &mut [u32],
-    pairs: &mut [u32],
     output: &mut [u64],
 ) -> Second
-    requires { (B : Begun) × RunsKept B pass
-        (record {
-          width = width;
-          height = height;
-          cells = cells.now;
-          spans = spans.now;
-          boundaries = boundaries.now;
-          anchors = anchors.now;
-          labels = labels.old;
-          masks = masks.old;
-          queue = queue.old;
-          tallies = tallies.old;
-          pairs = pairs.old;
-          records = records.old;
-          output = output.old;
-        })
-        regions rows }
-    ensures { (B : Begun) → RunsKept B pass
-        (record {
-          width = width;
-          height = height;
-          cells = cells.now;
-          spans = spans.now;
-          boundaries = boundaries.now;
-          anchors = anchors.now;
-          labels = labels.entry.now;
-          masks = masks.old;
-          queue = queue.old;
-          tallies = tallies.old;
-          pairs = pairs.old;
-          records = records.old;
-          output = output.old;
-        })
-        regions rows
-        → RanKept B pass
-        (record {
-          width = width;
-          height = height;
-          cells = cells.now;
-          spans = spans.now;
-          boundaries = boundaries.now;
-          anchors = anchors.now;
-          labels = labels.entry.now;
-          masks = masks.old;
-          queue = queue.old;
-          tallies = tallies.old;
-          pairs = pairs.old;
-          records = records.old;
-          output = output.old;
-        })
-        result
-        (record {
-          labels = labels.exit.now;
-          masks = masks.new;
-          queue = queue.new;
-          tallies = tallies.new;
-          pairs = pairs.new;
-          records = records.new;
-          output = output.new;
-        }) }
+    requires { (B : Begun) × RunsKept B pass (of_lists (of_asked lends asked) lists.old records.old output.old) ready.regions ready.rows }
+    ensures kept { (B : Begun)
+        → RunsKept B pass (of_lists (of_asked lends asked.entry) lists.old records.old output.old) ready.regions ready.rows
+        → RanKept B pass (of_lists (of_asked lends asked.entry) lists.old records.old output.old) result
+        (of_lists leaves lists.new records.new output.new) }
+    ensures same { SameLists lists.old lists.new }
 {
+    let width = asked.width as usize;
+    let height = asked.height as usize;
     let needed = height * width;
     let room = records.len();
     let mut removed = [false; 256];
-    fill(records, regions, width, cells, labels, queue);
+    let labels = &mut *lists.labels;
+    let masks = &mut *lists.masks;
+    let queue = &mut *lists.queue;
+    let tallies = &mut *lists.tallies;
+    let pairs = &mut *lists.pairs;
+    fill(
+        records,
+        ready.regions,
+        width,
+        asked.cells,
+        &*labels,
+        &*queue,
+    );
     mark_removed(
         pass,
         records,
         width,
         needed,
-        labels,
-        anchors,
-        regions,
-        rows,
-        spans.len() / NUMBERS_PER_SPAN,
-        boundaries,
-        tallies,
-        pairs,
+        &*labels,
+        asked.anchors,
+        ready.regions,
+        ready.rows,
+        asked.spans.len() / NUMBERS_PER_SPAN,
+        asked.boundaries,
+        &*tallies,
+        &*pairs,
         masks,
         queue,
         &mut removed,
@@ -127,24 +80,25 @@ pub fn run_kept(
     let grid = TerrainGrid {
         width,
         height,
-        cells,
+        cells: asked.cells,
     };
-    let mut lists = PartitionLists {
-        labels: &mut *labels,
-        masks: &mut *masks,
-        queue: &mut *queue,
-        tallies: &mut *tallies,
-        pairs: &mut *pairs,
-    };
-    let graph = divide_kept(grid, spans, &removed, rows, room, &mut lists);
-    renew(records, regions, graph.regions, width, cells, labels, queue);
+    let graph = divide_kept(grid, asked.spans, &removed, ready.rows, room, lists);
+    renew(
+        records,
+        ready.regions,
+        graph.regions,
+        width,
+        asked.cells,
+        &*lists.labels,
+        &*lists.queue,
+    );
     let kept = finish(
         needed,
-        boundaries.len() / NUMBERS_PER_BOUNDARY,
-        boundaries,
+        asked.boundaries.len() / NUMBERS_PER_BOUNDARY,
+        asked.boundaries,
         &removed,
-        masks,
-        queue,
+        lists.masks,
+        lists.queue,
         output,
     );
     Second {
@@ -154,98 +108,36 @@ pub fn run_kept(
     }
 }
 
-// For callers in any language.
+// The whole call.
 pub fn topology_runner_and_guard(
     pass: u64,
-    width: u64,
-    height: u64,
-    cells: &[u8],
-    spans: &[u64],
-    boundaries: &[u64],
-    anchors: &[u64],
+    asked: Asked,
     goal: u64,
-    labels: &mut [u32],
-    masks: &mut [u16],
-    queue: &mut [u32],
-    tallies: &mut [u32],
-    pairs: &mut [u32],
+    lists: &mut PartitionLists,
     records: &mut [Region],
     output: &mut [u64],
     verdicts: &mut [u32],
 ) -> GameAnswer
-    ensures { PlayedOver pass
-        (record {
-          width = width;
-          height = height;
-          cells = cells.now;
-          spans = spans.now;
-          boundaries = boundaries.now;
-          anchors = anchors.now;
-          labels = labels.entry.now;
-          masks = masks.old;
-          queue = queue.old;
-          tallies = tallies.old;
-          pairs = pairs.old;
-          records = records.old;
-          output = output.old;
-        })
-        goal verdicts.old (answer_in result)
-        (record {
-          labels = labels.exit.now;
-          masks = masks.new;
-          queue = queue.new;
-          tallies = tallies.new;
-          pairs = pairs.new;
-          records = records.new;
-          output = output.new;
-        })
-        verdicts.new }
+    ensures played { PlayedOver pass (of_lists (of_asked lends asked.entry) lists.old records.old output.old) goal verdicts.old (answer_in result)
+        (of_lists leaves lists.new records.new output.new) verdicts.new }
+    ensures same { SameLists lists.old lists.new }
 {
-    let room = records.len();
-    let lent = output.len();
-    let table = verdicts.len();
-    let asked = Asked {
-        width,
-        height,
-        cells,
-        spans,
-        boundaries,
-        anchors,
-    };
-    let mut lists = PartitionLists {
-        labels: &mut *labels,
-        masks: &mut *masks,
-        queue: &mut *queue,
-        tallies: &mut *tallies,
-        pairs: &mut *pairs,
-    };
-    let prepared = prepare_game(pass, asked, room, lent, table, &mut lists);
-    match prepared {
+    match prepare_game(
+        pass,
+        asked,
+        records.len(),
+        output.len(),
+        verdicts.len(),
+        lists,
+    ) {
         Err(refusal) => refused(refusal),
-        Ok(Ready { regions, rows }) => {
-            let second = run_kept(
-                pass,
-                records,
-                width as usize,
-                height as usize,
-                cells,
-                spans,
-                boundaries,
-                anchors,
-                regions,
-                rows,
-                labels,
-                masks,
-                queue,
-                tallies,
-                pairs,
-                output,
-            );
+        Ok(ready) => {
+            let second = run_kept(pass, asked, ready, lists, records, output);
             play(
                 second.kept,
                 second.regions,
                 goal,
-                pairs,
+                &*lists.pairs,
                 second.rows,
                 verdicts,
             )

@@ -8,6 +8,9 @@ ghost use Rattle.ranked_finish.specs.Ends.{ranked_form};
 ghost use Rattle.topology.specs.Proposals.{PassesIn, Unmarked};
 ghost use Rattle.topology.specs.Mouths.{NoMarks};
 ghost use Rattle.topology.specs.Marks.{Lent};
+ghost use Rattle.areas.specs.Lists.{of_lists, SameLists};
+ghost use Rattle.call_partition.specs.Asking.{of_asked};
+ghost use Rattle.topology.specs.Lent.{lends, leaves};
 ghost use Rattle.topology.specs.Ranked.{Ranked, RankedFor, RankedOver};
 
 use crate::junction_pass::{NO_ROW, select_junctions};
@@ -110,87 +113,41 @@ pub fn mark_ranked(
 
 // The call of pass 3 with its list. Nothing is written to the lent list before the proposals are counted.
 pub fn topology_ranked_junctions(
-    width: u64,
-    height: u64,
-    cells: &[u8],
-    spans: &[u64],
-    boundaries: &[u64],
-    anchors: &[u64],
-    labels: &mut [u32],
-    masks: &mut [u16],
-    queue: &mut [u32],
-    tallies: &mut [u32],
-    pairs: &mut [u32],
+    asked: Asked,
+    lists: &mut PartitionLists,
     records: &mut [Region],
     output: &mut [u64],
     ranked: &mut [u32],
 ) -> RankedAnswer
-    ensures { RankedOver
-        (record {
-          width = width;
-          height = height;
-          cells = cells.now;
-          spans = spans.now;
-          boundaries = boundaries.now;
-          anchors = anchors.now;
-          labels = labels.entry.now;
-          masks = masks.old;
-          queue = queue.old;
-          tallies = tallies.old;
-          pairs = pairs.old;
-          records = records.old;
-          output = output.old;
-        })
-        ranked.old (ranked_form result)
-        (record {
-          labels = labels.exit.now;
-          masks = masks.new;
-          queue = queue.new;
-          tallies = tallies.new;
-          pairs = pairs.new;
-          records = records.new;
-          output = output.new;
-        })
-        ranked.new }
+    ensures ranked { RankedOver (of_lists (of_asked lends asked.entry) lists.old records.old output.old) ranked.old (ranked_form result)
+        (of_lists leaves lists.new records.new output.new) ranked.new }
+    ensures same { SameLists lists.old lists.new }
 {
-    let room = records.len();
-    let lent = output.len();
-    let asked = Asked {
-        width,
-        height,
-        cells,
-        spans,
-        boundaries,
-        anchors,
-    };
-    let mut lists = PartitionLists {
-        labels: &mut *labels,
-        masks: &mut *masks,
-        queue: &mut *queue,
-        tallies: &mut *tallies,
-        pairs: &mut *pairs,
-    };
-    let prepared = prepare(3, asked, room, lent, &mut lists);
-    match prepared {
+    match prepare(3, asked, records.len(), output.len(), lists) {
         Err(refusal) => refused(refusal),
         Ok(Ready { regions, rows }) => {
-            let columns = width as usize;
-            let needed = height as usize * columns;
+            let columns = asked.width as usize;
+            let needed = asked.height as usize * columns;
             let mut removed = [false; 256];
             let mut listed = [0u32; NUMBERS_PER_RANKED * MAX_PROPOSALS];
-            fill(records, regions, columns, cells, labels, queue);
+            let labels = &mut *lists.labels;
+            let masks = &mut *lists.masks;
+            let queue = &mut *lists.queue;
+            let tallies = &mut *lists.tallies;
+            let pairs = &mut *lists.pairs;
+            fill(records, regions, columns, asked.cells, &*labels, &*queue);
             let n = mark_ranked(
                 records,
                 columns,
                 needed,
-                labels,
-                anchors,
+                &*labels,
+                asked.anchors,
                 regions,
                 rows,
-                spans.len() / NUMBERS_PER_SPAN,
-                boundaries,
-                tallies,
-                pairs,
+                asked.spans.len() / NUMBERS_PER_SPAN,
+                asked.boundaries,
+                &*tallies,
+                &*pairs,
                 masks,
                 queue,
                 &mut removed,
@@ -198,8 +155,8 @@ pub fn topology_ranked_junctions(
             );
             finish_ranked(
                 needed,
-                boundaries.len() / NUMBERS_PER_BOUNDARY,
-                boundaries,
+                asked.boundaries.len() / NUMBERS_PER_BOUNDARY,
+                asked.boundaries,
                 &removed,
                 &listed,
                 n,

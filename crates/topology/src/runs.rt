@@ -3,9 +3,14 @@ ghost use Rattle.std.specs.Prelude.{◌/◌, length};
 ghost use Rattle.definitions.specs.Limits.{numbers_per_boundary};
 ghost use Rattle.report_figures.specs.Forms.{report_form};
 ghost use Rattle.report_figures.specs.Calls.{CallLeft, ReportedCall};
+ghost use Rattle.areas.specs.Lists.{of_lists, SameLists};
+ghost use Rattle.call_partition.specs.Asking.{of_asked};
+ghost use Rattle.topology.specs.Lent.{lends, leaves};
 ghost use Rattle.topology.specs.Reports.{ReportedOver};
 
 use crate::topology_kept_boundaries;
+use areas::lists::PartitionLists;
+use call_partition::asked::Asked;
 use checks::limits::NUMBERS_PER_BOUNDARY;
 use context::Region;
 use report_figures::call_figures::{answered, beyond, has_room};
@@ -38,53 +43,18 @@ fn added(
 pub fn topology_report_run(
     report: Report,
     pass: u64,
-    width: u64,
-    height: u64,
-    cells: &[u8],
-    spans: &[u64],
-    boundaries: &[u64],
-    anchors: &[u64],
-    labels: &mut [u32],
-    masks: &mut [u16],
-    queue: &mut [u32],
-    tallies: &mut [u32],
-    pairs: &mut [u32],
+    asked: Asked,
+    lists: &mut PartitionLists,
     records: &mut [Region],
     output: &mut [u64],
 ) -> Reported
-    ensures { ReportedOver (report_form report) pass
-        (record {
-          width = width;
-          height = height;
-          cells = cells.now;
-          spans = spans.now;
-          boundaries = boundaries.now;
-          anchors = anchors.now;
-          labels = labels.entry.now;
-          masks = masks.old;
-          queue = queue.old;
-          tallies = tallies.old;
-          pairs = pairs.old;
-          records = records.old;
-          output = output.old;
-        })
-        result
-        (record {
-          labels = labels.exit.now;
-          masks = masks.new;
-          queue = queue.new;
-          tallies = tallies.new;
-          pairs = pairs.new;
-          records = records.new;
-          output = output.new;
-        }) }
+    ensures reported { ReportedOver (report_form report) pass (of_lists (of_asked lends asked.entry) lists.old records.old output.old) result
+        (of_lists leaves lists.new records.new output.new) }
+    ensures same { SameLists lists.old lists.new }
 {
     if has_room(report) {
-        let answer = topology_kept_boundaries(
-            pass, width, height, cells, spans, boundaries, anchors, labels, masks, queue, tallies,
-            pairs, records, output,
-        );
-        added(report, pass, answer, boundaries, output)
+        let kept = topology_kept_boundaries(pass, asked, lists, records, output);
+        added(report, pass, Answer::from(kept), asked.boundaries, output)
     } else {
         beyond(report)
     }

@@ -4,8 +4,11 @@ ghost use Rattle.rest_definitions.specs.RowOrder.{start_map};
 ghost use Rattle.rest_definitions.specs.Rest.{passed};
 ghost use Rattle.context.specs.declared.Region.{Region};
 ghost use Rattle.rest_lists.specs.Kept.{Origin, map_lent, all_places};
+ghost use Rattle.areas.specs.Lists.{of_lists, SameLists};
+ghost use Rattle.call_partition.specs.Asking.{of_asked};
+ghost use Rattle.topology.specs.Lent.{lends, leaves};
 ghost use Rattle.topology.specs.Marks.{IsPass};
-ghost use Rattle.topology.specs.Rest.{rest_answer, RestRanOver, Stands, Underway, Passes, Passed, RanToRest};
+ghost use Rattle.topology.specs.Rest.{rest_answer, run-lists, RestRanOver, Stands, Underway, Passes, Passed, RanToRest};
 
 use crate::marks::mark_removed;
 use crate::records::{fill, renew};
@@ -104,72 +107,43 @@ pub fn pass_kept(
 // One pass, and where it removes some the partition and the records of what is left.
 pub fn turn_once(
     pass: u64,
-    width: usize,
-    height: usize,
-    cells: &[u8],
+    grid: TerrainGrid,
     anchors: &[u64],
     first: Standing,
     standing: Standing,
-    labels: &mut [u32],
-    masks: &mut [u16],
-    queue: &mut [u32],
-    tallies: &mut [u32],
-    pairs: &mut [u32],
+    lists: &mut PartitionLists,
     records: &mut [Region],
     numbers: &mut [u64],
     spans: &mut [u64],
     boundaries: &mut [u64],
 ) -> Standing
     requires is_pass { IsPass pass }
-    requires lists_stand { (O : Origin) × (s : List Region) × (places : List ℕ) × Stands width height cells.now anchors.now O s places first standing
-        (record {
-          labels = labels.now;
-          masks = masks.old;
-          queue = queue.old;
-          tallies = tallies.old;
-          pairs = pairs.old;
-          records = records.old;
-          numbers = numbers.old;
-          spans = spans.old;
-          boundaries = boundaries.old;
-        }) }
-    ensures { (O : Origin) (s : List Region) (places : List ℕ)
-        → Stands width height cells.now anchors.now O s places first standing
-        (record {
-          labels = labels.entry.now;
-          masks = masks.old;
-          queue = queue.old;
-          tallies = tallies.old;
-          pairs = pairs.old;
-          records = records.old;
-          numbers = numbers.old;
-          spans = spans.old;
-          boundaries = boundaries.old;
-        })
-        → Stands width height cells.now anchors.now O s
-        (passed pass (start_map (map_lent width height cells.now anchors.now O)) places) first result
-        (record {
-          labels = labels.exit.now;
-          masks = masks.new;
-          queue = queue.new;
-          tallies = tallies.new;
-          pairs = pairs.new;
-          records = records.new;
-          numbers = numbers.new;
-          spans = spans.new;
-          boundaries = boundaries.new;
-        }) }
+    requires lists_stand { (O : Origin) × (s : List Region) × (places : List ℕ)
+        × Stands grid.width grid.height grid.cells.now anchors.now O s places first standing
+        (of_lists run-lists lists.old records.old numbers.old spans.old boundaries.old) }
+    ensures stands { (O : Origin) (s : List Region) (places : List ℕ)
+        → Stands grid.entry.width grid.entry.height grid.entry.cells.now anchors.now O s places first standing
+        (of_lists run-lists lists.old records.old numbers.old spans.old boundaries.old)
+        → Stands grid.entry.width grid.entry.height grid.entry.cells.now anchors.now O s
+        (passed pass (start_map (map_lent grid.entry.width grid.entry.height grid.entry.cells.now anchors.now O)) places) first result
+        (of_lists run-lists lists.new records.new numbers.new spans.new boundaries.new) }
+    ensures same { SameLists lists.old lists.new }
 {
+    let labels = &mut *lists.labels;
+    let masks = &mut *lists.masks;
+    let queue = &mut *lists.queue;
+    let tallies = &mut *lists.tallies;
+    let pairs = &mut *lists.pairs;
     let left = pass_kept(
         pass,
         records,
-        width,
-        height * width,
-        labels,
+        grid.width,
+        grid.height * grid.width,
+        &*labels,
         anchors,
         standing,
-        tallies,
-        pairs,
+        &*tallies,
+        &*pairs,
         masks,
         queue,
         numbers,
@@ -180,94 +154,56 @@ pub fn turn_once(
         return standing;
     }
     let room = records.len();
-    let grid = TerrainGrid {
-        width,
-        height,
-        cells,
-    };
-    let mut lists = PartitionLists {
-        labels: &mut *labels,
-        masks: &mut *masks,
-        queue: &mut *queue,
-        tallies: &mut *tallies,
-        pairs: &mut *pairs,
-    };
-    let next = divide_again(grid, spans, left, first, room, &mut lists);
+    let next = divide_again(grid, spans, left, first, room, lists);
     renew(
         records,
         first.regions,
         next.regions,
-        width,
-        cells,
-        labels,
-        queue,
+        grid.width,
+        grid.cells,
+        &*lists.labels,
+        &*lists.queue,
     );
     next
 }
 
 // The loop: passes until three in a row remove none. Gives how many are kept then, and the rounds.
 pub fn run_turns(
-    width: usize,
-    height: usize,
-    cells: &[u8],
+    grid: TerrainGrid,
     anchors: &[u64],
     first: Standing,
-    labels: &mut [u32],
-    masks: &mut [u16],
-    queue: &mut [u32],
-    tallies: &mut [u32],
-    pairs: &mut [u32],
+    lists: &mut PartitionLists,
     records: &mut [Region],
     numbers: &mut [u64],
     spans: &mut [u64],
     boundaries: &mut [u64],
 ) -> RestAnswer
-    requires { (O : Origin) × (s : List Region) × Stands width height cells.now anchors.now O s
-        (all_places (map_lent width height cells.now anchors.now O)) first first
-        (record {
-          labels = labels.now;
-          masks = masks.old;
-          queue = queue.old;
-          tallies = tallies.old;
-          pairs = pairs.old;
-          records = records.old;
-          numbers = numbers.old;
-          spans = spans.old;
-          boundaries = boundaries.old;
-        }) }
-    ensures { (O : Origin) (s : List Region) → Stands width height cells.now anchors.now O s
-        (all_places (map_lent width height cells.now anchors.now O)) first first
-        (record {
-          labels = labels.entry.now;
-          masks = masks.old;
-          queue = queue.old;
-          tallies = tallies.old;
-          pairs = pairs.old;
-          records = records.old;
-          numbers = numbers.old;
-          spans = spans.old;
-          boundaries = boundaries.old;
-        })
-        → RanToRest width height cells.now anchors.now O s first result
-        (record {
-          labels = labels.exit.now;
-          masks = masks.new;
-          queue = queue.new;
-          tallies = tallies.new;
-          pairs = pairs.new;
-          records = records.new;
-          numbers = numbers.new;
-          spans = spans.new;
-          boundaries = boundaries.new;
-        }) }
+    requires { (O : Origin) × (s : List Region) × Stands grid.width grid.height grid.cells.now anchors.now O s
+        (all_places (map_lent grid.width grid.height grid.cells.now anchors.now O)) first first
+        (of_lists run-lists lists.old records.old numbers.old spans.old boundaries.old) }
+    ensures rests { (O : Origin) (s : List Region)
+        → Stands grid.entry.width grid.entry.height grid.entry.cells.now anchors.now O s
+        (all_places (map_lent grid.entry.width grid.entry.height grid.entry.cells.now anchors.now O)) first first
+        (of_lists run-lists lists.old records.old numbers.old spans.old boundaries.old)
+        → RanToRest grid.entry.width grid.entry.height grid.entry.cells.now anchors.now O s first result
+        (of_lists run-lists lists.new records.new numbers.new spans.new boundaries.new) }
+    ensures same { SameLists lists.old lists.new }
 {
     let mut standing = first;
     let mut turn = first_turn();
     // Kept: what a pass removes decides whether another follows, so no range or chain has these turns as its items.
     while turn.quiet < 3 {
         let next = turn_once(
-            turn.pass.number(), width, height, cells, anchors, first, standing, labels, masks, queue,
-            tallies, pairs, records, numbers, spans, boundaries,
+            turn.pass.number(),
+            grid,
+            anchors,
+            first,
+            standing,
+            lists,
+            records,
+            numbers,
+            spans,
+            boundaries,
         );
         turn = next_turn(turn, next.kept != standing.kept);
         standing = next;
@@ -279,116 +215,72 @@ pub fn run_turns(
     }
 }
 
-// The call, for callers in any language.
+// The whole call.
 pub fn topology_run_to_rest(
-    width: u64,
-    height: u64,
-    cells: &[u8],
-    spans: &[u64],
-    boundaries: &[u64],
-    anchors: &[u64],
-    labels: &mut [u32],
-    masks: &mut [u16],
-    queue: &mut [u32],
-    tallies: &mut [u32],
-    pairs: &mut [u32],
+    asked: Asked,
+    lists: &mut PartitionLists,
     records: &mut [Region],
     output: &mut [u64],
 ) -> RestAnswer
-    ensures { RestRanOver
-        (record {
-          width = width;
-          height = height;
-          cells = cells.now;
-          spans = spans.now;
-          boundaries = boundaries.now;
-          anchors = anchors.now;
-          labels = labels.entry.now;
-          masks = masks.old;
-          queue = queue.old;
-          tallies = tallies.old;
-          pairs = pairs.old;
-          records = records.old;
-          output = output.old;
-        })
-        (rest_answer result)
-        (record {
-          labels = labels.exit.now;
-          masks = masks.new;
-          queue = queue.new;
-          tallies = tallies.new;
-          pairs = pairs.new;
-          records = records.new;
-          output = output.new;
-        }) }
+    ensures rests { RestRanOver (of_lists (of_asked lends asked.entry) lists.old records.old output.old) (rest_answer result)
+        (of_lists leaves lists.new records.new output.new) }
+    ensures same { SameLists lists.old lists.new }
 {
-    let room = records.len();
-    let lent = output.len();
     let mut numbers = [0u64; 256];
     let mut kept_spans = [0u64; 1024];
     let mut kept_boundaries = [0u64; 2304];
-    let asked = Asked {
-        width,
-        height,
-        cells,
-        spans,
-        boundaries,
-        anchors,
-    };
-    let mut lists = PartitionLists {
-        labels: &mut *labels,
-        masks: &mut *masks,
-        queue: &mut *queue,
-        tallies: &mut *tallies,
-        pairs: &mut *pairs,
-    };
-    let prepared = begin_rest(
+    match begin_rest(
         asked,
-        room,
-        lent,
-        &mut lists,
+        records.len(),
+        output.len(),
+        lists,
         &mut numbers,
         &mut kept_spans,
         &mut kept_boundaries,
-    );
-    match prepared {
+    ) {
         Err(refusal) => RestAnswer {
             number: refusal.cause.number(),
             value: refusal.place as u64,
             rounds: 0,
         },
         Ok(Ready { regions, rows }) => {
-            let columns = width as usize;
-            let lines = height as usize;
+            let width = asked.width as usize;
+            let height = asked.height as usize;
+            let grid = TerrainGrid {
+                width,
+                height,
+                cells: asked.cells,
+            };
             let first = Standing {
-                kept: boundaries.len() / NUMBERS_PER_BOUNDARY,
+                kept: asked.boundaries.len() / NUMBERS_PER_BOUNDARY,
                 regions,
                 rows,
             };
-            fill(records, regions, columns, cells, labels, queue);
+            fill(
+                records,
+                regions,
+                width,
+                asked.cells,
+                &*lists.labels,
+                &*lists.queue,
+            );
             let answer = run_turns(
-                columns,
-                lines,
-                cells,
-                anchors,
+                grid,
+                asked.anchors,
                 first,
-                labels,
-                masks,
-                queue,
-                tallies,
-                pairs,
+                lists,
                 records,
                 &mut numbers,
                 &mut kept_spans,
                 &mut kept_boundaries,
             );
             finish_rest(
-                lines * columns,
+                height * width,
                 answer.value as usize,
                 &numbers,
                 &kept_spans,
-                masks,
-                queue,
+                lists.masks,
+                lists.queue,
                 output,
             );
             answer

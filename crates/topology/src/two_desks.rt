@@ -2,7 +2,8 @@
 // the shared lists as they are on success, and leaves them so.
 ghost use Rattle.std.specs.Prelude.{◌≡◌};
 ghost use Rattle.refusals.specs.Answers.{answer_in, answer_of};
-ghost use Rattle.topology.specs.Desks.{desk_of, Ground, Terrain, DeskRan, DesksRan, RanBothOver};
+ghost use Rattle.areas.specs.Lists.{of_lists, SameLists};
+ghost use Rattle.topology.specs.Desks.{desk_of, Ground, Terrain, DeskRan, DesksRan, lends_both, leaves-both, RanBothOver};
 
 use crate::marks::mark_removed;
 use crate::records::fill;
@@ -185,82 +186,40 @@ pub fn run_desks(
     both(route, coaching)
 }
 
-// The call for two desks, for callers in any language. The records are filled from the queue before the desks work in it.
+// The call for two desks. The records are filled from the queue before the desks work in it.
 pub fn topology_two_desks(
     order: u64,
     width: u64,
     height: u64,
     cells: &[u8],
     spans: &[u64],
-    route_pass: u64,
-    route_boundaries: &[u64],
-    route_anchors: &[u64],
-    coaching_pass: u64,
-    coaching_boundaries: &[u64],
-    coaching_anchors: &[u64],
-    labels: &mut [u32],
-    masks: &mut [u16],
-    queue: &mut [u32],
-    tallies: &mut [u32],
-    pairs: &mut [u32],
+    route_desk: Desk,
+    coaching_desk: Desk,
+    lists: &mut PartitionLists,
     records: &mut [Region],
     route_output: &mut [u64],
     coaching_output: &mut [u64],
 ) -> DesksAnswer
-    ensures { RanBothOver order
-        (record {
-          width = width;
-          height = height;
-          cells = cells.now;
-          spans = spans.now;
-          labels = labels.entry.now;
-          masks = masks.old;
-          queue = queue.old;
-          tallies = tallies.old;
-          pairs = pairs.old;
-          records = records.old;
-        })
-        (desk_of route_pass route_boundaries.now route_anchors.now route_output.old)
-        (desk_of coaching_pass coaching_boundaries.now coaching_anchors.now coaching_output.old)
+    ensures ran { RanBothOver order (of_lists (lends_both width height cells.now spans.now) lists.old records.old)
+        (desk_of route_desk.entry.pass route_desk.entry.boundaries.now route_desk.entry.anchors.now route_output.old)
+        (desk_of coaching_desk.entry.pass coaching_desk.entry.boundaries.now coaching_desk.entry.anchors.now coaching_output.old)
         result
-        (record {
-          labels = labels.exit.now;
-          masks = masks.new;
-          queue = queue.new;
-          tallies = tallies.new;
-          pairs = pairs.new;
-          records = records.new;
-          route_output_lem = route_output.new;
-          coaching_output_lem = coaching_output.new;
-        }) }
+        (of_lists leaves-both lists.new records.new route_output.new coaching_output.new) }
+    ensures same { SameLists lists.old lists.new }
 {
-    let room = records.len();
-    let mut lists = PartitionLists {
-        labels: &mut *labels,
-        masks: &mut *masks,
-        queue: &mut *queue,
-        tallies: &mut *tallies,
-        pairs: &mut *pairs,
-    };
-    let prepared = prepare_shared(width, height, cells, spans, room, &mut lists);
-    match prepared {
+    match prepare_shared(width, height, cells, spans, records.len(), lists) {
         // "a refusal over the shared lists comes first and goes to both"
         Err(refusal) => both(Err(refusal), Err(refusal)),
         Ok(Ready { regions, rows }) => {
             let columns = width as usize;
-            let route_desk = Desk {
-                pass: route_pass,
-                boundaries: route_boundaries,
-                anchors: route_anchors,
-            };
-            let coaching_desk = Desk {
-                pass: coaching_pass,
-                boundaries: coaching_boundaries,
-                anchors: coaching_anchors,
-            };
-            fill(records, regions, columns, cells, labels, queue);
+            let labels = &mut *lists.labels;
+            let masks = &mut *lists.masks;
+            let queue = &mut *lists.queue;
+            let tallies = &mut *lists.tallies;
+            let pairs = &mut *lists.pairs;
+            fill(records, regions, columns, cells, &*labels, &*queue);
             clear_scratch(masks, queue, height as usize * columns);
-            let answers = run_desks(
+            run_desks(
                 order,
                 width,
                 height,
@@ -269,16 +228,15 @@ pub fn topology_two_desks(
                 rows,
                 route_desk,
                 coaching_desk,
-                labels,
-                tallies,
-                pairs,
+                &*labels,
+                &*tallies,
+                &*pairs,
                 records,
                 masks,
                 queue,
                 route_output,
                 coaching_output,
-            );
-            answers
+            )
         }
     }
 }

@@ -2,8 +2,7 @@
 use Rattle.std.proofs.Common.{◌+◌, ◌*◌, ◌-◌, List}
 use Rattle.context.specs.declared.Region.{Region}
 use Rattle.rest_lists.specs.Kept.{Origin, map_lent, all_places}
-use Rattle.topology.specs.Rest.{Stands}
-use Rattle.topology.proofs.Lending.{run-lists}
+use Rattle.topology.specs.Rest.{Stands, run-lists}
 use Rattle.topology.proofs.Running.{RunsAt}
 use Rattle.topology.proofs.to_rest.run_turns.Given as goal
 

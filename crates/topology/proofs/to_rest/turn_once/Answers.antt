@@ -3,8 +3,7 @@ use Rattle.std.proofs.Common.{ℕ, ◌*◌, List, refl, arith}
 use Rattle.context.specs.declared.Region.{Region}
 use Rattle.rest_lists.specs.declared.kept.Standing.{Standing}
 use Rattle.rest_lists.specs.Kept.{Origin}
-use Rattle.topology.specs.Rest.{Stands, Passes}
-use Rattle.topology.proofs.Lending.{run-lists}
+use Rattle.topology.specs.Rest.{Stands, Passes, run-lists}
 use Rattle.topology.proofs.Calling.{needed-few}
 use Rattle.topology.proofs.Resting.{stands-still, asks_again, first_fits, again_fills, stands-again}
 use Rattle.topology.proofs.to_rest.turn_once.Goals as goal
