@@ -11,9 +11,13 @@ ghost use Rattle.topology.specs.Reports.{ReportedOver};
 ghost use Rattle.topology.specs.Rest.{rest_answer, RestRanOver};
 ghost use Rattle.topology.specs.Desks.{desk_of, RanBothOver};
 
+use areas::lists::PartitionLists;
+use call_partition::asked::Asked;
 use context::Region;
+use desk_checks::own::Desk;
 use game_lists::play::GameAnswer;
 use ranked_finish::RankedAnswer;
+use refusals::answers::Answer;
 use report_figures::{Report, Reported};
 use topology::to_rest::RestAnswer;
 use topology::two_desks::DesksAnswer;
@@ -66,13 +70,27 @@ pub extern "C" fn jenwyllt_runner_and_guard(
         })
         verdicts.new }
 {
+    let asked = Asked {
+        width,
+        height,
+        cells,
+        spans,
+        boundaries,
+        anchors,
+    };
+    let mut lists = PartitionLists {
+        labels,
+        masks,
+        queue,
+        tallies,
+        pairs,
+    };
     topology::games::topology_runner_and_guard(
-        pass, width, height, cells, spans, boundaries, anchors, goal, labels, masks, queue,
-        tallies, pairs, records, output, verdicts,
+        pass, asked, goal, &mut lists, records, output, verdicts,
     )
 }
 
-// The call that runs a pass (SPECIFICATION 3), for callers in any language: the function that does the work is itself the one that is exported.
+// The call that runs a pass (SPECIFICATION 3), for callers in any language.
 #[unsafe(no_mangle)]
 pub extern "C" fn jenwyllt_kept_boundaries(
     pass: u64,
@@ -117,10 +135,23 @@ pub extern "C" fn jenwyllt_kept_boundaries(
           output = output.new;
         }) }
 {
-    topology::topology_kept_boundaries(
-        pass, width, height, cells, spans, boundaries, anchors, labels, masks, queue, tallies,
-        pairs, records, output,
-    )
+    let asked = Asked {
+        width,
+        height,
+        cells,
+        spans,
+        boundaries,
+        anchors,
+    };
+    let mut lists = PartitionLists {
+        labels,
+        masks,
+        queue,
+        tallies,
+        pairs,
+    };
+    let kept = topology::topology_kept_boundaries(pass, asked, &mut lists, records, output);
+    Answer::from(kept)
 }
 
 // The call of pass 3 with its list. Nothing is written to the lent list before the proposals are counted.
@@ -169,10 +200,22 @@ pub extern "C" fn jenwyllt_ranked_junctions(
         })
         ranked.new }
 {
-    topology::ranked::topology_ranked_junctions(
-        width, height, cells, spans, boundaries, anchors, labels, masks, queue, tallies, pairs,
-        records, output, ranked,
-    )
+    let asked = Asked {
+        width,
+        height,
+        cells,
+        spans,
+        boundaries,
+        anchors,
+    };
+    let mut lists = PartitionLists {
+        labels,
+        masks,
+        queue,
+        tallies,
+        pairs,
+    };
+    topology::ranked::topology_ranked_junctions(asked, &mut lists, records, output, ranked)
 }
 
 // Makes the call and adds what it answered. A run beyond the last is refused before anything else, and every list is then as it was.
@@ -221,10 +264,22 @@ pub extern "C" fn jenwyllt_report_run(
           output = output.new;
         }) }
 {
-    topology::runs::topology_report_run(
-        report, pass, width, height, cells, spans, boundaries, anchors, labels, masks, queue,
-        tallies, pairs, records, output,
-    )
+    let asked = Asked {
+        width,
+        height,
+        cells,
+        spans,
+        boundaries,
+        anchors,
+    };
+    let mut lists = PartitionLists {
+        labels,
+        masks,
+        queue,
+        tallies,
+        pairs,
+    };
+    topology::runs::topology_report_run(report, pass, asked, &mut lists, records, output)
 }
 
 // The call, for callers in any language.
@@ -271,10 +326,22 @@ pub extern "C" fn jenwyllt_run_to_rest(
           output = output.new;
         }) }
 {
-    topology::to_rest::topology_run_to_rest(
-        width, height, cells, spans, boundaries, anchors, labels, masks, queue, tallies, pairs,
-        records, output,
-    )
+    let asked = Asked {
+        width,
+        height,
+        cells,
+        spans,
+        boundaries,
+        anchors,
+    };
+    let mut lists = PartitionLists {
+        labels,
+        masks,
+        queue,
+        tallies,
+        pairs,
+    };
+    topology::to_rest::topology_run_to_rest(asked, &mut lists, records, output)
 }
 
 // The call for two desks, for callers in any language. The records are filled from the queue before the desks work in it.
@@ -327,23 +394,32 @@ pub extern "C" fn jenwyllt_two_desks(
           coaching_output_lem = coaching_output.new;
         }) }
 {
+    let route_desk = Desk {
+        pass: route_pass,
+        boundaries: route_boundaries,
+        anchors: route_anchors,
+    };
+    let coaching_desk = Desk {
+        pass: coaching_pass,
+        boundaries: coaching_boundaries,
+        anchors: coaching_anchors,
+    };
+    let mut lists = PartitionLists {
+        labels,
+        masks,
+        queue,
+        tallies,
+        pairs,
+    };
     topology::two_desks::topology_two_desks(
         order,
         width,
         height,
         cells,
         spans,
-        route_pass,
-        route_boundaries,
-        route_anchors,
-        coaching_pass,
-        coaching_boundaries,
-        coaching_anchors,
-        labels,
-        masks,
-        queue,
-        tallies,
-        pairs,
+        route_desk,
+        coaching_desk,
+        &mut lists,
         records,
         route_output,
         coaching_output,

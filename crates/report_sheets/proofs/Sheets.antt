@@ -14,8 +14,7 @@ use Rattle.definitions.specs.Verdict as verdict
 use Rattle.definitions.specs.Printed.{max_sheet_bytes, lent_for}
 use Rattle.laws.specs.SheetReading.SheetSizes.{room-enough}
 use Rattle.call_partition.specs.Contract.{given, Ran}
-use Rattle.topology.specs.Contract.{answer_of as call-says}
-use Rattle.topology.specs.declared.Refused as call
+use Rattle.refusals.specs.Answers.{answer_of as call-says}
 use Rattle.std.specs.Prelude.{Result, Ok, Err}
 use Rattle.refusals.specs.declared.Refusal.{Refusal}
 use Rattle.refusals.specs.Refusals.{number_of, refusal_of}
@@ -43,7 +42,7 @@ lent pass w h cells spans boundaries anchors =
     given pass w h cells spans boundaries anchors (replicate 4096 0) (replicate 4096 0) (replicate 4096 0) (replicate 512 0) (replicate 6144 0) (replicate 512 empty_region) (replicate 1280 0)
 
 -- the call answered r, which is known as r'
-module _ {pass w h : ℕ} {cells spans boundaries anchors l m q t p : List ℕ} {s : List Region} {o : List ℕ} {r r' : Result ℕ call.Refused} (e : r ≡ r')
+module _ {pass w h : ℕ} {cells spans boundaries anchors l m q t p : List ℕ} {s : List Region} {o : List ℕ} {r r' : Result ℕ Refusal} (e : r ≡ r')
     (R : Ran (lent pass w h cells spans boundaries anchors) (call-says r) l m q t p s o) where
   ran : Ran (lent pass w h cells spans boundaries anchors) (call-says r') l m q t p s o
   ran = subst (λ x. Ran (lent pass w h cells spans boundaries anchors) (call-says x) l m q t p s o) e R

@@ -4,11 +4,14 @@
 #![tactic(auto)]
 
 ghost use Rattle.definitions.specs.Sheet.{well_formed, refused};
+ghost use Rattle.call_partition.specs.Asking.{of_asked};
 ghost use Rattle.sheet_answer.specs.Contract.{sheet_from, sheet_in, SheetHeld};
 ghost use Rattle.report.specs.Runs.{sheet_reading};
 ghost use Rattle.report_figures.specs.Forms.{report_form};
 ghost use Rattle.report_sheets.specs.Contract.{AddedReading, SheetReported};
 
+use areas::lists::PartitionLists;
+use call_partition::asked::Asked;
 use report_figures::call_figures::{answered, beyond, has_room};
 use report_figures::sums::with_refused;
 use report_figures::{Report, Reported};
@@ -37,18 +40,8 @@ fn refuse(report: Report, number: u64, place: u64) -> Reported
 }
 
 // Runs the pass on a sheet and adds what it answered. There is no room for a record in `numbers`: none is wanted.
-fn add_call(
-    report: Report,
-    pass: u64,
-    width: u64,
-    height: u64,
-    cells: &[u8],
-    spans: &[u64],
-    boundaries: &[u64],
-    anchors: &[u64],
-) -> Reported
-    ensures { AddedReading (report_form report)
-        (well_formed (sheet_from pass width height cells.now spans.now boundaries.now anchors.now)) result }
+fn add_call(report: Report, pass: u64, asked: Asked) -> Reported
+    ensures { AddedReading (report_form report) (well_formed (of_asked (sheet_from pass) asked.entry)) result }
 {
     let mut labels = [0u32; 4096];
     let mut masks = [0u16; 4096];
@@ -57,30 +50,28 @@ fn add_call(
     let mut pairs = [0u32; 6144];
     let mut output = [0u64; 1280];
     let mut numbers = [0u64; 1];
-    let count = boundaries.len() / BOUNDARY_SIZE;
+    let count = asked.boundaries.len() / BOUNDARY_SIZE;
+    let mut lists = PartitionLists {
+        labels: &mut labels,
+        masks: &mut masks,
+        queue: &mut queue,
+        tallies: &mut tallies,
+        pairs: &mut pairs,
+    };
     match kept_boundaries_here(
         pass,
-        width,
-        height,
-        cells,
-        spans,
-        boundaries,
-        anchors,
-        &mut labels,
-        &mut masks,
-        &mut queue,
-        &mut tallies,
-        &mut pairs,
+        asked,
+        &mut lists,
         REGIONS_MOST,
         &mut output,
         &mut numbers,
     ) {
         Ok(kept) => answered(report, pass, 0, kept as u64, count, &output),
-        Err(refused) => answered(
+        Err(refusal) => answered(
             report,
             pass,
-            refused.number,
-            refused.place as u64,
+            refusal.cause.number(),
+            refusal.place as u64,
             count,
             &output,
         ),
@@ -104,16 +95,15 @@ fn add_held(
     let spans_end = SPAN_SIZE * header.spans;
     let boundaries_end = BOUNDARY_SIZE * header.boundaries;
     let anchors_end = ANCHOR_SIZE * header.anchors;
-    add_call(
-        report,
-        header.pass,
-        header.width as u64,
-        header.height as u64,
-        &cells[..area],
-        &spans[..spans_end],
-        &boundaries[..boundaries_end],
-        &anchors[..anchors_end],
-    )
+    let asked = Asked {
+        width: header.width as u64,
+        height: header.height as u64,
+        cells: &cells[..area],
+        spans: &spans[..spans_end],
+        boundaries: &boundaries[..boundaries_end],
+        anchors: &anchors[..anchors_end],
+    };
+    add_call(report, header.pass, asked)
 }
 
 // Reads the bytes and adds what they are.

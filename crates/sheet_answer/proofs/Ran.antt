@@ -11,8 +11,8 @@ use Rattle.definitions.specs.Verdict as verdict
 use Rattle.definitions.specs.Printed.{lent_for, printed_reading}
 use Rattle.printed.specs.Contract.{Printed}
 use Rattle.call_partition.specs.Contract.{given, Ran}
-use Rattle.topology.specs.Contract.{answer_of}
-use Rattle.topology.specs.declared.Refused.{Refused}
+use Rattle.refusals.specs.Answers.{answer_of}
+use Rattle.refusals.specs.declared.Refusal.{Refusal}
 use Rattle.sheet_answer.specs.Contract.{RowsFit, AnswerPrinted, sheet_from}
 use Rattle.sheet_answer.proofs.Whole.{sheet-fits, sheet-printed}
 
@@ -22,7 +22,7 @@ lent pass w h cells spans boundaries anchors =
     given pass w h cells spans boundaries anchors (replicate 4096 0) (replicate 4096 0) (replicate 4096 0) (replicate 512 0) (replicate 6144 0) (replicate 512 empty_region) (replicate 1280 0)
 
 module _ {pass w h : ℕ} {cells spans boundaries anchors l m q t p : List ℕ} {s : List Region} {o : List ℕ} where
-  pub ran_says : {r r' : Result ℕ Refused} → r ≡ r' → Ran (lent pass w h cells spans boundaries anchors) (answer_of r) l m q t p s o
+  pub ran_says : {r r' : Result ℕ Refusal} → r ≡ r' → Ran (lent pass w h cells spans boundaries anchors) (answer_of r) l m q t p s o
       → Ran (lent pass w h cells spans boundaries anchors) (answer_of r') l m q t p s o
   ran_says e R = subst (λ x. Ran (lent pass w h cells spans boundaries anchors) (answer_of x) l m q t p s o) e R
 

@@ -7,8 +7,11 @@ ghost use Rattle.std.specs.Prelude.{◌≡◌, ◌≤◌, length};
 ghost use Rattle.definitions.specs.Sheet.{well_formed};
 ghost use Rattle.definitions.specs.Printed as printing;
 ghost use Rattle.printed.specs.Contract.{Printed};
+ghost use Rattle.call_partition.specs.Asking.{of_asked};
 ghost use Rattle.sheet_answer.specs.Contract.{out_room, keptlist_reading, ListsLong, Begun, RowsFit, AnswerPrinted, sheet_from, sheet_in, Inside, SheetHeld};
 
+use areas::lists::PartitionLists;
+use call_partition::asked::Asked;
 use printed::{print_kept, print_refused};
 use refusals::Cause;
 use sheet::{Header, read_within};
@@ -76,20 +79,9 @@ const BOUNDARY_SIZE: usize = 9;
 const ANCHOR_SIZE: usize = 2;
 
 // Runs the pass on a sheet and prints what it keeps, or why it is refused. There is no room for a record in `numbers`: none is printed.
-fn answer(
-    pass: u64,
-    width: u64,
-    height: u64,
-    cells: &[u8],
-    spans: &[u64],
-    boundaries: &[u64],
-    anchors: &[u64],
-    out: &mut [u8],
-) -> usize
+fn answer(pass: u64, asked: Asked, out: &mut [u8]) -> usize
     requires { out_room ≤ length out.old }
-    ensures { Printed (printing.printed_reading
-        (well_formed (sheet_from pass width height cells.now spans.now boundaries.now anchors.now)))
-        out.old out.new result }
+    ensures { Printed (printing.printed_reading (well_formed (of_asked (sheet_from pass) asked.entry))) out.old out.new result }
 {
     let mut labels = [0u32; 4096];
     let mut masks = [0u16; 4096];
@@ -98,28 +90,26 @@ fn answer(
     let mut pairs = [0u32; 6144];
     let mut output = [0u64; 1280];
     let mut numbers = [0u64; 1];
-    let count = boundaries.len() / BOUNDARY_SIZE;
+    let count = asked.boundaries.len() / BOUNDARY_SIZE;
+    let mut lists = PartitionLists {
+        labels: &mut labels,
+        masks: &mut masks,
+        queue: &mut queue,
+        tallies: &mut tallies,
+        pairs: &mut pairs,
+    };
     match kept_boundaries_here(
         pass,
-        width,
-        height,
-        cells,
-        spans,
-        boundaries,
-        anchors,
-        &mut labels,
-        &mut masks,
-        &mut queue,
-        &mut tallies,
-        &mut pairs,
+        asked,
+        &mut lists,
         REGIONS_MOST,
         &mut output,
         &mut numbers,
     ) {
         Ok(kept) => print(0, kept as u64, &output, count, &mut *out),
-        Err(refused) => print(
-            refused.number,
-            refused.place as u64,
+        Err(refusal) => print(
+            refusal.cause.number(),
+            refusal.place as u64,
             &output,
             count,
             &mut *out,
@@ -146,16 +136,15 @@ fn answer_held(
     let spans_end = SPAN_SIZE * header.spans;
     let boundaries_end = BOUNDARY_SIZE * header.boundaries;
     let anchors_end = ANCHOR_SIZE * header.anchors;
-    answer(
-        header.pass,
-        header.width as u64,
-        header.height as u64,
-        &cells[..area],
-        &spans[..spans_end],
-        &boundaries[..boundaries_end],
-        &anchors[..anchors_end],
-        &mut *out,
-    )
+    let asked = Asked {
+        width: header.width as u64,
+        height: header.height as u64,
+        cells: &cells[..area],
+        spans: &spans[..spans_end],
+        boundaries: &boundaries[..boundaries_end],
+        anchors: &anchors[..anchors_end],
+    };
+    answer(header.pass, asked, &mut *out)
 }
 
 // What `keptlist` prints for these bytes, and how many they are. The type of `out` gives room for the longest list that is printed, so that nothing is asked of it.

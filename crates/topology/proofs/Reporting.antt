@@ -18,6 +18,7 @@ use Rattle.report_figures.proofs.Called.{call-left, call-added}
 use Rattle.topology.specs.Lent.{LentLists, LeftLists, lent_call, leaves}
 use Rattle.topology.specs.Contract.{RanOver}
 use Rattle.topology.specs.Reports.{ReportedOver}
+use Rattle.definitions.specs.Verdict as verdict
 use Rattle.refusals.specs.Answers.{answer_in}
 use Rattle.refusals.specs.declared.answers.Answer.{Answer}
 
@@ -26,6 +27,10 @@ abbrev pub untouched : LentLists → LeftLists
 untouched L = leaves L.labels L.masks L.queue L.tallies L.pairs L.records L.output
 
 module _ {pass : ℕ} {L : LentLists} where
+  -- the call's own answer, as it is given
+  pub as_answered : {a : Answer} {v : verdict.Answer} {E : LeftLists} → answer_in a ≡ v → RanOver pass L v E → RanOver pass L (answer_in a) E
+  as_answered e ran = rw e ran
+
   module _ {a : Answer} {E : LeftLists} (ran : RanOver pass L (answer_in a) E) where
     -- what adding it asks
     pub ran-left : CallLeft pass a.number a.value E.output

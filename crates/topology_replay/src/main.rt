@@ -5,6 +5,8 @@
 
 ghost use Rattle.std.specs.Prelude.{◌≤◌, length};
 
+use areas::lists::PartitionLists;
+use call_partition::asked::Asked;
 use replay_lists::{
     CASES, Opening, length_within, masks_before, numbers_before, wide_numbers_before,
     write_partition, write_wide_numbers,
@@ -30,26 +32,33 @@ fn run<W: Write>(
     output: &mut [u64],
     numbers: &mut [u64],
 ) -> io::Result<()> {
-    let answer = kept_boundaries_here(
-        u64::from(opening.pass),
-        u64::from(opening.width),
-        u64::from(opening.height),
+    let asked = Asked {
+        width: u64::from(opening.width),
+        height: u64::from(opening.height),
         cells,
         spans,
         boundaries,
         anchors,
-        labels,
-        masks,
-        queue,
-        tallies,
-        pairs,
-        length_within(opening.records, 512),
+    };
+    let mut lists = PartitionLists {
+        labels: &mut *labels,
+        masks: &mut *masks,
+        queue: &mut *queue,
+        tallies: &mut *tallies,
+        pairs: &mut *pairs,
+    };
+    let room = length_within(opening.records, 512);
+    let answer = kept_boundaries_here(
+        u64::from(opening.pass),
+        asked,
+        &mut lists,
+        room,
         output,
         numbers,
     );
     let (number, value) = match answer {
         Ok(rows) => (0, rows),
-        Err(refused) => (refused.number, refused.place),
+        Err(refusal) => (refusal.cause.number(), refusal.place),
     };
     write_partition(out, number, value, labels, masks, queue, tallies, pairs)?;
     write_wide_numbers(out, b"records ", numbers)?;

@@ -4,15 +4,16 @@ use Rattle.sheet_answer.proofs.Ran.{ran_says, ran-fits, ran-printed}
 use Rattle.sheet_answer.proofs.answer.Goals as goal
 
 pub print-requires-clause-rows_fit : goal.print-requires-clause-rows_fit
-print-requires-clause-rows_fit c = ran-fits (ran_says c.in-Ok.is c.kept_boundaries_here.ensures.ran)
+print-requires-clause-rows_fit c = ran-fits (ran_says c.in-Ok.is c.kept_boundaries_here.ensures.ran.ran)
 
 pub print-requires-in-Err-clause-rows_fit : goal.print-requires-in-Err-clause-rows_fit
-print-requires-in-Err-clause-rows_fit c = ran-fits (ran_says c.in-Err.is c.kept_boundaries_here.ensures.ran)
+print-requires-in-Err-clause-rows_fit c = rw c.number.ensures (ran-fits (ran_says c.in-Err.is c.kept_boundaries_here.ensures.ran.ran))
 
 pub returns-in-Ok : goal.returns-in-Ok
 returns-in-Ok c =
-    ran-printed (ran_says c.in-Ok.is c.kept_boundaries_here.ensures.ran) _ refl c.print.ensures
+    ran-printed (ran_says c.in-Ok.is c.kept_boundaries_here.ensures.ran.ran) _ refl c.print.ensures
 
 pub returns-in-Err : goal.returns-in-Err
 returns-in-Err c =
-    ran-printed (ran_says c.in-Err.is c.kept_boundaries_here.ensures.ran) _ refl c.print-in-Err.ensures
+    let said : AnswerPrinted (number_of c.in-Err.refusal.cause) c.in-Err.refusal.place _ _ _ _ _ = rw c.number.ensures c.print-in-Err.ensures in
+    ran-printed (ran_says c.in-Err.is c.kept_boundaries_here.ensures.ran.ran) _ refl said

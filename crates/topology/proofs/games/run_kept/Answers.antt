@@ -53,8 +53,8 @@ finish-kept-requires c =
     let N = c.divide_kept-graph.ensures.divided _ (runs_divides G F m.masks m.queue D) in
     runs_finishes G F m.masks m.queue D N d.labels_long d.masks_long d.queue_long_lem
 
-pub returns : goal.returns
-returns c = λ B G.
+pub returns-clause-kept : goal.returns-clause-kept
+returns-clause-kept c = λ B G.
     let F = c.fill.ensures _ (runs_fills G) in
     let D = c.mark_removed.ensures _ (runs-lent G F) in
     let m = c.mark_removed.auto in

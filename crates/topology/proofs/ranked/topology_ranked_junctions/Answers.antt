@@ -6,42 +6,42 @@ use Rattle.topology.proofs.Calling.{no_marks, when_ready, needed-few, ready_fill
 use Rattle.topology.proofs.RankedCalling.{refused_over, listed-long, ranked-over}
 use Rattle.topology.proofs.ranked.topology_ranked_junctions.Goals as goal
 
-pub returns-in-Err : goal.returns-in-Err
-returns-in-Err c = rw c.refused.ensures (refused_over _ _ _ c.prepare-prepared.ensures.prepared c.in-Err.is refl refl)
+pub returns-in-Err-clause-ranked : goal.returns-in-Err-clause-ranked
+returns-in-Err-clause-ranked c = rw c.refused.ensures (refused_over _ _ _ c.prepare.ensures.prepared c.in-Err.is refl refl)
 
 pub overflow_mul-needed : goal.overflow_mul-needed
 overflow_mul-needed c =
-    let R = when_ready c.prepare-prepared.ensures.prepared c.in-Ok.is in
+    let R = when_ready c.prepare.ensures.prepared c.in-Ok.is in
     record { fits = omega (arith, needed-few R) }
 
 pub fill-requires : goal.fill-requires
 fill-requires c =
-    let R = when_ready c.prepare-prepared.ensures.prepared c.in-Ok.is in
-    (_, ready_fills R c.prepare-prepared.ensures.same.queue_long_lem)
+    let R = when_ready c.prepare.ensures.prepared c.in-Ok.is in
+    (_, ready_fills R c.prepare.ensures.same.queue_long_lem)
 
 pub mark_ranked-n-requires-clause-map_shown : goal.mark_ranked-n-requires-clause-map_shown
 mark_ranked-n-requires-clause-map_shown c =
-    let R = when_ready c.prepare-prepared.ensures.prepared c.in-Ok.is in
-    let F = c.fill.ensures _ (ready_fills R c.prepare-prepared.ensures.same.queue_long_lem) in
-    (_, ready-lent R F c.prepare-prepared.ensures.same.masks_long c.prepare-prepared.ensures.same.queue_long_lem)
+    let R = when_ready c.prepare.ensures.prepared c.in-Ok.is in
+    let F = c.fill.ensures _ (ready_fills R c.prepare.ensures.same.queue_long_lem) in
+    (_, ready-lent R F c.prepare.ensures.same.masks_long c.prepare.ensures.same.queue_long_lem)
 
 pub mark_ranked-n-requires-clause-before_ranking : goal.mark_ranked-n-requires-clause-before_ranking
 mark_ranked-n-requires-clause-before_ranking c = (no_marks, omega (arith, length-replicate {A = ℕ}))
 
 pub finish_ranked-requires-clause-finishes : goal.finish_ranked-requires-clause-finishes
 finish_ranked-requires-clause-finishes c =
-    let R = when_ready c.prepare-prepared.ensures.prepared c.in-Ok.is in
-    ready_finishes R (c.mark_ranked-n.auto.masks ∙ c.prepare-prepared.ensures.same.masks_long) (c.mark_ranked-n.auto.queue ∙ c.prepare-prepared.ensures.same.queue_long_lem)
+    let R = when_ready c.prepare.ensures.prepared c.in-Ok.is in
+    ready_finishes R (c.mark_ranked-n.auto.masks ∙ c.prepare.ensures.same.masks_long) (c.mark_ranked-n.auto.queue ∙ c.prepare.ensures.same.queue_long_lem)
 
 pub finish_ranked-requires-clause-listed : goal.finish_ranked-requires-clause-listed
 finish_ranked-requires-clause-listed c =
-    let R = when_ready c.prepare-prepared.ensures.prepared c.in-Ok.is in
-    let F = c.fill.ensures _ (ready_fills R c.prepare-prepared.ensures.same.queue_long_lem) in
-    listed-long R F (c.mark_ranked-n.ensures _ (ready-lent R F c.prepare-prepared.ensures.same.masks_long c.prepare-prepared.ensures.same.queue_long_lem))
+    let R = when_ready c.prepare.ensures.prepared c.in-Ok.is in
+    let F = c.fill.ensures _ (ready_fills R c.prepare.ensures.same.queue_long_lem) in
+    listed-long R F (c.mark_ranked-n.ensures _ (ready-lent R F c.prepare.ensures.same.masks_long c.prepare.ensures.same.queue_long_lem))
 
-pub returns-in-Ok : goal.returns-in-Ok
-returns-in-Ok c =
-    let R = when_ready c.prepare-prepared.ensures.prepared c.in-Ok.is in
-    let F = c.fill.ensures _ (ready_fills R c.prepare-prepared.ensures.same.queue_long_lem) in
-    let K = c.mark_ranked-n.ensures _ (ready-lent R F c.prepare-prepared.ensures.same.masks_long c.prepare-prepared.ensures.same.queue_long_lem) in
+pub returns-in-Ok-clause-ranked : goal.returns-in-Ok-clause-ranked
+returns-in-Ok-clause-ranked c =
+    let R = when_ready c.prepare.ensures.prepared c.in-Ok.is in
+    let F = c.fill.ensures _ (ready_fills R c.prepare.ensures.same.queue_long_lem) in
+    let K = c.mark_ranked-n.ensures _ (ready-lent R F c.prepare.ensures.same.masks_long c.prepare.ensures.same.queue_long_lem) in
     ranked-over R F K refl refl c.finish_ranked.ensures

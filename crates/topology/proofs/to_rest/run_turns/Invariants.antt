@@ -1,6 +1,7 @@
 -- The run stands before some turn (`RunsAt`). The measure falls in each turn, since a pass removes some or is one quiet pass more.
 use Rattle.std.proofs.Common.{◌+◌, ◌*◌, ◌-◌, List}
 use Rattle.context.specs.declared.Region.{Region}
+use Rattle.areas.specs.Lists.{of_lists, SameLists}
 use Rattle.rest_lists.specs.Kept.{Origin, map_lent, all_places}
 use Rattle.topology.specs.Rest.{Stands, run-lists}
 use Rattle.topology.proofs.Running.{RunsAt}
@@ -8,10 +9,11 @@ use Rattle.topology.proofs.to_rest.run_turns.Given as goal
 
 abbrev pub invariant-loop-turn : goal.invariant-loop-turn
 invariant-loop-turn l =
-    (O : Origin) (s : List Region)
-    → Stands l.width l.height l.cells l.anchors O s (all_places (map_lent l.width l.height l.cells l.anchors O)) l.first l.first
-    (run-lists l.fn.labels l.fn.masks l.fn.queue l.fn.tallies l.fn.pairs l.fn.records l.fn.numbers l.fn.spans l.fn.boundaries)
-    → RunsAt l.width l.height l.cells l.anchors O s l.first l.standing l.turn l.labels l.masks l.queue l.tallies l.pairs l.records l.numbers l.spans l.boundaries
+    ((O : Origin) (s : List Region)
+    → Stands l.grid.width l.grid.height l.grid.cells.now l.anchors O s (all_places (map_lent l.grid.width l.grid.height l.grid.cells.now l.anchors O)) l.first l.first
+    (of_lists run-lists l.fn.lists l.fn.records l.fn.numbers l.fn.spans l.fn.boundaries)
+    → of_lists (RunsAt l.grid.width l.grid.height l.grid.cells.now l.anchors O s l.first l.standing l.turn) l.lists l.records l.numbers l.spans l.boundaries)
+    × SameLists l.fn.lists l.lists
 
 abbrev pub decreases-loop-turn : goal.decreases-loop-turn
 decreases-loop-turn l = 3 * l.standing.kept + (3 - l.turn.quiet)

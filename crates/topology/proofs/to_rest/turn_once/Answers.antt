@@ -20,8 +20,8 @@ overflow_mul-height c = record { fits = omega (arith, needed-few c.requires.list
 pub pass_kept-left-requires-clause-lists_stand : goal.pass_kept-left-requires-clause-lists_stand
 pass_kept-left-requires-clause-lists_stand c = (_, asked c.requires.lists_stand.3)
 
-pub returns-then-left-standing : goal.returns-then-left-standing
-returns-then-left-standing c = λ O s places T.
+pub returns-then-left-standing-clause-stands : goal.returns-then-left-standing-clause-stands
+returns-then-left-standing-clause-stands c = λ O s places T.
     let at = c.pass_kept-left.ensures _ (asked T) in
     stands-still T c.args.pass at.count at.held at.masks at.queue c.if-left-standing.true
 
@@ -44,8 +44,8 @@ renew-requires-clause-map_shown c =
     let again = c.divide_again-next.ensures.divided _ _ _ _ (asks_again T c.args.pass at.count at.held at.masks at.queue) in
     (_, again_fills T c.args.pass at.count at.held at.masks at.queue again c.divide_again-next.ensures.same.queue_long_lem)
 
-pub returns : goal.returns
-returns c = λ O s places T.
+pub returns-clause-stands : goal.returns-clause-stands
+returns-clause-stands c = λ O s places T.
     let at = c.pass_kept-left.ensures _ (asked T) in
     let again = c.divide_again-next.ensures.divided _ _ _ _ (asks_again T c.args.pass at.count at.held at.masks at.queue) in
     let size = c.divide_again-next.ensures.same in

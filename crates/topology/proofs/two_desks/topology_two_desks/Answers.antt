@@ -6,34 +6,34 @@ use Rattle.topology.proofs.TwoDesks.{shared-ready, shared-refused, both-refused,
 use Rattle.context.specs.Records.{record_of}
 use Rattle.topology.proofs.two_desks.topology_two_desks.Goals as goal
 
-pub returns-in-Err : goal.returns-in-Err
-returns-in-Err c =
-    both-refused (shared-refused c.prepare_shared-prepared.ensures.shared c.in-Err.is (length-map c.args.records.now record_of)) c.both.ensures
+pub returns-in-Err-clause-ran : goal.returns-in-Err-clause-ran
+returns-in-Err-clause-ran c =
+    both-refused (shared-refused c.prepare_shared.ensures.shared c.in-Err.is (length-map c.args.records.now record_of)) c.both.ensures
 
 pub fill-requires : goal.fill-requires
 fill-requires c =
-    let R = shared-ready c.prepare_shared-prepared.ensures.shared c.in-Ok.is in
-    (_, ready_fills R c.prepare_shared-prepared.ensures.same.queue_long_lem)
+    let R = shared-ready c.prepare_shared.ensures.shared c.in-Ok.is in
+    (_, ready_fills R c.prepare_shared.ensures.same.queue_long_lem)
 
 pub overflow_mul-height : goal.overflow_mul-height
 overflow_mul-height c =
-    let R = shared-ready c.prepare_shared-prepared.ensures.shared c.in-Ok.is in
+    let R = shared-ready c.prepare_shared.ensures.shared c.in-Ok.is in
     record { fits = omega (arith, needed-few R) }
 
 pub clear_scratch-requires : goal.clear_scratch-requires
 clear_scratch-requires c =
-    let R = shared-ready c.prepare_shared-prepared.ensures.shared c.in-Ok.is in
-    needed-within (partitioned {s = c.args.records.now} R c.prepare_shared-prepared.ensures.same.masks_long c.prepare_shared-prepared.ensures.same.queue_long_lem)
+    let R = shared-ready c.prepare_shared.ensures.shared c.in-Ok.is in
+    needed-within (partitioned {s = c.args.records.now} R c.prepare_shared.ensures.same.masks_long c.prepare_shared.ensures.same.queue_long_lem)
 
-pub run_desks-answers-requires : goal.run_desks-answers-requires
-run_desks-answers-requires c =
-    let R = shared-ready c.prepare_shared-prepared.ensures.shared c.in-Ok.is in
-    let F = c.fill.ensures _ (ready_fills R c.prepare_shared-prepared.ensures.same.queue_long_lem) in
-    (_, terrain-filled R c.prepare_shared-prepared.ensures.same.masks_long c.prepare_shared-prepared.ensures.same.queue_long_lem F c.clear_scratch.ensures.0 c.clear_scratch.ensures.1)
+pub run_desks-requires : goal.run_desks-requires
+run_desks-requires c =
+    let R = shared-ready c.prepare_shared.ensures.shared c.in-Ok.is in
+    let F = c.fill.ensures _ (ready_fills R c.prepare_shared.ensures.same.queue_long_lem) in
+    (_, terrain-filled R c.prepare_shared.ensures.same.masks_long c.prepare_shared.ensures.same.queue_long_lem F c.clear_scratch.ensures.0 c.clear_scratch.ensures.1)
 
-pub returns-in-Ok : goal.returns-in-Ok
-returns-in-Ok c =
-    let R = shared-ready c.prepare_shared-prepared.ensures.shared c.in-Ok.is in
-    let F = c.fill.ensures _ (ready_fills R c.prepare_shared-prepared.ensures.same.queue_long_lem) in
-    let T = terrain-filled R c.prepare_shared-prepared.ensures.same.masks_long c.prepare_shared-prepared.ensures.same.queue_long_lem F c.clear_scratch.ensures.0 c.clear_scratch.ensures.1 in
-    both-served T (c.run_desks-answers.ensures _ T)
+pub returns-in-Ok-clause-ran : goal.returns-in-Ok-clause-ran
+returns-in-Ok-clause-ran c =
+    let R = shared-ready c.prepare_shared.ensures.shared c.in-Ok.is in
+    let F = c.fill.ensures _ (ready_fills R c.prepare_shared.ensures.same.queue_long_lem) in
+    let T = terrain-filled R c.prepare_shared.ensures.same.masks_long c.prepare_shared.ensures.same.queue_long_lem F c.clear_scratch.ensures.0 c.clear_scratch.ensures.1 in
+    both-served T (c.run_desks.ensures _ T)
