@@ -14,6 +14,7 @@ use Rattle.rest_definitions.specs.RowOrder.{start_map}
 use Rattle.rest_definitions.specs.Rest.{passed}
 use Rattle.rest.specs.Rounds.{passed-few}
 use Rattle.rest.specs.StartMaps.{start-boundaries, start-count}
+use Rattle.checks.specs.Passes.{pass_number}
 use Rattle.rest_lists.specs.declared.kept.Standing.{Standing}
 use Rattle.rest_lists.specs.declared.turns.Turn.{Turn}
 use Rattle.rest_lists.specs.Kept.{Origin, map_lent, all_places}
@@ -54,23 +55,27 @@ module _ {w h : ℕ} {cells anchors : List ℕ} {O : Origin} {s : List Region} {
 
   module _ {standing : Standing} {turn : Turn} {l m q t p : List ℕ} {rs : List Region} {n b d : List ℕ}
       (R : RunsAt w h cells anchors O s first standing turn l m q t p rs n b d) where
-    pub run-pass : IsPass turn.pass
-    run-pass = (R.turns.first, R.turns.last)
+    pub run-pass : {k : ℕ} → k ≡ pass_number turn.pass → IsPass k
+    run-pass e = (omega (arith, e, R.turns.first), omega (arith, e, R.turns.last))
 
-    pub run_next : (turn.pass ≤ 3) × (turn.quiet ≤ 3) × (turn.rounds ≤ 257)
-    run_next = (R.turns.last, R.turns.quiet, R.turns.rounds)
+    pub run_next : (turn.quiet ≤ 3) × (turn.rounds ≤ 257)
+    run_next = (R.turns.quiet, R.turns.rounds)
 
     module _ (few : length (start_of w h cells anchors O).boundaries ≤ 256) (going : turn.quiet < 3) {next : Standing} (turn' : Turn) {removed : Bool}
         {l' m' q' t' p' : List ℕ} {rs' : List Region} {n' b' d' : List ℕ}
-        (N : Stands w h cells anchors O s (passed turn.pass (start_of w h cells anchors O) R.places) first next (run-lists l' m' q' t' p' rs' n' b' d'))
+        {k : ℕ} (of_turn : k ≡ pass_number turn.pass)
+        (ran : Stands w h cells anchors O s (passed k (start_of w h cells anchors O) R.places) first next (run-lists l' m' q' t' p' rs' n' b' d'))
         (gone : removed ≡ not (eqb next.kept standing.kept)) (after : turn_of turn' ≡ turn_after (turn_of turn) removed) where
+      N : Stands w h cells anchors O s (passed (pass_number turn.pass) (start_of w h cells anchors O) R.places) first next (run-lists l' m' q' t' p' rs' n' b' d')
+      N = subst (λ i. Stands w h cells anchors O s (passed i (start_of w h cells anchors O) R.places) first next (run-lists l' m' q' t' p' rs' n' b' d')) of_turn ran
+
       pub run-turn : RunsAt w h cells anchors O s first next turn' l' m' q' t' p' rs' n' b' d'
       run-turn =
           record {
-            places = passed turn.pass (start_of w h cells anchors O) R.places;
+            places = passed (pass_number turn.pass) (start_of w h cells anchors O) R.places;
             stands = N;
             turns =
-                subst (λ x. TurnsAt (start_of w h cells anchors O) x (passed turn.pass (start_of w h cells anchors O) R.places)) (sym after)
+                subst (λ x. TurnsAt (start_of w h cells anchors O) x (passed (pass_number turn.pass) (start_of w h cells anchors O) R.places)) (sym after)
                 (turns_next (start_of w h cells anchors O) few R.turns going R.stands.lists.count N.lists.count gone);
           }
 
@@ -78,7 +83,7 @@ module _ {w h : ℕ} {cells anchors : List ℕ} {O : Origin} {s : List Region} {
       run-lower = go (eqb next.kept standing.kept) refl
         where
           fewer : next.kept ≤ standing.kept
-          fewer = omega (arith, N.lists.count, R.stands.lists.count, passed-few (start_of w h cells anchors O) turn.pass R.places)
+          fewer = omega (arith, N.lists.count, R.stands.lists.count, passed-few (start_of w h cells anchors O) (pass_number turn.pass) R.places)
 
           quiet_is : turn'.quiet ≡ quiet_after turn.quiet removed
           quiet_is = ap (λ x. x.quiet) after
@@ -94,7 +99,7 @@ module _ {w h : ℕ} {cells anchors : List ℕ} {O : Origin} {s : List Region} {
               omega (arith, k, quiet, going, fewer)
 
     pub run_ends : 3 ≤ turn.quiet → {a : RestAnswer} → a.number ≡ 0 → a.value ≡ standing.kept
-        → a.rounds ≡ cond (eqb turn.pass 1) turn.rounds (turn.rounds + 1) → RanToRest w h cells anchors O s first a (run-lists l m q t p rs n b d)
+        → a.rounds ≡ cond (eqb (pass_number turn.pass) 1) turn.rounds (turn.rounds + 1) → RanToRest w h cells anchors O s first a (run-lists l m q t p rs n b d)
     run_ends f en ev er =
         let end = R.turns.over (omega (arith, f, R.turns.quiet)) in
         record {

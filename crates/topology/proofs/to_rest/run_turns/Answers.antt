@@ -8,7 +8,7 @@ pub loop-turn-init : goal.loop-turn-init
 loop-turn-init c = (λ O s E. run-starts E c.first_turn-turn.ensures, same_at_entry _)
 
 pub turn_once-next-requires-clause-is_pass : goal.turn_once-next-requires-clause-is_pass
-turn_once-next-requires-clause-is_pass c = run-pass (c.loop-turn.invariant.0 _ _ c.requires.2)
+turn_once-next-requires-clause-is_pass c = run-pass (c.loop-turn.invariant.0 _ _ c.requires.2) c.number.ensures
 
 pub turn_once-next-requires-clause-lists_stand : goal.turn_once-next-requires-clause-lists_stand
 turn_once-next-requires-clause-lists_stand c = (_, _, _, (c.loop-turn.invariant.0 _ _ c.requires.2).stands)
@@ -20,13 +20,13 @@ pub loop-turn-smaller : goal.loop-turn-smaller
 loop-turn-smaller c =
     let E = c.requires.2 in
     let R = c.loop-turn.invariant.0 _ _ E in
-    run-lower R (start-few E) c.loop-turn-test.true c.next_turn-turn.result (c.turn_once-next.ensures.stands _ _ _ R.stands) refl c.next_turn-turn.ensures
+    run-lower R (start-few E) c.loop-turn-test.true c.next_turn-turn.result c.number.ensures (c.turn_once-next.ensures.stands _ _ _ R.stands) refl c.next_turn-turn.ensures
 
 pub loop-turn-preserved : goal.loop-turn-preserved
 loop-turn-preserved c =
     (λ O s E.
     let R = c.loop-turn.invariant.0 O s E in
-    run-turn R (start-few E) c.loop-turn-test.true c.next_turn-turn.result (c.turn_once-next.ensures.stands _ _ _ R.stands) refl c.next_turn-turn.ensures,
+    run-turn R (start-few E) c.loop-turn-test.true c.next_turn-turn.result c.number.ensures (c.turn_once-next.ensures.stands _ _ _ R.stands) refl c.next_turn-turn.ensures,
     still_same c.loop-turn.invariant.1 c.turn_once-next.ensures.same)
 
 pub rounds_of-requires : goal.rounds_of-requires
