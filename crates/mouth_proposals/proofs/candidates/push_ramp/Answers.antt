@@ -2,7 +2,7 @@
 use native.Mathlib.Omega.{arith}
 use mathlib.Core.Path.{sym, ap, ◌∙◌}
 use lib.Dec.{eqb}
-use borrow.Author.Tests.{eq-eqb, ne_eqb, not-true, not-false}
+use borrow.Author.Tests.{eq-eqb, ne_eqb}
 use Rattle.mouth_proposals.specs.Candidates.{mouth_candidate}
 use Rattle.mouth_proposals.proofs.SafeLists.{below, stretch_at, tallies_at, rows-counted, kind-shown}
 use Rattle.mouth_proposals.proofs.CandidateRoom.{filled-empty, no_ramp_none, no_cut_none}

@@ -2,7 +2,7 @@
 use mathlib.Core.Path.{◌≡◌, refl, sym, ap, ◌∙◌}
 use mathlib.Core.Bool.{true, false, not, false≢true}
 use lib.Dec.{eqb}
-use borrow.Author.Tests.{eq-eqb, ne_eqb, not-true, not-false}
+use borrow.Author.Tests.{eq-eqb, ne_eqb, not-true}
 use Rattle.std.specs.Prelude.{Option, None, Some, is_some}
 use Rattle.definitions.specs.MouthShapes.{mouth_shape}
 use Rattle.definitions.specs.Context.{full_pair}
