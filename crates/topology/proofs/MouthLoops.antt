@@ -1,35 +1,41 @@
 -- What `place_near` asks and gives at a place of a mouth, and what the parts of pass 1 ask of one another. Assumes nothing.
-use Rattle.mouth_proposals.specs.Listed.{Listed, Filled}
-use Rattle.mouth_proposals.specs.Candidates.{is_broad, mouth_candidate}
+use Rattle.mouth_proposals.specs.Listed.{Listed, Filled, proposal_in, proposal_as, proposal_form}
+use Rattle.mouth_proposals.specs.Candidates.{is_broad, Numbered, mouth_candidate}
 use Rattle.mouth_proposals.specs.Rows.{is_outer}
 use Rattle.mouth_proposals.specs.declared.candidates.Candidate.{Candidate}
 use Rattle.mouth_proposals.specs.declared.candidates.MouthProposal as declared
 use Prim.Native.Nat.{ℕ, ◌+◌, ◌-◌, ◌*◌, ◌/◌, ◌%◌, ◌≤◌, ◌<◌}
 use native.Mathlib.Omega.{arith}
 use mathlib.Core.Path.{◌≡◌, refl, sym, ap, subst, ◌∙◌}
-use mathlib.Core.Bool.{Bool, true, false, cond}
+use mathlib.Core.Bool.{Bool, true, false, not, ◌&&◌, cond}
 use Rattle.std.specs.Prelude.{Option, None, Some}
 use mathlib.Core.List.{List, []}
 use lib.ListN.{length, get_or}
 use lib.Dec.{eqb}
 use Rattle.definitions.specs.Context.{Context}
-use Rattle.definitions.specs.RampMouths.{MouthProposal}
+use Rattle.definitions.specs.Scan.{collect}
+use Rattle.definitions.specs.RampMouths.{MouthProposal, corners_near_lem, ranks_before}
+use Rattle.laws.specs.ListLaws.Options.{OnO, present}
 use Rattle.laws.specs.FloatLaws.Pixels.{PixelRegion}
 use Rattle.context.specs.declared.Region.{Region}
 use Rattle.context.specs.Records.{record_of}
-use Rattle.context.specs.Shown.{ShownBoundaries, ShownAnchored}
+use Rattle.context.specs.Shown.{ShownBoundaries, ShownPairs, ShownAnchored}
 use Rattle.context.specs.Rows.{NamedRow}
 use Rattle.context.proofs.ShownLaws.{shown-rows}
 use Rattle.mouth_regions.specs.Inner.{places_of, region_at, inner_at, passes}
 use Rattle.mouth_regions.specs.Near.{region_near}
 use Rattle.mouth_proposals.specs.Lent.{Shows}
-use Rattle.mouth_selection.specs.Entries.{SafeMouth}
+use Rattle.mouth_selection.specs.Entries.{SafeMouth, Known, proposed}
+use Rattle.mouth_selection.specs.Held.{is_refused, TakenState}
+use Rattle.mouth_selection.specs.Keys.{is_better}
+use Rattle.mouth_selection.specs.Rounds.{better}
 use Rattle.mouth_selection.specs.Selecting.{Lists, Progress, BestOf}
 use Rattle.mouth_selection.proofs.NearLeast.{best_of}
 use Rattle.mouth_selection.proofs.ProposalLists.{fresh-marks, round_first}
+use Rattle.mouth_selection.proofs.RoundLaws.{better-shown}
 use Rattle.mouth_selection.proofs.SelectionLaws.{safe-mouth}
 use Rattle.topology.specs.Held.{place_in, record_is}
-use Rattle.topology.specs.Mouths.{near_at, Locates, EntryAsked, NearAsked, NearBest, RampAsked, Replaces, NoMarks}
+use Rattle.topology.specs.Mouths.{near_at, Locates, EntryAsked, NearAsked, BetterNear, NearBest, RampAsked, Replaces, NoMarks}
 
 -- ---- the places of a mouth
 
@@ -74,6 +80,62 @@ module _ {C : Context} {records : List Region} {boundaries pairs starts marks : 
       let L : Lists boundaries pairs starts C.count C = record { counted = refl; bounds = A.located.bounds; rows = A.located.rows } in
       safe-mouth L marks A.long A.known
 
+  -- the entry as a proposal
+  module _ {p : declared.MouthProposal} (same : p ≡ proposal_form entry) where
+    of_entry : (Q : declared.MouthProposal → Type 0) → Q (proposal_form entry) → Q p
+    of_entry Q = subst Q (sym same)
+
+    pub proposal-safe : SafeMouth pairs starts marks p.mouth p.outer
+    proposal-safe = of_entry (λ p. SafeMouth pairs starts marks p.mouth p.outer) entry-safe
+
+    module _ {T : List MouthProposal} {gone ends : List Bool} (S : TakenState C T gone ends marks) {x : Bool} where
+      pub found-left : (ShownPairs C pairs starts → TakenState C T gone ends marks → p.mouth < C.count → p.ramp < C.count → Numbered C.regions p.outer → x ≡ not (is_refused C T (proposal_as C p)))
+          → x ≡ not (is_refused C T (proposal_in C entry))
+      found-left left =
+          left A.located.rows S (of_entry (λ p. p.mouth < C.count) A.known.mouth) (of_entry (λ p. p.ramp < C.count) A.known.ramp) (of_entry (λ p. Numbered C.regions p.outer) A.known.outer)
+          ∙ ap (λ p. not (is_refused C T (proposal_as C p))) same
+
+    pub found-near : {x : Bool} → (Locates C records boundaries pairs starts p.mouth p.ramp → x ≡ corners_near_lem C (proposal_as C p)) → x ≡ corners_near_lem C (proposal_in C entry)
+    found-near near = near (of_entry (λ p. Locates C records boundaries pairs starts p.mouth p.ramp) A.located) ∙ ap (λ p. corners_near_lem C (proposal_as C p)) same
+
+  -- the entry is better, or the best stays
+  module _ {T : List MouthProposal} {best : Option Candidate} (K : OnO (Known C) best) where
+    abbrev p : MouthProposal
+    p = proposal_in C entry
+
+    abbrev then_better : Option MouthProposal
+    then_better = better (ranks_before C) (proposed C best) p
+
+    pub entry-better : is_better boundaries entry best ≡ true → corners_near_lem C p ≡ true → not (is_refused C T p) ≡ true → BetterNear C T best entry (Some entry)
+    entry-better b n f =
+        record {
+          known = present A.known;
+          least =
+              sym (ap (λ b. cond b (Some p) (proposed C best)) b) ∙ better-shown A.located.bounds A.known K
+              ∙ sym (λ i. cond (n i && f i) then_better (proposed C best));
+        }
+
+    pub far-stays : corners_near_lem C p ≡ false → BetterNear C T best entry best
+    far-stays n = record { known = K; least = sym (ap (λ b. cond (b && not (is_refused C T p)) then_better (proposed C best)) n) }
+
+    pub refused-stays : not (is_refused C T p) ≡ false → BetterNear C T best entry best
+    refused-stays f = record { known = K; least = sym (ap (λ b. cond (corners_near_lem C p && b) then_better (proposed C best)) f ∙ go (corners_near_lem C p)) }
+      where
+        go : (b : Bool) → cond (b && false) then_better (proposed C best) ≡ proposed C best
+        go true = refl
+        go false = refl
+
+    pub behind-stays : is_better boundaries entry best ≡ false → BetterNear C T best entry best
+    behind-stays b =
+        record {
+          known = K;
+          least = sym (ap (λ o. cond (corners_near_lem C p && not (is_refused C T p)) o (proposed C best)) (sym (better-shown A.located.bounds A.known K) ∙ ap (λ b. cond b (Some p) (proposed C best)) b) ∙ go (corners_near_lem C p && not (is_refused C T p)));
+        }
+      where
+        go : (b : Bool) → cond b (proposed C best) (proposed C best) ≡ proposed C best
+        go true = refl
+        go false = refl
+
 module _ {C : Context} {records : List Region} {boundaries tallies pairs starts : List ℕ} {count : ℕ} {marks counts : List ℕ} {a : ℕ} (A : RampAsked C records boundaries tallies pairs starts count marks counts a) where
   pub ramp-entries : {entries : List Candidate} {n : ℕ} → Listed C entries n → NearAsked C records boundaries pairs starts marks entries n
   ramp-entries F =
@@ -95,6 +157,10 @@ module _ {C : Context} {records : List Region} {boundaries tallies pairs starts 
               long = A.shows.anchored.long;
             };
       }
+
+  pub ramp-best : {entries : List Candidate} {n : ℕ} → Filled C entries n (collect count (mouth_candidate C a)) → {T : List MouthProposal} {best : Option Candidate} → NearBest C T entries n best → BestOf C T a best
+  ramp-best F {T} N =
+      best_of C T A.shows.rows (record { listed = F.listed; proposed = F.proposed ∙ ap (λ n. collect n (mouth_candidate C a)) (sym A.shows.counted) }) N.known N.least
 
 -- ---- the parts of the pass
 

@@ -90,7 +90,8 @@ fn best_near(
     entries: &[Candidate; 256],
     n: usize,
 ) -> Option<Candidate>
-    requires { (C : Context) × PassNearAsked C records.now context taken.now.marks.now entries.now n }
+    requires { (C : Context) × ((chosen : List definition.MouthProposal) × (PassNearAsked C records.now context taken.now.marks.now entries.now n
+        × TakenState C chosen taken.now.removed taken.now.ramp_ends taken.now.marks.now)) }
     ensures least { (C : Context) (chosen : List definition.MouthProposal) →
         PassNearAsked C records.now context.entry taken.now.marks.now entries.now n →
         TakenState C chosen taken.now.removed taken.now.ramp_ends taken.now.marks.now →
@@ -112,7 +113,8 @@ fn best_of_ramp(
     taken: &Taken,
     a: usize,
 ) -> Option<Candidate>
-    requires { (C : Context) × PassRampAsked C records.now context taken.now.marks.now counts.now a }
+    requires { (C : Context) × ((chosen : List definition.MouthProposal) × (PassRampAsked C records.now context taken.now.marks.now counts.now a
+        × TakenState C chosen taken.now.removed taken.now.ramp_ends taken.now.marks.now)) }
     ensures best { (C : Context) (chosen : List definition.MouthProposal) →
         PassRampAsked C records.now context.entry taken.now.marks.now counts.now a →
         TakenState C chosen taken.now.removed taken.now.ramp_ends taken.now.marks.now →
