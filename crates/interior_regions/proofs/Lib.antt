@@ -1,3 +1,4 @@
+mod Backwards
 mod Marking
 mod Starting
 mod Stretches
