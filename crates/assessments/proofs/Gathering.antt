@@ -2,7 +2,7 @@
 use Prim.Native.Nat.{ℕ, ◌+◌, ◌≤◌, min, max}
 use mathlib.Core.Path.{◌≡◌, refl, sym, ap, ◌∙◌, subst}
 use mathlib.Core.Bool.{Bool, true, false, not, cond}
-use mathlib.Core.List.{List, [], ◌∷◌, ◌++◌, append_assoc, append-nil}
+use mathlib.Core.List.{List, [], ◌∷◌, ◌++◌}
 use native.Mathlib.Omega.{arith}
 use lib.ListN.{length, get_or, length-append}
 use borrow.Author.Tests.{eq-eqb, ne_eqb}
@@ -13,7 +13,7 @@ use Rattle.laws.specs.ListLaws.Lists.{filter-append}
 use Rattle.laws.specs.RegionLaws.PairLaws.{pairs_of_ascending, pairs_of-step}
 use Rattle.laws.specs.RegionLaws.PairRows.{rows_for}
 use Rattle.assessments.specs.Held.{pair_of, Held, Adds}
-use Rattle.assessments.specs.Assess.{max_cell_edges, Gathered, Assesses}
+use Rattle.assessments.specs.Assess.{max_cell_edges, Assesses}
 use Rattle.assessments.specs.Assessing.{CountingIn, AssessesIn, CellsRoom, less_room}
 use Rattle.assessments.specs.declared.Assessing.{Assessing}
 use Rattle.assessments.specs.declared.BoundaryAssessment.{BoundaryAssessment}

@@ -1,7 +1,7 @@
 -- The assessment of a span as a visit of its cut steps: what it asks, what it does, and the laws of these. Steps are assessed one after the other: none, and a list behind
 -- another. Assumes nothing.
 use Rattle.std.specs.Prelude.{ℕ, ◌+◌, ◌*◌, ◌≤◌, ◌≡◌, List, [], ◌++◌, length, refl}
-use Rattle.std.proofs.Common.{arith, sym, ap, ◌∙◌, subst}
+use Rattle.std.proofs.Common.{arith, sym, ◌∙◌, subst}
 use mathlib.Core.List.{append_assoc, append-nil}
 use Rattle.definitions.specs.Grid.{Map, Pair}
 use Rattle.cut_steps.specs.Marking.{Shown}

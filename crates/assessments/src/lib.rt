@@ -56,21 +56,10 @@ impl Assessing<'_> {
         ensures still_counting { CountingIn (self.old.found.removed + 1) self.new }
         ensures assessed { AssessesIn (pair_of from to ∷ []) self.old self.new }
     {
-        let BoundaryAssessment {
-            removed,
-            separated,
-            end,
-            row,
-        } = self.found;
+        self.found.removed += 1;
         let left = self.labels[from];
         let right = self.labels[to];
         if left == right {
-            self.found = BoundaryAssessment {
-                removed: removed + 1,
-                separated,
-                end,
-                row,
-            };
             return;
         }
         let pair = RegionPair {
@@ -79,15 +68,12 @@ impl Assessing<'_> {
         };
         let rows = Rows {
             first: self.first,
-            end,
+            end: self.found.end,
         };
-        let put = put_pair(self.pairs, rows, row, self.span, pair);
-        self.found = BoundaryAssessment {
-            removed: removed + 1,
-            separated: separated + 1,
-            end: put.end,
-            row: put.row,
-        };
+        let put = put_pair(self.pairs, rows, self.found.row, self.span, pair);
+        self.found.separated += 1;
+        self.found.end = put.end;
+        self.found.row = put.row;
     }
 
     // The step from a cell in a direction, if the mask has it.

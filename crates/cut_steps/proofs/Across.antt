@@ -8,7 +8,6 @@ use mathlib.Core.List.{List, [], ◌++◌}
 use lib.Dec.{leb, ltb}
 use borrow.Author.Tests.{leb-true, ltb-true}
 use Rattle.definitions.specs.Grid.{Map, at, Segment}
-use Rattle.span_geometry.specs.declared.SpanGeometry.{SpanGeometry}
 use Rattle.span_geometry.specs.declared.strips.Strip.{Strip}
 use Rattle.span_geometry.specs.Strips.{by_columns, line_of}
 use Rattle.span_geometry.specs.Candidates.{cell_of, minor_side}

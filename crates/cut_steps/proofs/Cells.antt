@@ -1,21 +1,18 @@
 -- What the functions of one cell ask of one another, and their answers' meaning, from what is asked of the cell. Assumes nothing.
-use Prim.Native.Nat.{ℕ, ◌+◌, ◌*◌, ◌%◌, ◌≤◌, ◌<◌}
+use Prim.Native.Nat.{ℕ, ◌+◌, ◌*◌, ◌≤◌, ◌<◌}
 use native.Mathlib.Omega.{arith}
-use native.Mathlib.Nat.{mul-le-mul}
-use mathlib.Core.Path.{◌≡◌, refl, sym, subst, ◌∙◌}
+use mathlib.Core.Path.{◌≡◌, refl, sym, subst}
 use mathlib.Core.Bool.{Bool, true, false, and-false}
 use mathlib.Core.List.{List}
-use lib.ListN.{get_or}
-use lib.Arith.{digits_lt}
 use lib.Dec.{ltb}
-use borrow.Author.Tests.{eq-eqb, ne_eqb, le-ltb}
+use borrow.Author.Tests.{le-ltb}
 use Rattle.definitions.specs.Limits.{max_side}
 use Rattle.definitions.specs.Grid.{Segment, at, walkable, is_step}
 use Rattle.span_geometry.specs.declared.SpanGeometry.{SpanGeometry}
 use Rattle.span_geometry.specs.Shapes.{Sound}
 use Rattle.grid_steps.specs.Walk.{grid_of}
 use Rattle.grid_steps.specs.Inner.{Nearby, Inside, Stepping}
-use Rattle.grid_steps.proofs.StepTests.{step-inside, walkable_at_lem}
+use Rattle.grid_steps.proofs.StepTests.{step-inside}
 use Rattle.cut_steps.specs.CutSteps.{is_cut_onward}
 use Rattle.cut_steps.specs.Cell.{CellAsked, OnwardAsked, CutDirections, Uncut, Far, onward_mask}
 use Rattle.cut_steps.proofs.Onward.{blocked, no_step, clear_of, no_south, no_bits, mask_bits, mask_small}
@@ -36,13 +33,8 @@ outside w h cells s x y dx dy n = go (is_step (grid_of w h cells) (at x y) (at d
     go true e = absurd (n (step-inside (grid_of w h cells) x y dx dy e))
     go false e = blocked (grid_of w h cells) s (at x y) (at dx dy) e
 
--- ---- the cell to the south
+-- ---- there is no cell to the south
 
--- it is in the grid, which is small
-pub row-south : (y : ℕ) {w h x : ℕ} → w ≤ max_side → h ≤ max_side → x < w → y + 1 < h → ((y + 1) * w + x < h * w) × (h * w ≤ 1048576)
-row-south y a b c d = (digits_lt d c, mul-le-mul b a)
-
--- or there is none
 pub below-grid : (w h : ℕ) (cells : List ℕ) (x y : ℕ) → h ≤ y + 1 → false ≡ walkable (grid_of w h cells) (at x (y + 1))
 unfolding walkable
 below-grid w h cells x y e = rw (le-ltb (y + 1) h e, and-false (ltb x w)) refl
@@ -50,9 +42,6 @@ below-grid w h cells x y e = rw (le-ltb (y + 1) h e, and-false (ltb x w)) refl
 -- ---- the cell
 
 module _ {w h : ℕ} {cells : List ℕ} {g : SpanGeometry} {x y : ℕ} (A : CellAsked w h cells g x y) where
-  pub in_grid : (y * w + x < h * w) × (h * w ≤ 1048576)
-  in_grid = (digits_lt A.in_y A.in_x, mul-le-mul A.short A.narrow)
-
   pub in_limits : Sound g × (x < max_side) × (y < max_side)
   in_limits = (A.sound, omega (arith, A.in_x, A.narrow), omega (arith, A.in_y, A.short))
 

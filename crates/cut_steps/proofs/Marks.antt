@@ -1,8 +1,8 @@
 -- Marking adds to the bits of the masks, in one write the cut steps of a cell (`cell-marked`), which are those of its directions that are cut (`cut-among`). The four directions to larger numbers are all of them (`four-cut`). Assumes nothing.
 use Prim.Native.Nat.{ℕ, zero, suc, ◌+◌, ◌*◌, ◌≤◌, ◌<◌, min, max}
 use native.Mathlib.Omega.{arith}
-use mathlib.Core.Path.{◌≡◌, refl, sym, ap, ap₂, ◌∙◌, subst}
-use mathlib.Core.Bool.{Bool, true, false, ◌&&◌, ◌||◌, cond, and-false, or-false, or_assoc}
+use mathlib.Core.Path.{◌≡◌, refl, sym, ap, ap₂, ◌∙◌}
+use mathlib.Core.Bool.{Bool, true, false, ◌&&◌, ◌||◌, cond}
 use mathlib.Core.List.{List, [], ◌∷◌, ◌++◌, append_assoc, append-nil, map, Memᴰ}
 use lib.ListN.{length, get_or, set, length-set}
 use lib.Seq.{drop-set-lt}
@@ -14,7 +14,6 @@ use Rattle.definitions.specs.Scan.{any, filter, concat_map}
 use Rattle.definitions.specs.Grid.{Map, Position, at, Pair, pair_eq, Segment, directions, toward, index, position_of, is_step, edge}
 use Rattle.definitions.specs.Spans.{cuts}
 use Rattle.laws.specs.ListLaws.Tests.{both, same_test}
-use Rattle.laws.specs.ListLaws.Lists.{any_append}
 use Rattle.laws.specs.ListLaws.Members.{any-member, any_found}
 use Rattle.span_geometry.specs.declared.SpanGeometry.{SpanGeometry}
 use Rattle.span_geometry.specs.Shapes.{segment_of}

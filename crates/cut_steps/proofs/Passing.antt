@@ -8,7 +8,7 @@ use mathlib.Core.List.{List, [], ◌++◌}
 use Rattle.definitions.specs.Scan.{concat_map, run}
 use Rattle.definitions.specs.Grid.{Map, Pair}
 use Rattle.cut_steps.specs.Prefixes.{up_to, concat_none, concat_more}
-use Rattle.cut_steps.specs.Visits.{Among, VisitLaws}
+use Rattle.cut_steps.specs.Visits.{VisitLaws}
 use Rattle.cut_steps.proofs.Trimmed.{concat-split}
 use Rattle.cut_steps.proofs.Among.{among_at, among-part}
 

@@ -1,31 +1,26 @@
--- Where masks show the cut steps of a cell between a span's ends, the
--- bits that its changes of sides and its mask have in common are its cut directions (`shown-directions`). Assumes nothing.
+-- Where masks show the cut steps of a cell between a span's ends, the bits that its changes of sides and its mask have in common are its cut directions
+-- (`shown-directions`). Assumes nothing.
 use Prim.Native.Nat.{ℕ, ◌+◌, ◌*◌, ◌≤◌, ◌<◌}
-use native.Mathlib.Omega.{arith}
 use native.Mathlib.Nat.{lt_of_le_of_lt}
 use mathlib.Core.Path.{◌≡◌, refl, sym, ap, ap₂, ◌∙◌, subst}
-use mathlib.Core.Bool.{Bool, true, ◌&&◌, ◌||◌}
-use mathlib.Core.List.{List, ◌++◌}
+use mathlib.Core.Bool.{true, ◌&&◌}
+use mathlib.Core.List.{List}
 use lib.ListN.{get_or}
 use lib.Arith.{digits_lt}
 use lib.Bits.{bit_and, and_le_l}
 use lib.Dec.{ltb}
 use borrow.Author.Tests.{ltb-true, lt-ltb, eq-eqb}
-use Rattle.definitions.specs.Scan.{any, concat_map}
-use Rattle.definitions.specs.Grid.{Map, Position, at, Pair, pair_eq, Segment, cell_count, index, toward, position_of, is_step}
-use Rattle.laws.specs.ListLaws.Tests.{both, or_right, same_test}
-use Rattle.laws.specs.ListLaws.Lists.{any_append}
+use Rattle.definitions.specs.Grid.{Map, Position, at, Pair, Segment, cell_count, index, toward, position_of, is_step}
+use Rattle.laws.specs.ListLaws.Tests.{both, same_test}
 use Rattle.bit_laws.specs.Bits.{and_bit}
-use Rattle.grid_steps.specs.Masks.{bit_of, cut_bit, reached, step_pair, is_onward}
+use Rattle.grid_steps.specs.Masks.{bit_of, cut_bit, reached}
 use Rattle.grid_steps.specs.Walk.{grid_of}
 use Rattle.grid_steps.proofs.Square.{four, position-index}
 use Rattle.grid_steps.proofs.Onward.{onward-bit}
 use Rattle.cut_steps.specs.CutSteps.{is_cut_onward, cut_from, is_set}
 use Rattle.cut_steps.specs.Cell.{CutDirections}
-use Rattle.cut_steps.specs.Prefixes.{up_to, concat_more}
 use Rattle.cut_steps.specs.Crossed.{Crossed}
 use Rattle.cut_steps.specs.Marking.{Shown}
-use Rattle.cut_steps.proofs.Trimmed.{concat-split}
 use Rattle.cut_steps.proofs.Onward.{onward-cut}
 use Rattle.cut_steps.proofs.Marks.{cut_step, cut-among}
 

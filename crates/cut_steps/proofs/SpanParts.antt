@@ -1,5 +1,5 @@
 -- The parts of a span's walk: columns, or rows, near its ends and between them (`parted`), what is asked of each, the first places past the line between them
--- (`between_of`, `follows-in`), and parts joined (`parts_more`). Assumes nothing.
+-- (`between_of`, `follows-in`), and a part of one column, or row (`part-single`). Assumes nothing.
 use Prim.Native.Nat.{ℕ, suc, ◌+◌, ◌-◌, ◌*◌, ◌/◌, ◌≤◌, ◌<◌, min, max}
 use native.Mathlib.Omega.{arith}
 use mathlib.Core.Path.{◌≡◌, sym, ap, ◌∙◌, subst, subst⁻¹}
@@ -19,7 +19,6 @@ use Rattle.line_crossings.proofs.NearLine.{strip_gentle}
 use Rattle.cut_steps.specs.Columns.{ColumnAsked, cut_column}
 use Rattle.cut_steps.specs.Prefixes.{concat_none, concat_more}
 use Rattle.cut_steps.specs.Extents.{NearAxis}
-use Rattle.cut_steps.proofs.Trimmed.{concat-split}
 use Rattle.cut_steps.specs.Crossed.{Follows, FollowsIn, Inside, BetweenAsked, ColumnsAsked, cut_columns, Parted, EndsPart, PartAsked}
 
 -- ---- the parts
@@ -116,13 +115,7 @@ module _ (t : Strip) (from to : ℕ) (I : Inside t from to) (some : from < to) w
   pub between-after : {k : ℕ} → from ≤ k → k < to → Between t (k + 1)
   between-after {k} a b = between_of (k + 1) (omega arith) (omega arith)
 
--- the number behind k, or before it, and a bound
-pub one_more : {a k : ℕ} → a ≤ k → a ≤ k + 1
-one_more h = omega arith
-
-pub one_behind : {k b : ℕ} → k < b → k + 1 ≤ b
-one_behind h = omega arith
-
+-- the number before k, and a bound
 pub one_before : {k n : ℕ} → k < n → k - 1 < n
 one_before h = omega arith
 
@@ -163,10 +156,6 @@ follows-in {g} {t} {from} {to} B U {tie} {k} {b} {x} {h} {y} {a} {z} e l m P Q R
     }
 
 -- ---- joined
-
--- a part behind what was before it
-pub parts_more : (M : Map) (g : Segment) (t : Strip) (first : ℕ) {k next : ℕ} → first ≤ k → k < next → cut_columns M g t first k ++ cut_columns M g t k next ≡ cut_columns M g t first next
-parts_more M g t first {k} {next} a b = concat-split (cut_column M g t) first k next a (omega arith)
 
 -- a part of one column, or row
 pub part-single : (M : Map) (g : Segment) (t : Strip) {k next : ℕ} → k < next → next ≤ k + 1 → cut_column M g t k ≡ cut_columns M g t k next

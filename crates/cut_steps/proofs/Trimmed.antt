@@ -144,17 +144,6 @@ places-joined f limit first reference some near far = go (reference / pixels_per
             let none : suc (min (c + 3) (limit - 1)) - (c - 3) ≡ 0 = omega arith in
             ap₂ ◌++◌ (ap₂ ◌++◌ (ap₂ ◌++◌ (e first (omega arith)) (e (first + 1) (omega arith))) (e (first + 2) (omega arith))) (e (first + 3) (omega arith)) ∙ sym (ap (λ n. concat_map f (run (c - 3) n)) none)
 
--- none, one more, and four numbers from m on
-pub at_none : {A : Type 0} (f : ℕ → List A) (m : ℕ) → concat_map f (up_to m (m + 0)) ≡ []
-at_none f m =
-    let e : m + 0 ≡ m = omega arith in
-    ap (λ n. concat_map f (up_to m n)) e ∙ concat_none f m
-
-pub at_more : {A : Type 0} (f : ℕ → List A) (m j : ℕ) → concat_map f (up_to m (m + j)) ++ f (m + j) ≡ concat_map f (up_to m (m + (j + 1)))
-at_more f m j =
-    let e : m + j + 1 ≡ m + (j + 1) = omega arith in
-    sym (concat_more f m (m + j) (omega arith)) ∙ ap (λ n. concat_map f (up_to m n)) e
-
 pub four-passed : {A : Type 0} (f : ℕ → List A) (m : ℕ) → concat_map f (up_to m (m + 4)) ≡ ((f m ++ f (m + 1)) ++ f (m + 2)) ++ f (m + 3)
 four-passed f m =
     let one : m + 1 + 1 ≡ m + 2 = omega arith in

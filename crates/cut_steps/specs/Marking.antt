@@ -1,10 +1,8 @@
 -- The words of the contracts of the functions that mark cut steps, and of those that ask the marks. Definitions only; assumes nothing.
 use Rattle.std.specs.Prelude.{ℕ, ◌+◌, ◌*◌, ◌/◌, ◌≤◌, ◌<◌, ◌≡◌, true, ◌||◌, List, length, get_or, drop}
-use Rattle.definitions.specs.Limits.{max_side, numbers_per_span}
+use Rattle.definitions.specs.Limits.{numbers_per_span}
 use Rattle.definitions.specs.Grid.{Map, Position, Pair, canonical, segment_at, cell_count}
-use Rattle.definitions.specs.Refusals.{endpoints_differ}
-use Rattle.span_geometry.specs.declared.SpanGeometry.{SpanGeometry}
-use Rattle.span_geometry.specs.Shapes.{max_pixel, Sound, segment_of}
+use Rattle.span_geometry.specs.Shapes.{max_pixel}
 use Rattle.grid_steps.specs.Masks.{bit_of, cut_bit, is_onward, is_onward_in}
 use Rattle.grid_steps.specs.Walk.{grid_of}
 use Rattle.grid_steps.specs.Contract.{CutMap}

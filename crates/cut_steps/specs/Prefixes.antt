@@ -1,4 +1,4 @@
--- Lists joined as a loop goes: `concat_map` over the numbers from a first one up to one that grows (`concat_more`), up to a last one (`up_to_last`), and over lists of lists.
+-- Lists joined as a loop goes: `concat_map` over the numbers from a first one up to one that grows (`concat_more`), and over lists of lists.
 -- Assumes nothing.
 use Prim.Native.Nat.{ℕ, zero, suc, ◌+◌, ◌-◌, ◌≤◌, ◌<◌}
 use native.Mathlib.Omega.{arith}
@@ -7,7 +7,6 @@ use Rattle.std.proofs.Math.Path.{refl, sym, ap}
 use Rattle.std.proofs.Common.{ap₂, ◌∙◌}
 use mathlib.Core.List.{List, [], ◌∷◌, ◌++◌, append_assoc, append-nil, map}
 use Rattle.definitions.specs.Scan.{concat_map, gather, run}
-use Rattle.definitions.specs.Spans.{range_inclusive}
 use Rattle.laws.specs.ListLaws.Lists.{run_last}
 
 module _ {A B : Type 0} (f : A → List B) where
@@ -47,23 +46,6 @@ module _ {B : Type 0} (f : ℕ → List B) (first : ℕ) where
       let at : first + (m - first) ≡ m = omega arith in
       ap (λ k. concat_map f (run first k)) e ∙ ap (concat_map f) (run_last first (m - first)) ∙ concat-append f (up_to first m) ((first + (m - first)) ∷ [])
       ∙ ap (λ r. concat_map f (up_to first m) ++ r) (append-nil (f (first + (m - first))) ∙ ap f at)
-
--- m is the number that a loop from `first` to `last` is at; past the last one, all are done
-pub record Between (first last m : ℕ) : Type 0 where
-  pub from : first ≤ m
-  pub to : m - first ≤ suc last - first
-
-pub up_to_last : (first last m : ℕ) → Between first last m → last < m → up_to first m ≡ range_inclusive first last
-unfolding range_inclusive
-up_to_last first last m b h =
-    let e : m - first ≡ suc last - first = omega (arith, b.from, b.to) in
-    ap (run first) e
-
-pub between_more : (first last m : ℕ) → Between first last m → m ≤ last → Between first last (m + 1)
-between_more first last m b h = record { from = omega (arith, b.from); to = omega (arith, b.from) }
-
-pub between_first : (first last : ℕ) → Between first last first
-between_first first last = record { from = omega arith; to = omega arith }
 
 -- ---- below n
 

@@ -1,5 +1,4 @@
 -- `crossed_directions` of the assessment meets the trait's contract: a cell's mask says which of its changes of sides are of steps (`shown-directions`). Assumes nothing.
-use Prim.Native.Nat.{◌+◌, ◌*◌, ◌<◌}
 use native.Mathlib.Omega.{arith}
 use mathlib.Core.Path.{refl}
 use lib.Arith.{digits_lt}

@@ -1,6 +1,4 @@
 -- The visit of `Marking` meets the trait's contract: the bits of the directions are those of the cell's cut steps (`cell-marked`). Assumes nothing.
-use Prim.Native.Nat.{◌+◌, ◌*◌, ◌<◌}
-use native.Mathlib.Omega.{arith}
 use mathlib.Core.Path.{refl}
 use Rattle.cut_steps.proofs.Marks.{cell-marked}
 use Rattle.cut_steps.proofs.MarkingStepVisitor.visit.Goals as goal

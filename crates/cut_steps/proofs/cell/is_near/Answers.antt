@@ -1,10 +1,8 @@
 -- `cell::is_near` meets its contract: a cell that is not walkable has no step, of a cell that is far no step is cut, and without the cell to the south only the step
 -- east is left. Assumes nothing.
-use native.Mathlib.Omega.{arith}
 use mathlib.Core.Path.{sym, ◌∙◌}
 use mathlib.Core.Bool.{true≢false, false≢true}
 use borrow.Author.Tests.{not-true, not-false}
-use Rattle.definitions.specs.Grid.{at}
 use Rattle.span_geometry.specs.Shapes.{segment_of}
 use Rattle.cut_steps.proofs.Cells.{in_limits, no_directions, far-directions, east-directions}
 use Rattle.cut_steps.proofs.Steps.{in_grid_of}

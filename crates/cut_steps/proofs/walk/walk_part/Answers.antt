@@ -1,5 +1,5 @@
 -- `walk_part` meets its contract: a part of more than one column, or row, is between the span's ends. Assumes nothing.
-use Prim.Native.Nat.{ℕ, ◌+◌, ◌-◌, ◌*◌, ◌≤◌, ◌<◌}
+use Prim.Native.Nat.{ℕ, ◌-◌, ◌*◌, ◌≤◌, ◌<◌}
 use native.Mathlib.Omega.{arith}
 use mathlib.Core.Path.{sym}
 use native.Mathlib.Nat.{le_refl}

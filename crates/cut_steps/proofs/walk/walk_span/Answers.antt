@@ -1,6 +1,6 @@
 -- `walk_span` meets its contract. The loop's invariant: the cut steps of the parts before k are visited (`Passing`). Assumes nothing.
 use Prim.Native.Nat.{◌≤◌, ◌<◌}
-use mathlib.Core.Path.{◌≡◌, sym}
+use mathlib.Core.Path.{sym}
 use native.Mathlib.Omega.{arith}
 use Rattle.definitions.specs.Limits.{max_side}
 use Rattle.span_geometry.specs.Shapes.{segment_of}
