@@ -5,7 +5,7 @@ use Rattle.definitions.specs.Refusals.{Refusal, or_else, unless, sides_fault, ce
 use Rattle.definitions.specs.Verdict.{Lent, refusal, partition_verdict}
 use Rattle.definitions.specs.AtExit.{partition_exit}
 use Rattle.refusals.specs.declared.Refusal as code
-use Rattle.areas.specs.Answers.{answer_of}
+use Rattle.refusals.specs.Answers.{answer_of}
 
 -- what is lent to the partition alone
 abbrev pub given : ℕ → ℕ → List ℕ → List ℕ → List ℕ → List ℕ → List ℕ → List ℕ → List ℕ → Lent

@@ -1,4 +1,3 @@
-pub mod Answers
 pub mod Contract
 pub mod Fit
 pub mod Labelled

@@ -14,7 +14,7 @@ use Rattle.definitions.specs.AtExit.{tallies_of, call_exit, partition_exit, exit
 use Rattle.laws.specs.ListLaws.Lists.{All, done, more}
 use Rattle.laws.specs.TableLaws.AcceptedCalls.{Numbered, refusal-numbered, spans-numbered, counted}
 use Rattle.refusals.specs.declared.Refusal as code
-use Rattle.areas.specs.Answers.{answer_of}
+use Rattle.refusals.specs.Answers.{answer_of}
 use Rattle.areas.specs.Contract as alone
 use Rattle.call_partition.specs.Contract.{Ran}
 use Rattle.rust_partition.specs.Literal.PartitionBySpans.{SpanPartition, partition_by_spans, tallies_held, pair_rows_held}

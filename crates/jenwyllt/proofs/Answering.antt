@@ -1,22 +1,22 @@
--- What the partition and the reader promise with the answer as an enum, they promise with the numbers that the enum says. Assumes nothing.
+-- What the partition and the reader promise with the answer as a result, they promise with the numbers that the enum says. Assumes nothing.
 use mathlib.Core.Path.{◌≡◌, sym, ap, ◌∙◌, subst}
 use Prim.Native.Nat.{ℕ}
 use mathlib.Core.List.{List}
 use Rattle.definitions.specs.Verdict.{Lent, Answer}
 use Rattle.definitions.specs.AtExit.{partition_exit}
-use Rattle.areas.specs.Answers.{answer_of}
+use Rattle.refusals.specs.Answers.{answer_in, answer_of}
 use Rattle.areas.specs.Contract.{Ran}
 use Rattle.definitions.specs.Sheet.{Reading}
 use Rattle.std.specs.Prelude.{Result}
 use Rattle.refusals.specs.declared.Refusal.{Refusal}
 use Rattle.sheet.specs.Contract.{by_number, Answered}
 use Rattle.sheet.specs.declared.Header.{Header}
-use Rattle.jenwyllt.specs.Contract.{answer_in, Partitions, sheet_in, Reads}
-use Rattle.jenwyllt.specs.declared.JenwylltAnswer.{JenwylltAnswer}
+use Rattle.jenwyllt.specs.Contract.{Partitions, sheet_in, Reads}
+use Rattle.refusals.specs.declared.answers.Answer as code
 use Rattle.jenwyllt.specs.declared.JenwylltSheet.{JenwylltSheet}
 
 -- what the partition left in its struct's lists is in the lists themselves
-pub answered : {L : Lent} {f : Result ℕ Refusal} {l m q t p l' m' q' t' p' : List ℕ} (r : JenwylltAnswer) → Ran L f l m q t p → answer_of f ≡ answer_in r
+pub answered : {L : Lent} {f : Result ℕ Refusal} {l m q t p l' m' q' t' p' : List ℕ} (r : code.Answer) → Ran L f l m q t p → answer_of f ≡ answer_in r
     → l' ≡ l → m' ≡ m → q' ≡ q → t' ≡ t → p' ≡ p → Partitions L r l' m' q' t' p'
 answered {L} {f} {l} {m} {q} {t} {p} r ran e el em eq et ep =
     record {

@@ -1,20 +1,18 @@
 -- The contracts of the exported partition and reader: those of `areas::partition` and `sheet::read_sheet`, with the answer as numbers. Definitions only;
 -- assumes nothing.
 use Rattle.std.specs.Prelude.{ℕ, ◌≡◌, List, Result, Ok, Err}
-use Rattle.definitions.specs.Verdict.{Lent, Answer, partition_verdict}
+use Rattle.definitions.specs.Verdict.{Lent, partition_verdict}
 use Rattle.definitions.specs.AtExit.{partition_exit}
 use Rattle.definitions.specs.Refusals.{Refusal}
 use Rattle.definitions.specs.Sheet.{Reading, at_exit}
 use Rattle.sheet.specs.Contract.{answer_of}
 use Rattle.sheet.specs.declared.Header.{Header}
-use Rattle.jenwyllt.specs.declared.JenwylltAnswer.{JenwylltAnswer}
+use Rattle.refusals.specs.Answers.{answer_in}
+use Rattle.refusals.specs.declared.answers.Answer as refusals
 use Rattle.jenwyllt.specs.declared.JenwylltSheet.{JenwylltSheet}
 
-abbrev pub answer_in : JenwylltAnswer → Answer
-answer_in r = record { number = r.number; value = r.value }
-
 -- what was lent, the answer, and at exit labels l, masks m, queue q, tallies t and pairs p
-pub record Partitions (L : Lent) (r : JenwylltAnswer) (l m q t p : List ℕ) : Type 0 where
+pub record Partitions (L : Lent) (r : refusals.Answer) (l m q t p : List ℕ) : Type 0 where
   pub answer : answer_in r ≡ partition_verdict L
   pub labels : l ≡ (partition_exit L r.number).labels
   pub masks : m ≡ (partition_exit L r.number).masks

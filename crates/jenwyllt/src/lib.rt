@@ -13,15 +13,8 @@ use areas::lists::PartitionLists;
 use areas::partition;
 use hypotenuse::hypotenuse;
 use refusals::Refusal;
+use refusals::answers::Answer;
 use sheet::{Header, read_sheet};
-
-// Number 0 and a count, or a refusal's number and place.
-#[repr(C)]
-#[derive(Clone, Copy)]
-pub struct JenwylltAnswer {
-    pub number: u64,
-    pub value: u64,
-}
 
 // Kept: flat lists, which the C interface needs.
 pub fn jenwyllt_partition(
@@ -34,7 +27,7 @@ pub fn jenwyllt_partition(
     queue: &mut [u32],
     tallies: &mut [u32],
     pairs: &mut [u32],
-) -> JenwylltAnswer
+) -> Answer
     ensures { Partitions (given width height cells.now spans.now labels.old masks.old
         queue.old tallies.old pairs.old) result
         labels.new masks.new queue.new tallies.new pairs.new }
@@ -46,16 +39,7 @@ pub fn jenwyllt_partition(
         tallies,
         pairs,
     };
-    match partition(width, height, cells, spans, &mut lists) {
-        Ok(count) => JenwylltAnswer {
-            number: 0,
-            value: count as u64,
-        },
-        Err(Refusal { cause, place }) => JenwylltAnswer {
-            number: cause.number(),
-            value: place as u64,
-        },
-    }
+    Answer::from(partition(width, height, cells, spans, &mut lists))
 }
 
 // Number 0, place 0 and what the sheet opens with; or a refusal's number and place, and 0 for the rest. The last three are counts of entries.

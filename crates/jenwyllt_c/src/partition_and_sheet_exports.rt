@@ -6,7 +6,8 @@ ghost use Rattle.std.specs.Prelude.{length, ◌≡◌};
 ghost use Rattle.definitions.specs.Sheet.{read_verdict};
 ghost use Rattle.definitions.specs.Hypotenuse.{hypot_number, hypot_value};
 
-use jenwyllt::{JenwylltAnswer, JenwylltSheet, Outcome};
+use jenwyllt::{JenwylltSheet, Outcome};
+use refusals::answers::Answer;
 
 #[unsafe(no_mangle)]
 pub extern "C" fn jenwyllt_partition(
@@ -19,7 +20,7 @@ pub extern "C" fn jenwyllt_partition(
     queue: &mut [u32],
     tallies: &mut [u32],
     pairs: &mut [u32],
-) -> JenwylltAnswer
+) -> Answer
     ensures { Partitions (given width height cells.now spans.now labels.old masks.old
         queue.old tallies.old pairs.old) result
         labels.new masks.new queue.new tallies.new pairs.new }

@@ -1,9 +1,10 @@
 // What `result_writer` exports to C.
 
 ghost use Rattle.results.specs.ResultAnswers.{Writes};
-ghost use Rattle.result_writer.specs.Contract.{result_in, answer_in};
+ghost use Rattle.refusals.specs.Answers.{answer_in};
+ghost use Rattle.result_writer.specs.Contract.{result_in};
 
-use result_writer::Answer;
+use refusals::answers::Answer;
 
 // Writes what a run found as a sheet of kind 2. For other languages too: include/jenwyllt.h declares it as jenwyllt_write_result.
 #[unsafe(no_mangle)]

@@ -1,9 +1,9 @@
 // What `sheet_converter` exports to C.
 
-ghost use Rattle.result_writer.specs.Contract.{answer_in};
+ghost use Rattle.refusals.specs.Answers.{answer_in};
 ghost use Rattle.map_sheets.specs.Converting.{Converts};
 
-use result_writer::Answer;
+use refusals::answers::Answer;
 
 // Converts a sheet of kind 1 to kind 3. For other languages too: include/jenwyllt.h declares it as jenwyllt_convert_sheet.
 #[unsafe(no_mangle)]

@@ -1,9 +1,9 @@
 // What `sheet_writer` exports to C.
 
 ghost use Rattle.map_sheets.specs.Writing.{stating, Writes};
-ghost use Rattle.result_writer.specs.Contract.{answer_in};
+ghost use Rattle.refusals.specs.Answers.{answer_in};
 
-use result_writer::Answer;
+use refusals::answers::Answer;
 
 // Writes a map as a sheet of kind 3. For other languages too: include/jenwyllt.h declares it as jenwyllt_write_sheet.
 #[unsafe(no_mangle)]

@@ -47,7 +47,7 @@ use Rattle.grid_steps.specs.Walk.{direction_at}
 use Rattle.grid_steps.specs.Inner.{placed, byte_at}
 use Rattle.grid_steps.proofs.Ways as ways
 use Rattle.context.specs.Records.{record_of}
-use Rattle.areas.specs.Answers.{answer_of}
+use Rattle.refusals.specs.Answers.{answer_of, answer_in}
 use Rattle.areas.specs.Contract as alone
 use Rattle.call_partition.specs.Contract.{Ran}
 use Rattle.rust_partition.specs.Literal.PartitionBySpans.{partition_by_spans}
@@ -64,7 +64,6 @@ use Rattle.ranked_list.proofs.RankedLaws.{chosen}
 use Rattle.ranked_list.proofs.RankedCalls.{ranked_in, Greedy}
 use Rattle.ranked_list.proofs.RankedCalls as ranks
 use Rattle.topology.specs.Lent.{LentLists, LeftLists, lent_map, lent_call}
-use Rattle.refusals.specs.Answers.{answer_in}
 use Rattle.topology.specs.Contract.{RanOver}
 use Rattle.topology.specs.Desks.{LentBoth, LeftBoth, shared_lent, RanBothOver}
 use Rattle.topology.specs.declared.two_desks.DesksAnswer.{DesksAnswer}

@@ -13,6 +13,9 @@ abbrev pub answer_of : Result ℕ Refusal → verdict.Answer
 answer_of (Ok count) = record { number = 0; value = count }
 answer_of (Err r) = record { number = number_of r.cause; value = r.place }
 
--- a refusal that names no place
+-- a refusal that names no place, and one that does
 abbrev pub refused_by : Cause → Answer
 refused_by cause = record { number = number_of cause; value = 0 }
+
+abbrev pub refused_at : Refusal → Answer
+refused_at refusal = record { number = number_of refusal.cause; value = refusal.place }

@@ -1,6 +1,6 @@
 // What a call from C is answered: the number and the value of every operation that gives no more (struct jenwyllt_answer of include/jenwyllt.h).
 ghost use Rattle.std.specs.Prelude.{◌≡◌};
-ghost use Rattle.refusals.specs.Answers.{answer_in, answer_of, refused_by};
+ghost use Rattle.refusals.specs.Answers.{answer_in, answer_of, refused_at, refused_by};
 
 use crate::{Cause, Refusal};
 
@@ -12,11 +12,11 @@ pub struct Answer {
     pub value: u64,
 }
 
-impl Answer {
-    /// A refusal that names no place.
-    pub fn refused(cause: Cause) -> Answer
-        ensures { result ≡ refused_by cause }
-    {
+// A refusal that names no place.
+impl From<Cause> for Answer {
+    ghost from_gives = { λ cause answer. answer ≡ refused_by cause };
+
+    fn from(cause: Cause) -> Answer {
         Answer {
             number: cause.number(),
             value: 0,
@@ -24,19 +24,27 @@ impl Answer {
     }
 }
 
+impl From<Refusal> for Answer {
+    ghost from_gives = { λ refusal answer. answer ≡ refused_at refusal };
+
+    fn from(refusal: Refusal) -> Answer {
+        Answer {
+            number: refusal.cause.number(),
+            value: refusal.place as u64,
+        }
+    }
+}
+
 impl From<Result<usize, Refusal>> for Answer {
-    fn from(value: Result<usize, Refusal>) -> Answer
-        ensures { answer_in result ≡ answer_of value }
-    {
-        match value {
+    ghost from_gives = { λ given answer. answer_in answer ≡ answer_of given };
+
+    fn from(given: Result<usize, Refusal>) -> Answer {
+        match given {
             Ok(count) => Answer {
                 number: 0,
                 value: count as u64,
             },
-            Err(refusal) => Answer {
-                number: refusal.cause.number(),
-                value: refusal.place as u64,
-            },
+            Err(refusal) => Answer::from(refusal),
         }
     }
 }

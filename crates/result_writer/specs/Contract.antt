@@ -1,11 +1,6 @@
 -- Words of the crate's contracts. Definitions only; assumes nothing.
 use Rattle.std.specs.Prelude.{ℕ, ◌+◌, ◌-◌, ◌*◌, ◌≤◌, cond, List, ◌++◌, leb, length, take, drop, Option, None, Some}
-use Rattle.definitions.specs.Verdict as verdict
 use Rattle.results.specs.Result.{Result, in_turn}
-use Rattle.refusals.specs.declared.Cause.{Cause}
-use Rattle.refusals.specs.declared.Refusal.{Refusal}
-use Rattle.refusals.specs.Refusals.{number_of}
-use Rattle.result_writer.specs.declared.Answer.{Answer}
 use Rattle.result_writer.specs.declared.RunResult.{RunResult}
 
 -- one step along the labels, with so many numbers started
@@ -36,14 +31,3 @@ result_in regions labels tallies pairs rows = record { regions = regions; labels
 -- what the struct of a run stands for
 abbrev pub result_of : RunResult → Result
 result_of r = result_in r.regions r.labels.now r.tallies.now r.pairs.now r.rows.now
-
-abbrev pub answer_in : Answer → verdict.Answer
-answer_in r = record { number = r.number; value = r.value }
-
--- a refusal by its number, with place 0
-abbrev pub refused_by : Cause → Answer
-refused_by cause = record { number = number_of cause; value = 0 }
-
--- the same with its place
-abbrev pub refused_at : Refusal → Answer
-refused_at refusal = record { number = number_of refusal.cause; value = refusal.place }

@@ -11,11 +11,13 @@ ghost use Rattle.results.specs.Shortest.{shortest, list_bytes};
 ghost use Rattle.results.specs.Result.{turns, labels_fault, ascent_fault, rules_fault};
 ghost use Rattle.results.specs.ResultAnswers.{entries_in, placed, is_finished, result_bytes, Writes};
 ghost use Rattle.byte_writer.specs.Contract.{HasRoom, Appends};
-ghost use Rattle.result_writer.specs.Contract.{turn_of, key_in, entry_at, Neighbours, spent, result_in, result_of, answer_in, refused_by, refused_at};
+ghost use Rattle.refusals.specs.Answers.{answer_in};
+ghost use Rattle.result_writer.specs.Contract.{turn_of, key_in, entry_at, Neighbours, spent, result_in, result_of};
 
 use byte_writer::Writer;
 use put_shortest::put_shortest;
-use refusals::{Cause, Refusal};
+use refusals::Cause;
+use refusals::answers::Answer;
 
 // ---- the rules
 
@@ -195,36 +197,6 @@ impl RunResult<'_> {
         put_list(w, TALLIES_SIZE, self.tallies);
         put_list(w, PAIR_SIZE, self.pairs);
         put_list(w, ROW_SIZE, self.rows);
-    }
-}
-
-// Number 0 and how many bytes were written, or a refusal's number and place.
-#[repr(C)]
-#[derive(Clone, Copy)]
-pub struct Answer {
-    pub number: u64,
-    pub value: u64,
-}
-
-impl From<Cause> for Answer {
-    ghost from_gives = { λ cause answer. answer ≡ refused_by cause };
-
-    fn from(cause: Cause) -> Answer {
-        Answer {
-            number: cause.number(),
-            value: 0,
-        }
-    }
-}
-
-impl From<Refusal> for Answer {
-    ghost from_gives = { λ refusal answer. answer ≡ refused_at refusal };
-
-    fn from(refusal: Refusal) -> Answer {
-        Answer {
-            number: refusal.cause.number(),
-            value: refusal.place as u64,
-        }
     }
 }
 

@@ -12,7 +12,7 @@ ghost use Rattle.refusals.specs.Refusals.{refusal_in};
 ghost use Rattle.sheet.specs.Numbers.{Held, values_at};
 ghost use Rattle.sheet.specs.Parts.{cells_in, sheet_of, SheetHeld};
 ghost use Rattle.byte_writer.specs.Contract.{Put};
-ghost use Rattle.result_writer.specs.Contract.{answer_in};
+ghost use Rattle.refusals.specs.Answers.{answer_in};
 ghost use Rattle.map_sheets.specs.Converting.{same_numbers, Converts};
 ghost use Rattle.sheet_converter.specs.Contract.{is_other, lists_refusal, map_refusal, refusal_for, Cut, cut_out, ConvertsPlan};
 
@@ -24,8 +24,8 @@ use checks::limits::{NUMBERS_PER_BOUNDARY, NUMBERS_PER_SPAN};
 use checks::sizes::pass_fits;
 use checks::spans::spans_fault;
 use put_shortest::put_shortest;
+use refusals::answers::Answer;
 use refusals::{Cause, Refusal, ensure, no_fault};
-use result_writer::Answer;
 use sheet::{
     CELL_MOST, PLAIN_CELL_LIMIT, Plan, fill_endpoints, fill_numbers, item, judge_sheet, number_at,
 };

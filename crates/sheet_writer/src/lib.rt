@@ -10,7 +10,8 @@ ghost use Rattle.results.specs.Shortest.{shortest};
 ghost use Rattle.map_sheets.specs.SheetBytes.{sheet_bytes};
 ghost use Rattle.map_sheets.specs.Writing.{stating, Writes};
 ghost use Rattle.byte_writer.specs.Contract.{HasRoom, Appends};
-ghost use Rattle.result_writer.specs.Contract.{spent, answer_in};
+ghost use Rattle.refusals.specs.Answers.{answer_in};
+ghost use Rattle.result_writer.specs.Contract.{spent};
 ghost use Rattle.sheet_writer.specs.Contract.{opening, stated};
 
 use byte_writer::Writer;
@@ -18,7 +19,8 @@ use checks::limits::{NUMBERS_PER_ANCHOR, NUMBERS_PER_BOUNDARY};
 use checks::sizes::{cells_fit, is_whole, sides_fit};
 use put_shortest::put_shortest;
 use refusals::Cause;
-use result_writer::{Answer, group_count, put_list, spend_list, spend_number};
+use refusals::answers::Answer;
+use result_writer::{group_count, put_list, spend_list, spend_number};
 
 // No last boundary or anchor is unfinished, and there are at most 256 of each, in lists of these lengths.
 fn are_whole(boundaries: usize, anchors: usize) -> bool
