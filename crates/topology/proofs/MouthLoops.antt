@@ -99,15 +99,15 @@ module _ {C : Context} {records : List Region} {boundaries pairs starts marks : 
     found-near near = near (of_entry (λ p. Locates C records boundaries pairs starts p.mouth p.ramp) A.located) ∙ ap (λ p. corners_near_lem C (proposal_as C p)) same
 
   -- the entry is better, or the best stays
-  module _ {T : List MouthProposal} {best : Option Candidate} (K : OnO (Known C) best) where
+  module _ {best : Option Candidate} (K : OnO (Known C) best) where
     abbrev p : MouthProposal
     p = proposal_in C entry
 
     abbrev then_better : Option MouthProposal
     then_better = better (ranks_before C) (proposed C best) p
 
-    pub entry-better : is_better boundaries entry best ≡ true → corners_near_lem C p ≡ true → not (is_refused C T p) ≡ true → BetterNear C T best entry (Some entry)
-    entry-better b n f =
+    pub entry-better : {T : List MouthProposal} → is_better boundaries entry best ≡ true → corners_near_lem C p ≡ true → not (is_refused C T p) ≡ true → BetterNear C T best entry (Some entry)
+    entry-better {T} b n f =
         record {
           known = present A.known;
           least =
@@ -115,18 +115,18 @@ module _ {C : Context} {records : List Region} {boundaries pairs starts marks : 
               ∙ sym (λ i. cond (n i && f i) then_better (proposed C best));
         }
 
-    pub far-stays : corners_near_lem C p ≡ false → BetterNear C T best entry best
-    far-stays n = record { known = K; least = sym (ap (λ b. cond (b && not (is_refused C T p)) then_better (proposed C best)) n) }
+    pub far-stays : {T : List MouthProposal} → corners_near_lem C p ≡ false → BetterNear C T best entry best
+    far-stays {T} n = record { known = K; least = sym (ap (λ b. cond (b && not (is_refused C T p)) then_better (proposed C best)) n) }
 
-    pub refused-stays : not (is_refused C T p) ≡ false → BetterNear C T best entry best
-    refused-stays f = record { known = K; least = sym (ap (λ b. cond (corners_near_lem C p && b) then_better (proposed C best)) f ∙ go (corners_near_lem C p)) }
+    pub refused-stays : {T : List MouthProposal} → not (is_refused C T p) ≡ false → BetterNear C T best entry best
+    refused-stays {T} f = record { known = K; least = sym (ap (λ b. cond (corners_near_lem C p && b) then_better (proposed C best)) f ∙ go (corners_near_lem C p)) }
       where
         go : (b : Bool) → cond (b && false) then_better (proposed C best) ≡ proposed C best
         go true = refl
         go false = refl
 
-    pub behind-stays : is_better boundaries entry best ≡ false → BetterNear C T best entry best
-    behind-stays b =
+    pub behind-stays : {T : List MouthProposal} → is_better boundaries entry best ≡ false → BetterNear C T best entry best
+    behind-stays {T} b =
         record {
           known = K;
           least = sym (ap (λ o. cond (corners_near_lem C p && not (is_refused C T p)) o (proposed C best)) (sym (better-shown A.located.bounds A.known K) ∙ ap (λ b. cond b (Some p) (proposed C best)) b) ∙ go (corners_near_lem C p && not (is_refused C T p)));
