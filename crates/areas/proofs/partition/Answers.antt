@@ -13,5 +13,3 @@ returns-in_err-checks_before-clause-ran c =
     let r : c.from_residual.result ≡ Err c.in_err-checks_before.field-0.0 = search rules in
     rw r (ran-refused _ _ _ _ _ _ _ _ _ c.in_err-checks_before.field-0.0 c.in_err-checks_before.ensures)
 
-pub returns-clause-ran : goal.returns-clause-ran
-returns-clause-ran c = c.divide.ensures.divided c.in_ok-checks_before.ensures

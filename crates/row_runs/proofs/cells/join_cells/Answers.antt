@@ -10,18 +10,9 @@ pub join_row-marked-requires : goal.join_row-marked-requires
 join_row-marked-requires c =
     row-asked c.requires c.loop-y.invariant c.loop-y-test.true
 
-pub loop-y-smaller : goal.loop-y-smaller
-loop-y-smaller c = omega (arith, c.loop-y-test.true)
-
 pub loop-y-preserved : goal.loop-y-preserved
 loop-y-preserved c =
     joining_goes_on c.loop-y.invariant c.loop-y-test.true c.join_row-marked.ensures
-
-pub shape_of-parents : goal.shape_of-parents
-shape_of-parents c = c.loop-y.invariant.parents.long
-
-pub shape_of-queue : goal.shape_of-queue
-shape_of-queue c = c.loop-y.invariant.queue.long
 
 pub returns : goal.returns
 returns c = joining_ends c.loop-y.invariant c.loop-y-test.false

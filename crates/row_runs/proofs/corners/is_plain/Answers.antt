@@ -4,11 +4,5 @@ use borrow.Author.Tests.{eqb-true}
 use Rattle.row_runs.proofs.Marks.{or_none}
 use Rattle.row_runs.proofs.corners.is_plain.Goals as goal
 
-pub bounds-masks-c : goal.bounds-masks-c
-bounds-masks-c c = omega (arith, c.requires)
-
-pub bounds-masks-c-2 : goal.bounds-masks-c-2
-bounds-masks-c-2 c = c.requires
-
 pub returns : goal.returns
 returns c = λ e. or_none _ _ (eqb-true _ _ e)

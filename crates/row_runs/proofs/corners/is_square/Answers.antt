@@ -5,29 +5,17 @@ use borrow.Author.Tests.{not-true, not-false}
 use Rattle.row_runs.proofs.CornerNames.{square_first, square-second, square-third, square_last}
 use Rattle.row_runs.proofs.corners.is_square.Goals as goal
 
-pub is_walkable-requires : goal.is_walkable-requires
-is_walkable-requires c = omega (arith, c.requires)
-
 pub returns-then-not-is_walkable : goal.returns-then-not-is_walkable
 returns-then-not-is_walkable c = square_first _ _ _ (sym c.is_walkable.ensures ∙ not-true _ c.if-not-is_walkable.true-raw)
-
-pub is_walkable-requires-2 : goal.is_walkable-requires-2
-is_walkable-requires-2 c = omega (arith, c.requires)
 
 pub returns-then-not-is_walkable-2 : goal.returns-then-not-is_walkable-2
 returns-then-not-is_walkable-2 c =
     square-second _ _ _ (sym c.is_walkable.ensures ∙ not-false _ c.if-not-is_walkable.false-raw) (sym c.is_walkable-2.ensures ∙ not-true _ c.if-not-is_walkable-2.true-raw)
 
-pub is_walkable-requires-3 : goal.is_walkable-requires-3
-is_walkable-requires-3 c = omega (arith, c.requires)
-
 pub returns-then-not-is_walkable-3 : goal.returns-then-not-is_walkable-3
 returns-then-not-is_walkable-3 c =
     square-third _ _ _ (sym c.is_walkable.ensures ∙ not-false _ c.if-not-is_walkable.false-raw) (sym c.is_walkable-2.ensures ∙ not-false _ c.if-not-is_walkable-2.false-raw)
     (sym c.is_walkable-3.ensures ∙ not-true _ c.if-not-is_walkable-3.true-raw)
-
-pub is_walkable-requires-4 : goal.is_walkable-requires-4
-is_walkable-requires-4 c = c.requires
 
 pub returns : goal.returns
 returns c =

@@ -12,8 +12,5 @@ join_corners-requires c = corners-asked c.requires c.loop-c.invariant (omega ari
 pub loop-c-preserved : goal.loop-c-preserved
 loop-c-preserved c = cornering_goes_on c.loop-c.invariant (omega arith) c.join_corners.ensures
 
-pub shape_of-parents : goal.shape_of-parents
-shape_of-parents c = cornering_long c.requires c.loop-c.invariant
-
 pub returns : goal.returns
 returns c = cornering_ends c.loop-c.invariant (omega arith)

@@ -7,9 +7,6 @@ use Rattle.row_runs.proofs.numbering.number.Goals as goal
 pub loop-c-init : goal.loop-c-init
 loop-c-init c = numbering_starts _ _ _ _
 
-pub bounds-queue-c : goal.bounds-queue-c
-bounds-queue-c c = omega (arith, c.loop-c-test.true, c.requires.queue_long_lem)
-
 pub label_at-label-requires : goal.label_at-label-requires
 label_at-label-requires c =
     label-asked c.loop-c.invariant c.requires c.loop-c-test.true
@@ -28,9 +25,6 @@ loop-c-smaller c =
 pub loop-c-preserved : goal.loop-c-preserved
 loop-c-preserved c =
     numbering_goes_on c.loop-c.invariant c.requires c.loop-c-test.true refl c.label_at-label.ensures c.put_alike.ensures c.max-id.ensures
-
-pub shape_of-labels : goal.shape_of-labels
-shape_of-labels c = labels_long_lem c.loop-c.invariant c.requires
 
 pub returns : goal.returns
 returns c = numbering_ends c.loop-c.invariant c.loop-c-test.false refl

@@ -6,21 +6,9 @@ use Rattle.laws.specs.ListLaws.Tests.{both}
 use Rattle.row_runs.proofs.Stretches.{alike-stretch, run-stretch}
 use Rattle.row_runs.proofs.row.stretch_end.Goals as goal
 
-pub is_walkable-walkable-requires : goal.is_walkable-walkable-requires
-is_walkable-walkable-requires c = let s = c.requires in omega (arith, s.more, s.cells_long)
-
-pub overflow_add-from : goal.overflow_add-from
-overflow_add-from c = let s = c.requires in omega (arith, s.more, s.cells_long)
-
-pub run_end-requires : goal.run_end-requires
-run_end-requires c = let s = c.requires in (omega arith, omega (arith, s.more), s.cells_long, s.masks_long)
-
 pub returns-then-walkable-marked : goal.returns-then-walkable-marked
 returns-then-walkable-marked c =
     run-stretch _ _ _ _ _ c.requires.more (sym c.is_walkable-walkable.ensures ∙ (both _ _ c.if-walkable-marked.true).0) c.run_end.ensures
-
-pub alike_end-requires : goal.alike_end-requires
-alike_end-requires c = let s = c.requires in (omega (arith, s.more), s.cells_long)
 
 pub returns : goal.returns
 returns c =

@@ -3,16 +3,6 @@ use native.Mathlib.Omega.{arith}
 use Rattle.row_runs.proofs.RunNames.{run_put}
 use Rattle.row_runs.proofs.run.put_run.Goals as goal
 
-pub overflow_cast-from : goal.overflow_cast-from
-overflow_cast-from c =
-    let run = c.requires in
-    omega (arith, run.low, run.ends, run.forest.few)
-
-pub put_alike-requires : goal.put_alike-requires
-put_alike-requires c =
-    let run = c.requires in
-    (run.low, omega (arith, run.ends, run.forest.long))
-
 pub returns : goal.returns
 returns c =
     λ n name F fresh ends. run_put F fresh c.requires.low ends c.put_alike.ensures

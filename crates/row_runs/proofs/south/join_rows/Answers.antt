@@ -4,20 +4,8 @@ use native.Mathlib.Omega.{arith}
 use Rattle.row_runs.proofs.SouthNames.{Reach, southing_starts, upper-reach, lower-reach, overlap, overlap-asked, southing_goes_on, southing_ends, southing_long}
 use Rattle.row_runs.proofs.south.join_rows.Goals as goal
 
-pub overflow_add-row : goal.overflow_add-row
-overflow_add-row c = let P = c.requires in omega (arith, P.ends, P.forest.few)
-
 pub loop-c-init : goal.loop-c-init
 loop-c-init c = southing_starts _ _ _ _ _ _ c.requires
-
-pub end_at-a-requires : goal.end_at-a-requires
-end_at-a-requires c = omega (arith, c.loop-c-test.true, c.requires.queue_long_lem)
-
-pub overflow_add-c : goal.overflow_add-c
-overflow_add-c c = let P = c.requires in omega (arith, c.loop-c-test.true, P.ends, P.forest.few)
-
-pub end_at-b-requires : goal.end_at-b-requires
-end_at-b-requires c = omega (arith, c.loop-c-test.true, c.requires.queue_long_lem)
 
 pub overflow_sub-b : goal.overflow_sub-b
 overflow_sub-b c =
@@ -41,9 +29,6 @@ loop-c-preserved c =
     let upper : let arg = c.args in Reach arg.grid.cells.now arg.grid.masks.now arg.up (arg.up + arg.grid.width) arg.queue.now c.loop-c.c c.end_at-a.result = upper-reach c.loop-c.invariant c.loop-c-test.true c.end_at-a.result c.end_at-a.ensures in
     let lower : let arg = c.args in Reach arg.grid.cells.now arg.grid.masks.now (arg.up + arg.grid.width) (arg.up + arg.grid.width + arg.grid.width) arg.queue.now (c.loop-c.c + arg.grid.width) c.end_at-b.result = lower-reach c.loop-c.invariant c.loop-c-test.true c.end_at-b.result c.end_at-b.ensures in
     southing_goes_on c.loop-c.invariant c.loop-c-test.true upper lower c.min-e.ensures c.join_overlap.ensures
-
-pub shape_of-parents : goal.shape_of-parents
-shape_of-parents c = southing_long c.loop-c.invariant c.requires
 
 pub returns : goal.returns
 returns c = southing_ends c.loop-c.invariant c.loop-c-test.false

@@ -3,12 +3,6 @@ use native.Mathlib.Omega.{arith}
 use Rattle.row_runs.proofs.WordLaws.{open_flags_are}
 use Rattle.row_runs.proofs.words.open_flags.Goals as goal
 
-pub overflow_mul-result : goal.overflow_mul-result
-overflow_mul-result c = omega (arith, c.four-high.ensures.bound)
-
-pub overflow_add-result : goal.overflow_add-result
-overflow_add-result c = omega (arith, c.four-low.ensures.bound, c.four-high.ensures.bound)
-
 pub returns : goal.returns
 returns c =
     let a = c.args in

@@ -4,14 +4,6 @@ use native.Mathlib.Omega.{arith}
 use Rattle.row_runs.proofs.WordLaws.{word_two}
 use Rattle.row_runs.proofs.words.two.Goals as goal
 
-pub overflow_mul-result : goal.overflow_mul-result
-overflow_mul-result c = omega (arith, c.byte-high.ensures, c.shared_slice_known-3-1.given (c.args.c + 1))
-
-pub overflow_add-result : goal.overflow_add-result
-overflow_add-result c =
-    let given = c.shared_slice_known-3-1.given in
-    omega (arith, c.byte-low.ensures, c.byte-high.ensures, given c.args.c, given (c.args.c + 1))
-
 pub returns : goal.returns
 returns c =
     let a = c.args in
