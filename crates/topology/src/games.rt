@@ -83,14 +83,16 @@ pub fn run_kept(
         cells: asked.cells,
     };
     let graph = divide_kept(grid, asked.spans, &removed, ready.rows, room, lists);
+    let labels = &mut *lists.labels;
+    let queue = &mut *lists.queue;
     renew(
         records,
         ready.regions,
         graph.regions,
         width,
         asked.cells,
-        &*lists.labels,
-        &*lists.queue,
+        &*labels,
+        &*queue,
     );
     let kept = finish(
         needed,
@@ -98,7 +100,7 @@ pub fn run_kept(
         asked.boundaries,
         &removed,
         lists.masks,
-        lists.queue,
+        queue,
         output,
     );
     Second {

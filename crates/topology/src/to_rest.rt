@@ -155,14 +155,16 @@ pub fn turn_once(
     }
     let room = records.len();
     let next = divide_again(grid, spans, left, first, room, lists);
+    let labels = &mut *lists.labels;
+    let queue = &mut *lists.queue;
     renew(
         records,
         first.regions,
         next.regions,
         grid.width,
         grid.cells,
-        &*lists.labels,
-        &*lists.queue,
+        &*labels,
+        &*queue,
     );
     next
 }
@@ -256,14 +258,9 @@ pub fn topology_run_to_rest(
                 regions,
                 rows,
             };
-            fill(
-                records,
-                regions,
-                width,
-                asked.cells,
-                &*lists.labels,
-                &*lists.queue,
-            );
+            let labels = &mut *lists.labels;
+            let queue = &mut *lists.queue;
+            fill(records, regions, width, asked.cells, &*labels, &*queue);
             let answer = run_turns(
                 grid,
                 asked.anchors,
