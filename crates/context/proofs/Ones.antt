@@ -1,4 +1,4 @@
--- Counting ones and reading a digit, as the code writes them on eight bits. Assumes nothing.
+-- Counting the ones of eight bits, as the code writes it. Assumes nothing.
 use Prim.Native.Nat.{ℕ, zero, suc, ◌+◌, ◌*◌, ◌/◌, ◌%◌, ◌^◌, ◌<◌}
 use native.Mathlib.Omega.{arith}
 use native.Mathlib.Nat.{pow-succ'}
