@@ -15,7 +15,6 @@ use Rattle.definitions.specs.RampInteriors.{is_ordinary, components, component_o
 use Rattle.laws.specs.ListLaws.Lists.{All, all_map, all_both, any-gather}
 use Rattle.laws.specs.ListLaws.ListsAsSets.{any-add_all}
 use Rattle.laws.specs.ListLaws.Tests.{both}
-use Rattle.laws.specs.ListLaws.Below.{below_at}
 use Rattle.laws.specs.ListLaws.Chains.{any_is}
 use Rattle.laws.specs.ListLaws.ScanSteps.{any-fails_at}
 use Rattle.laws.specs.SetLaws.Sets.{numbers_below, length-below}

@@ -86,9 +86,6 @@ module _ (f : Pair → Bool) (rows : List ℕ) (first : ℕ) where
   pub any-rows_end : {k end : ℕ} → k ≤ end → end ≤ k → any f (pairs_between rows first k) ≡ any f (pairs_between rows first end)
   any-rows_end a b = ap (any f) (between-end rows first a b)
 
-  pub all-rows_end : {k end : ℕ} → k ≤ end → end ≤ k → all f (pairs_between rows first k) ≡ all f (pairs_between rows first end)
-  all-rows_end a b = ap (all f) (between-end rows first a b)
-
   -- a row that passes
   pub any-rows_at : (k end : ℕ) → first ≤ k → k < end → f (pair_at rows k) ≡ true → any f (pairs_between rows first end) ≡ true
   any-rows_at k end h l e = go (any f (pairs_between rows first end)) refl

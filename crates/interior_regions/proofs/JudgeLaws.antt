@@ -7,7 +7,7 @@ use mathlib.Core.Bool.{Bool, true, false, not, ◌&&◌, ◌||◌, cond, and-fal
 use mathlib.Core.List.{List, [], ◌∷◌}
 use lib.ListN.{get_or}
 use lib.Dec.{eqb, ltb, leb}
-use borrow.Author.Tests.{eq-eqb, eqb-true, leb-true, ltb-true, ltb-false, le-leb, not-true}
+use borrow.Author.Tests.{eq-eqb, eqb-true, leb-true, ltb-true, ltb-false, le-leb}
 use Rattle.std.specs.Prelude.{None}
 use Rattle.definitions.specs.Scan.{any, all, member, any_below_lem, all_below}
 use Rattle.definitions.specs.RegionRecord.{has_ramp}

@@ -1,4 +1,4 @@
-mod Marking
+mod Backwards
 mod Starting
 mod Stretches
 pub mod PlaceLaws

@@ -81,12 +81,11 @@ fn end_of(owners: &[Owner; 256], count: usize, name: u32) -> usize
     requires { count ≤ max_entries }
     ensures { EndOf owners.now count name result }
 {
-    for j in (0..count).rev() {
-        if owners[j] == Owner::One(name) {
-            return j + 1;
-        }
+    let last = (0..count).rev().find(|&j| owners[j] == Owner::One(name));
+    match last {
+        None => 0,
+        Some(j) => j + 1,
     }
-    0
 }
 
 // What stands at boundary i, if ports were found. It is the first edge, and each region of the interior stands in a row of an edge or of a port.

@@ -3,14 +3,6 @@ use mathlib.Core.Path.{◌∙◌}
 use Rattle.interior_regions.proofs.Starting.{lent-kept, lent-owning, known-progress}
 use Rattle.interior_regions.proofs.find_interiors.Goals as goal
 
-pub find_owners-requires : goal.find_owners-requires
-find_owners-requires c =
-    let L = c.requires.lent.1 in
-    record {
-      kept = (c.requires.lent.0, (lent-kept L (c.name_components.ensures.known _ L), L.counted));
-      owners_room = c.requires.room.0;
-    }
-
 pub propose_all-requires : goal.propose_all-requires
 propose_all-requires c =
     let L = c.requires.lent.1 in

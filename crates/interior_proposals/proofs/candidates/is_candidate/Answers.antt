@@ -1,5 +1,5 @@
 -- `candidates::is_candidate` meets its contract: where no boundary spoils the component, its edges are those that it owns. Assumes nothing.
-use Rattle.std.proofs.Common.{rules, tests, arith, ◌≡◌, ◌<◌, true, false, eqb, sym, ap, ◌∙◌}
+use Rattle.std.proofs.Common.{rules, tests, ◌≡◌, ◌<◌, true, false, eqb, sym, ap, ◌∙◌}
 use borrow.Author.Tests.{eq-eqb, ne_eqb}
 use Rattle.laws.specs.ListLaws.Chains.{any_from_range}
 use Rattle.definitions.specs.Context.{Context}
@@ -7,11 +7,6 @@ use Rattle.definitions.specs.RampInteriors.{components, component_of}
 use Rattle.interior_proposals.specs.Candidates.{Mapped, spoils_at}
 use Rattle.interior_proposals.proofs.CandidateLaws.{spoilt, unspoilt, unnamed, counted_owned}
 use Rattle.interior_proposals.proofs.candidates.is_candidate.Goals as goal
-
-pub parent_of-requires : goal.parent_of-requires
-parent_of-requires c =
-    let M = c.requires.1.0 in
-    (M.from, omega (arith, M.upto, M.told.long))
 
 pub returns-then-parent_of-r : goal.returns-then-parent_of-r
 returns-then-parent_of-r c =
@@ -25,10 +20,6 @@ returns-then-any c =
     spoilt C _ e _
     (any_from_range _ _ _ c.any.result (λ i. i < C.count → spoils_at C c.args.r i ≡ true) (λ i. i < C.count → spoils_at C c.args.r i ≡ false)
     c.any.ensures.ran (λ x q k l. let o = O x l in search (rules, tests)) (λ x q k. (search (rules, tests), λ l. let o = O x l in search (rules, tests)))) c.if-any.true
-
-pub edge_count-edges-requires : goal.edge_count-edges-requires
-edge_count-edges-requires c =
-    omega (arith, c.requires.1.1, c.requires.1.0.paired.few)
 
 pub returns : goal.returns
 returns c =

@@ -2,16 +2,6 @@
 use Rattle.interior_proposals.proofs.Forests.{joined, greatest-placed}
 use Rattle.interior_proposals.proofs.components.join.Goals as goal
 
-pub root_of-a-requires : goal.root_of-a-requires
-root_of-a-requires c =
-    let pre = c.requires in
-    (pre.0, (pre.1.0, (pre.1.1.low_from, pre.1.1.low_upto)))
-
-pub root_of-b-requires : goal.root_of-b-requires
-root_of-b-requires c =
-    let pre = c.requires in
-    (pre.0, ((c.root_of-a.ensures pre.0 pre.1.0 pre.1.1.low_upto).parented, (pre.1.1.high_from, pre.1.1.high_upto)))
-
 pub set_parent-requires : goal.set_parent-requires
 set_parent-requires c =
     let pre = c.requires in

@@ -25,9 +25,5 @@ loop-i-preserved c =
           cuts_more C i m (c.join_cut.ensures C _ G (omega (arith, e, c.loop-i-test.true)) m.parented (cuts-size C i m)),
     )
 
-pub shape_of-parents : goal.shape_of-parents
-shape_of-parents c =
-    (c.loop-i.invariant.1 c.requires.0 c.requires.1.0 c.requires.1.1.0 c.requires.1.1.1).beyond.long
-
 pub returns : goal.returns
 returns c = λ C G e P. cuts-end C _ (c.loop-i.invariant.1 C G e P) e c.loop-i.invariant.0 c.loop-i-test.false

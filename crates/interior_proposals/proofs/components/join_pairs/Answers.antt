@@ -32,9 +32,5 @@ loop-k-preserved c =
           rows_more _ _ _ _ k m p d e c.loop-k.invariant.0 (c.join.ensures _ m.parented (row-placed _ _ _ _ k m p d e)),
     )
 
-pub shape_of-parents : goal.shape_of-parents
-shape_of-parents c =
-    (c.loop-k.invariant.2 c.requires.joinable.0 c.requires.joinable.1.0 c.requires.joinable.1.1).beyond.long
-
 pub returns : goal.returns
 returns c = λ cs P w. rows_end _ _ _ _ _ (c.loop-k.invariant.2 cs P w) c.loop-k.invariant.1 c.loop-k-test.false

@@ -6,12 +6,6 @@ use Rattle.interior_proposals.proofs.Preparing.{components-parented, components-
 use Rattle.laws.specs.ListLaws.Beyond.{beyond-then}
 use Rattle.interior_proposals.proofs.components.name_components.Goals as goal
 
-pub join_cuts-requires : goal.join_cuts-requires
-join_cuts-requires c =
-    let L = c.requires.1 in
-    let C = c.requires.0 in
-    (C, (L.given, (L.counted, (c.prepare.ensures.prepared C L.labelled L.anchored L.incidents).parented)))
-
 pub flatten-requires : goal.flatten-requires
 flatten-requires c =
     let C = c.requires.0 in

@@ -5,14 +5,8 @@ use lib.Arith.{lt_of_le-ne}
 use mathlib.Core.Path.{◌≡◌, sym, ap, subst, ◌∙◌}
 use mathlib.Core.List.{List}
 use lib.ListN.{length, get_or}
-use Rattle.interior_proposals.proofs.Forests.{Way, way-start, way_in, parent_in, parent-le, above_in, way_step, way_end}
+use Rattle.interior_proposals.proofs.Forests.{Way, way_in, parent_in, parent-le, above_in, way_step, way_end}
 use Rattle.interior_proposals.proofs.components.root_of.Goals as goal
-
-pub parent_of-p-requires : goal.parent_of-p-requires
-parent_of-p-requires c = (c.requires.1.1.0, omega (arith, c.requires.1.0.long, c.requires.1.1.1))
-
-pub loop-p-init : goal.loop-p-init
-loop-p-init c = (c.parent_of-p.ensures, λ cs P l. way-start P c.requires.1.1.0)
 
 pub parent_of-above-requires : goal.parent_of-above-requires
 parent_of-above-requires c =
@@ -21,13 +15,6 @@ parent_of-above-requires c =
     let way : Way names c.args.parents.now c.args.r c.loop-p.parents c.loop-p.x = c.loop-p.invariant.1 names c.requires.1.0 within in
     let in_ps = parent_in within way in
     (omega (arith, in_ps.0, c.loop-p.invariant.0), omega (arith, in_ps.1, c.loop-p.invariant.0))
-
-pub set_parent-requires : goal.set_parent-requires
-set_parent-requires c =
-    let names : List ℕ = c.requires.0 in
-    let within : c.args.r < length names = c.requires.1.1.1 in
-    let way : Way names c.args.parents.now c.args.r c.loop-p.parents c.loop-p.x = c.loop-p.invariant.1 names c.requires.1.0 within in
-    way_in within way
 
 pub parent_of-p-requires-in-loop-p : goal.parent_of-p-requires-in-loop-p
 parent_of-p-requires-in-loop-p c =
@@ -54,13 +41,6 @@ loop-p-preserved c =
       λ cs P l. subst (λ ps. Way cs c.args.parents.now c.args.r ps c.parent_of-above.result) (sym c.set_parent.ensures)
           (way_step l (c.loop-p.invariant.1 cs P l) c.parent_of-above.result (c.parent_of-above.ensures ∙ parent_is)),
     )
-
-pub shape_of-parents : goal.shape_of-parents
-shape_of-parents c =
-    let names : List ℕ = c.requires.0 in
-    let within : c.args.r < length names = c.requires.1.1.1 in
-    let way : Way names c.args.parents.now c.args.r c.loop-p.parents c.loop-p.x = c.loop-p.invariant.1 names c.requires.1.0 within in
-    way.beyond.long
 
 pub returns : goal.returns
 returns c = λ cs P l. way_end l (c.loop-p.invariant.1 cs P l) (sym c.loop-p.invariant.0 ∙ c.loop-p-test.false)

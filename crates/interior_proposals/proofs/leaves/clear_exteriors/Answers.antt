@@ -1,28 +1,13 @@
 -- `leaves::clear_exteriors` meets its contract. The invariant: what the rows passed name is no more marked. Assumes nothing.
-use Prim.Native.Nat.{ℕ, ◌≤◌}
 use native.Mathlib.Omega.{arith}
-use mathlib.Core.Path.{◌≡◌, refl, ◌∙◌}
+use mathlib.Core.Path.{refl, ◌∙◌}
 use borrow.Author.Rules.{rules}
-use Rattle.interior_proposals.proofs.Walks.{row_low, row_high, row_in, low_in_lem, high_in}
+use Rattle.interior_proposals.proofs.Walks.{row_low, row_high}
 use Rattle.interior_proposals.proofs.ExteriorLaws.{clearing-start, clearing_more, clearing-end}
 use Rattle.interior_proposals.proofs.leaves.clear_exteriors.Goals as goal
 
-marks_in : {x n m : ℕ} → (1 ≤ x) × (x ≤ m) → n ≡ m → (1 ≤ x) × (x ≤ n)
-marks_in h l = (h.0, omega (arith, h.1))
-
 pub loop-k-init : goal.loop-k-init
 loop-k-init c = (search rules, c.requires.rising, refl, λ C rs w M. clearing-start C _ _ _ _ w M)
-
-pub row_at-pair-requires : goal.row_at-pair-requires
-row_at-pair-requires c = row_in c.requires c.loop-k.invariant.0 c.loop-k-test.true
-
-pub clear_exterior-requires : goal.clear_exterior-requires
-clear_exterior-requires c =
-    marks_in (low_in_lem c.requires c.loop-k.invariant.0 c.loop-k-test.true (row_low c.args.pairs.now c.loop-k.k c.row_at-pair.ensures)) c.loop-k.invariant.2
-
-pub clear_exterior-requires-in-loop-k : goal.clear_exterior-requires-in-loop-k
-clear_exterior-requires-in-loop-k c =
-    marks_in (high_in c.requires c.loop-k.invariant.0 c.loop-k-test.true (row_high c.args.pairs.now c.loop-k.k c.row_at-pair.ensures)) (c.clear_exterior.ensures.marks_length ∙ c.loop-k.invariant.2)
 
 pub loop-k-preserved : goal.loop-k-preserved
 loop-k-preserved c = (
@@ -32,9 +17,6 @@ loop-k-preserved c = (
   λ C rs w M.
       clearing_more C _ _ _ _ w c.loop-k.k c.loop-k.invariant.0 c.loop-k-test.true (row_low c.args.pairs.now c.loop-k.k c.row_at-pair.ensures) (row_high c.args.pairs.now c.loop-k.k c.row_at-pair.ensures) (c.loop-k.invariant.3 C rs w M) c.clear_exterior.ensures.marks c.clear_exterior-in-loop-k.ensures.marks,
 )
-
-pub shape_of-marks : goal.shape_of-marks
-shape_of-marks c = c.loop-k.invariant.2
 
 pub returns : goal.returns
 returns c = record {

@@ -1,23 +1,9 @@
 -- `leaves::expand_port` meets its contract, from what its four walks ensure. Assumes nothing.
-use native.Mathlib.Omega.{arith}
 use mathlib.Core.Path.{◌∙◌}
 use Rattle.definitions.specs.RampInteriors.{exteriors}
 use Rattle.context.specs.Shown.{pairs_between}
-use Rattle.interior_proposals.proofs.Walks.{walk_more}
 use Rattle.interior_proposals.proofs.LeafLaws.{port-walked}
 use Rattle.interior_proposals.proofs.leaves.expand_port.Goals as goal
-
-pub expand_rows-grown-requires : goal.expand_rows-grown-requires
-expand_rows-grown-requires c =
-    (c.requires.0, (c.requires.1.0, (c.requires.1.1.0, omega (arith, c.requires.1.1.1, c.mark_exteriors-before.ensures.marks_length))))
-
-pub rows_split-after-requires : goal.rows_split-after-requires
-rows_split-after-requires c =
-    walk_more c.requires.1.0 (omega (arith, c.requires.1.1.0, c.expand_rows-grown.ensures.names_length))
-
-pub clear_exteriors-requires : goal.clear_exteriors-requires
-clear_exteriors-requires c =
-    walk_more c.requires.1.0 (omega (arith, c.requires.1.1.1, c.mark_exteriors-before.ensures.marks_length))
 
 pub returns : goal.returns
 returns c =

@@ -1,10 +1,10 @@
 -- `owners::common_name` meets its contract, by what `all` gives. Assumes nothing.
-use Rattle.std.proofs.Common.{rules, tests, arith, sym, ap, ◌≡◌, ◌∙◌, ◌-◌, ◌<◌, true, false, get_or}
+use Rattle.std.proofs.Common.{rules, tests, sym, ap, ◌≡◌, ◌∙◌, ◌-◌, ◌<◌, true, false, get_or}
 use lib.Arith.{lt_of_le-ne}
 use Rattle.laws.specs.ListLaws.Chains.{all_from_range}
 use Rattle.context.specs.Shown.{pair_at, pairs_between}
 use Rattle.interior_proposals.specs.Owners.{low_named, none}
-use Rattle.interior_proposals.proofs.Walks.{row_low, row_in, low_in_lem}
+use Rattle.interior_proposals.proofs.Walks.{row_low}
 use Rattle.interior_proposals.proofs.RowScans.{between_none}
 use Rattle.interior_proposals.proofs.Commons.{common_one, common-several}
 use Rattle.interior_proposals.proofs.owners.common_name.Goals as goal
@@ -12,16 +12,6 @@ use Rattle.interior_proposals.proofs.owners.common_name.Goals as goal
 pub returns-then-first-end : goal.returns-then-first-end
 returns-then-first-end c =
     none (sym (ap (pairs_between c.args.pairs.now c.args.first) c.if-first-end.true) ∙ between_none c.args.pairs.now c.args.first)
-
-pub row_at-requires : goal.row_at-requires
-row_at-requires c =
-    let some_row : c.args.first < c.args.end = lt_of_le-ne c.requires.rising c.if-first-end.false in
-    row_in c.requires (omega arith) some_row
-
-pub parent_of-name-requires : goal.parent_of-name-requires
-parent_of-name-requires c =
-    let some_row : c.args.first < c.args.end = lt_of_le-ne c.requires.rising c.if-first-end.false in
-    low_in_lem c.requires (omega arith) some_row (row_low c.args.pairs.now c.args.first c.row_at.ensures)
 
 pub returns-then-all : goal.returns-then-all
 returns-then-all c =

@@ -3,19 +3,11 @@ use Rattle.std.proofs.Common.{refl, sym}
 use Rattle.interior_proposals.proofs.ProposalLaws.{no_candidate, no_ports, component-inside, ports-below, unfit, ports-valid, ports-invalid, facing-listed, facing-reachable}
 use Rattle.interior_proposals.proofs.proposals.propose.Goals as goal
 
-pub is_candidate-requires : goal.is_candidate-requires
-is_candidate-requires c =
-    (c.requires.0, (c.requires.1.mapped, c.requires.1.counted))
-
 pub returns-then-not-is_candidate : goal.returns-then-not-is_candidate
 returns-then-not-is_candidate c = record {
   proposed = λ C F. no_candidate F (c.if-not-is_candidate.ensures C F.mapped F.counted F.owned);
   lengths = (refl, refl);
 }
-
-pub find_ports-requires : goal.find_ports-requires
-find_ports-requires c =
-    (c.requires.0, (c.requires.1.mapped, c.requires.1.counted))
 
 pub returns-in_err-ports : goal.returns-in_err-ports
 returns-in_err-ports c = record {

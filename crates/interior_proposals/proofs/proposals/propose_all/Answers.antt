@@ -1,28 +1,12 @@
 -- `proposals::propose_all` meets its contract. The invariant: the boundaries passed are done, and what was found is stored. Assumes nothing.
 use Prim.Native.Nat.{◌<◌}
 use native.Mathlib.Omega.{arith}
-use mathlib.Core.Path.{◌≡◌, refl, subst, ◌∙◌}
+use mathlib.Core.Path.{◌≡◌, subst, ◌∙◌}
 use lib.ListN.{length-set}
-use borrow.Author.Rules.{rules}
 use Rattle.definitions.specs.Limits.{max_entries}
 use Rattle.interior_proposals.specs.Proposals.{Progress, FoundAll}
-use Rattle.interior_proposals.proofs.ProgressLaws.{progress-now, found_more}
+use Rattle.interior_proposals.proofs.ProgressLaws.{found_more}
 use Rattle.interior_proposals.proofs.proposals.propose_all.Goals as goal
-
-pub loop-i-init : goal.loop-i-init
-loop-i-init c =
-    (search rules, refl, refl, c.requires.room, λ C was wasMarks W P. (P, λ j l. absurd (omega arith)))
-
-pub propose_at-requires : goal.propose_at-requires
-propose_at-requires c =
-    let w = c.requires.progress in
-    record {
-      i_within = c.loop-i-test.true;
-      progress = (w.0, (w.1.0, progress-now (c.loop-i.invariant.4 w.0 _ _ w.1.0 w.1.1).0));
-    }
-
-pub bounds-found-i : goal.bounds-found-i
-bounds-found-i c = omega (arith, c.loop-i-test.true, c.requires.progress.1.0.counted, c.requires.progress.1.0.given.bounds.few)
 
 pub loop-i-preserved : goal.loop-i-preserved
 loop-i-preserved c =
@@ -38,12 +22,6 @@ loop-i-preserved c =
           let n = c.propose_at.ensures.proposed C was wasMarks W w.0 in
           (n.0, found_more C _ c.loop-i.found i w.1 (omega (arith, few, inv.3)) n.1),
     )
-
-pub shape_of-names : goal.shape_of-names
-shape_of-names c = c.loop-i.invariant.1
-
-pub shape_of-marks : goal.shape_of-marks
-shape_of-marks c = c.loop-i.invariant.2
 
 pub returns : goal.returns
 returns c =
