@@ -2,20 +2,19 @@
 -- as it is below three, and which they are; so the list of incidents, looked at one after the other, says whether there are three. Assumes nothing.
 use Prim.Native.Nat.{ℕ, zero, suc, ◌+◌, ◌≤◌, ◌<◌}
 use native.Mathlib.Omega.{arith}
-use mathlib.Core.Path.{◌≡◌, refl, sym, ap, ap₂, ◌∙◌, subst}
+use mathlib.Core.Path.{◌≡◌, refl, sym, ap, ap₂, ◌∙◌}
 use mathlib.Core.Bool.{Bool, true, false, not, ◌&&◌, ◌||◌, cond, true≢false, false≢true, or-false, or-true}
 use mathlib.Core.List.{List}
 use Rattle.std.specs.Prelude.{Option, None, Some}
 use Rattle.std.specs.List.{fold}
 use Rattle.std.proofs.lemmas.List.Sums.{fold-append}
 use lib.Dec.{eqb, ltb, leb}
-use borrow.Author.Tests.{eqb-true, eqb-false, ne_eqb, le-leb, lt-leb, ltb-true, ltb-false}
+use borrow.Author.Tests.{eqb-true, le-leb, ltb-true, ltb-false}
 use Rattle.definitions.specs.Scan.{any_below_lem, count_below, collect, to_list, only_if, bit}
 use Rattle.definitions.specs.Grid.{Pair}
 use Rattle.definitions.specs.Context.{holds}
 use Rattle.definitions.specs.Junctions.{exterior_of}
 use Rattle.context.specs.declared.pairs.Pair as declared
-use Rattle.laws.specs.ListLaws.ScanSteps.{any_next}
 use Rattle.junction_proposals.specs.Ports.{pair_of, names, names_either, is_port, incidents_of}
 use Rattle.junction_proposals.specs.Unions.{with_exterior, with_pair, with_incident, leads_to, leads_anew}
 use Rattle.junction_proposals.specs.declared.unions.Exteriors.{Exteriors}

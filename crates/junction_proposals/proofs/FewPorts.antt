@@ -8,8 +8,8 @@ use Rattle.std.specs.Prelude.{Option, Some}
 use mathlib.Core.List.{List}
 use lib.ListN.{get_or}
 use lib.Dec.{eqb, ltb, leb}
-use borrow.Author.Tests.{eq-eqb, ne_eqb, eqb-true, lt-leb, ltb-true, ltb-false}
-use Rattle.definitions.specs.Scan.{any_below_lem, all_below, count_below, bit, only_if}
+use borrow.Author.Tests.{eq-eqb, eqb-true, lt-leb, ltb-true, ltb-false}
+use Rattle.definitions.specs.Scan.{any_below_lem, count_below, bit}
 use Rattle.definitions.specs.Grid.{Pair, contains}
 use Rattle.definitions.specs.Context.{holds}
 use Rattle.laws.specs.ListLaws.Tests.{both}

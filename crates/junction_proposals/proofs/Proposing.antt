@@ -2,19 +2,17 @@
 use Prim.Native.Nat.{ℕ, zero, suc, ◌≤◌, ◌<◌}
 use native.Mathlib.Omega.{arith}
 use mathlib.Core.Path.{◌≡◌, refl, sym, ap, ap₂, ◌∙◌}
-use mathlib.Core.Bool.{Bool, true, false, not}
+use mathlib.Core.Bool.{Bool, true, false}
 use Rattle.std.specs.Prelude.{Option, None, Some, IfSome}
 use mathlib.Core.List.{List, ◌++◌}
-use lib.ListN.{get_or}
-use lib.Dec.{eqb, ltb}
-use borrow.Author.Tests.{ltb-true, ltb-false, eqb-false, ne_eqb, not-true}
-use Rattle.definitions.specs.Scan.{collect, filter, to_list, only_if}
+use lib.Dec.{ltb}
+use borrow.Author.Tests.{ltb-true, ltb-false}
+use Rattle.definitions.specs.Scan.{collect, filter, to_list}
 use Rattle.definitions.specs.Context.{Context, full_pair}
 use Rattle.definitions.specs.Junctions.{union_proposal, bridge_proposal, proposals}
 use Rattle.laws.specs.ListLaws.Lists.{All, done, more, all_append, all_split, filter-append}
 use Rattle.laws.specs.ListLaws.ScansOfAll.{collect-below}
 use Rattle.laws.specs.ListLaws.Options.{on_list, on_only}
-use Rattle.laws.specs.ListLaws.Tests.{both}
 use Rattle.laws.specs.RustJunctions.FormedProposals.{full-all}
 use Rattle.junction_proposals.specs.Lent.{LentPairs, Lent, Shows}
 use Rattle.definitions.specs.Grid.{Pair}

@@ -3,15 +3,14 @@
 use Prim.Native.Nat.{ℕ, ◌+◌, ◌≤◌, ◌<◌}
 use native.Mathlib.Omega.{arith}
 use mathlib.Core.Path.{◌≡◌, refl, sym, ap, ap₂, ◌∙◌}
-use mathlib.Core.Bool.{Bool, true, false, not, ◌&&◌, ◌||◌, and-true, false≢true}
+use mathlib.Core.Bool.{Bool, true, false, not, ◌&&◌, ◌||◌, and-true}
 use Rattle.std.specs.Prelude.{Option, None, Some}
 use mathlib.Core.List.{List}
-use lib.ListN.{get_or}
 use lib.Dec.{eqb, ltb, leb}
 use lib.Ieee.{le}
-use borrow.Author.Tests.{ne_eqb, leb-true, le-leb}
-use Rattle.definitions.specs.Scan.{any_below_lem, all_below, count_below, bit, only_if}
-use Rattle.definitions.specs.Grid.{Pair, contains}
+use borrow.Author.Tests.{leb-true, le-leb}
+use Rattle.definitions.specs.Scan.{any_below_lem, all_below, count_below, bit}
+use Rattle.definitions.specs.Grid.{Pair}
 use Rattle.definitions.specs.Geometry.{center}
 use Rattle.definitions.specs.Context.{Context, full_pair, holds, no_ramp, width}
 use Rattle.definitions.specs.Junctions.{exterior_of, within_distance, max_port_distance_pixels, is_union_port, is_new_exterior, anchored_regions, is_near_port, ports_fit, is_widest, union_shape}
@@ -21,7 +20,7 @@ use Rattle.laws.specs.ListLaws.ScanSteps.{count_mono}
 use Rattle.laws.specs.ListLaws.Tests.{both}
 use Rattle.laws.specs.FloatLaws.KeysAsBits.{le_of_bits}
 use Rattle.junction_proposals.specs.Lent.{Shows}
-use Rattle.junction_proposals.specs.Ports.{pair_of, names, is_port, walk_fits}
+use Rattle.junction_proposals.specs.Ports.{pair_of, is_port, walk_fits}
 use Rattle.junction_proposals.specs.Unions.{leads_to, leads_anew, width_at, no_ramp_at, is_near, mark_at, marks_of, passes_at, ports_pass, shape_at}
 use Rattle.junction_proposals.proofs.PortLaws.{walk_is, port_is}
 use Rattle.context.specs.declared.pairs.Pair as declared

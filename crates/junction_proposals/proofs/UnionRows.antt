@@ -1,15 +1,13 @@
 -- The unions that the code finds, of which the records allow some, are the definition's. Assumes that the lists show a context of a map.
 use Prim.Native.Nat.{ℕ, ◌≤◌, ◌<◌}
-use mathlib.Core.Path.{◌≡◌, refl, sym, ap, ◌∙◌}
-use mathlib.Core.Bool.{Bool, true, false, not, ◌&&◌, cond}
+use mathlib.Core.Path.{◌≡◌, refl, ap, ◌∙◌}
+use mathlib.Core.Bool.{Bool, true, false, ◌&&◌, cond}
 use Rattle.std.specs.Prelude.{Option, None, Some}
 use mathlib.Core.List.{List, [], ◌∷◌}
-use lib.ListN.{get_or}
-use lib.Dec.{eqb}
 use Rattle.definitions.specs.Scan.{filter, to_list, only_if}
 use Rattle.definitions.specs.Grid.{Pair}
 use Rattle.definitions.specs.Context.{Context, full_pair}
-use Rattle.definitions.specs.Junctions.{Proposal, union_regions, union_from, union_proposal}
+use Rattle.definitions.specs.Junctions.{union_regions, union_from, union_proposal}
 use Rattle.laws.specs.ListLaws.Lists.{All, done, more}
 use Rattle.laws.specs.RustJunctions.FormedProposals.{full-all}
 use Rattle.junction_proposals.specs.Lent.{Shows}

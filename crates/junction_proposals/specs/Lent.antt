@@ -1,5 +1,5 @@
 -- What the lists that pass 3 reads have to meet for it to run, and that they show a context. Definitions only; assumes nothing.
-use Rattle.std.specs.Prelude.{ℕ, ◌+◌, ◌*◌, ◌^◌, ◌≤◌, ◌<◌, ◌≡◌, List, length, get_or, Option, None, IfSome}
+use Rattle.std.specs.Prelude.{ℕ, ◌+◌, ◌*◌, ◌^◌, ◌≤◌, ◌<◌, ◌≡◌, List, length, get_or, Option, IfSome}
 use Rattle.definitions.specs.Limits.{max_side, max_entries, numbers_per_boundary}
 use Rattle.definitions.specs.Grid.{segment_at}
 use Rattle.definitions.specs.Context.{Context}

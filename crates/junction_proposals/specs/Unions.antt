@@ -1,5 +1,5 @@
 -- The shape of a union, read off the lists: `union_shape` of Junctions.antt with its ports as full pairs. Definitions only; assumes nothing.
-use Rattle.std.specs.Prelude.{ℕ, ◌+◌, ◌-◌, ◌*◌, ◌%◌, ◌≤◌, ◌<◌, ◌≡◌, Bool, true, false, ◌&&◌, ◌||◌, List, get_or, Option, None, Some}
+use Rattle.std.specs.Prelude.{ℕ, ◌+◌, ◌-◌, ◌*◌, ◌%◌, Bool, ◌&&◌, ◌||◌, List, get_or, Option, None, Some}
 use Rattle.std.proofs.Math.Bool.{not, cond}
 use Rattle.std.proofs.Math.Dec.{eqb, ltb, leb}
 use Rattle.definitions.specs.Limits.{numbers_per_boundary}

@@ -9,7 +9,9 @@ use Rattle.definitions.specs.Limits.{numbers_per_boundary}
 use Rattle.definitions.specs.Grid.{Map}
 use Rattle.definitions.specs.Context.{Context, context_of}
 use Rattle.definitions.specs.Rows.{removed_by}
+use Rattle.std.specs.Prelude.{Option}
 use Rattle.context.specs.declared.Region.{Region}
+use Rattle.context.specs.declared.pairs.Pair.{Pair}
 use Rattle.pass_lists.specs.Contract.{Viewed}
 use Rattle.ranked_list.specs.RankedList.{flat_ranked}
 use Rattle.topology.specs.Mouths.{NoMarks}

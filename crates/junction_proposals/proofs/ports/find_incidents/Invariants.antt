@@ -1,5 +1,5 @@
 -- `junction_proposals::ports::find_incidents` meets its contract. The loop's invariant: the first n entries are the boundaries below j that name a region of the union. Assumes nothing.
-use Prim.Native.Nat.{◌-◌, ◌≤◌}
+use Prim.Native.Nat.{◌≤◌}
 use mathlib.Core.Path.{◌≡◌}
 use lib.ListN.{length}
 use Rattle.context.specs.Rows.{pair_form}

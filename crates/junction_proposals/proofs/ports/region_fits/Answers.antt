@@ -1,11 +1,10 @@
 -- `junction_proposals::ports::region_fits` meets its contract, by what the two chains give of the union's incidents. Assumes nothing.
-use Rattle.std.proofs.Common.{rules, tests, ◌≡◌, ◌∙◌, ap, ap₂, Bool, not, ◌&&◌, eqb}
+use Rattle.std.proofs.Common.{rules, tests, ◌∙◌, ap₂, not, ◌&&◌, eqb}
 use Rattle.std.proofs.lemmas.Iterator.{YieldsList-from_slice}
 use Rattle.std.proofs.lemmas.Iterator.Search.{any_from_yields_List}
 use Rattle.std.proofs.lemmas.Iterator.Consumers.{YieldsList-from_filter, count_from_yields_List}
-use Rattle.std.specs.List.{list_any, filter}
-use Prim.Native.Nat.{ℕ, ◌-◌}
-use lib.ListN.{length, get_or}
+use Prim.Native.Nat.{◌-◌}
+use lib.ListN.{get_or}
 use Rattle.context.specs.Rows.{pair_form}
 use Rattle.junction_proposals.specs.Ports.{names, is_unfit, region_fits}
 use Rattle.junction_proposals.proofs.RegionPorts.{any-unfit, count-named}

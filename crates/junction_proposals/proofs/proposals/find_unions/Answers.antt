@@ -1,10 +1,9 @@
 -- `junction_proposals::proposals::find_unions` meets its contract. The loop's invariant: the rows are the unions at the boundaries below i. Assumes nothing.
-use Prim.Native.Nat.{ℕ, ◌+◌, ◌≤◌}
+use Prim.Native.Nat.{ℕ}
 use native.Mathlib.Nat.{le_antisymm}
-use mathlib.Core.Path.{◌≡◌, sym, ap, ap₂, ◌∙◌, refl}
-use Rattle.std.specs.Prelude.{Option, None, Some}
+use mathlib.Core.Path.{sym, ap, ap₂, ◌∙◌, refl}
+use Rattle.std.specs.Prelude.{Option}
 use mathlib.Core.List.{◌++◌}
-use lib.ListN.{length}
 use Rattle.definitions.specs.Scan.{to_list, collect}
 use Rattle.definitions.specs.Junctions.{Proposal}
 use Rattle.laws.specs.ListLaws.ScanSteps.{collect_next}

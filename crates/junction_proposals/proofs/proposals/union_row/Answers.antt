@@ -2,7 +2,7 @@
 use mathlib.Core.Path.{sym, ap, ◌∙◌}
 use Rattle.definitions.specs.Scan.{only_if}
 use Rattle.context.specs.Rows.{full_pair_of}
-use Rattle.junction_proposals.specs.Rows.{found_form, form, union_of, union_at}
+use Rattle.junction_proposals.specs.Rows.{found_form, union_of, union_at}
 use Rattle.junction_proposals.proofs.proposals.union_row.Goals as goal
 
 pub returns-in_err-union : goal.returns-in_err-union

@@ -1,5 +1,5 @@
 -- `junction_proposals::unions::has_three_exteriors` meets its contract, by what `fold` gives. Assumes nothing.
-use Rattle.std.proofs.Common.{rules, tests, ◌≡◌, ◌∙◌, sym, ap}
+use Rattle.std.proofs.Common.{rules, tests, ◌∙◌, sym, ap}
 use lib.Dec.{leb}
 use Rattle.std.specs.List.{fold}
 use Rattle.std.proofs.lemmas.Iterator.{YieldsList-from_slice}

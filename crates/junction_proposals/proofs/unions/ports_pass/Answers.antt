@@ -1,5 +1,5 @@
 -- `junction_proposals::unions::ports_pass` meets its contract, by what `all` gives of the union's incidents. Assumes nothing.
-use Rattle.std.proofs.Common.{rules, tests, ◌≡◌, ◌∙◌, ap, arith, ◌<◌, subst, sym}
+use Rattle.std.proofs.Common.{rules, tests, ◌≡◌, ◌∙◌, ap, ◌<◌, subst, sym}
 use Rattle.std.specs.List.{list_all}
 use Rattle.std.proofs.lemmas.Iterator.{YieldsList-from_slice}
 use Rattle.std.proofs.lemmas.Iterator.Adapters.{serves_from_places}

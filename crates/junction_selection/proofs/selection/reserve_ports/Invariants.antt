@@ -1,6 +1,6 @@
 -- `junction_selection::selection::reserve_ports` meets its contract. The loop's invariant: the ports below j are marked.
 -- Assumes nothing.
-use Prim.Native.Nat.{◌-◌, ◌≤◌}
+use Prim.Native.Nat.{◌≤◌}
 use Rattle.junction_proposals.specs.Rows.{row_at}
 use Rattle.junction_selection.specs.Ranks.{reserves_at}
 use Rattle.junction_selection.proofs.Standings.{Marked}

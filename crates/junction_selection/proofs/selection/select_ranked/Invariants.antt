@@ -1,5 +1,5 @@
 -- `junction_selection::selection::select_ranked` meets its contract. The loop's invariant: the state stands for what is selected of the first k.  Assumes nothing.
-use Prim.Native.Nat.{◌-◌, ◌≤◌}
+use Prim.Native.Nat.{◌≤◌}
 use mathlib.Core.Path.{◌≡◌}
 use lib.ListN.{length}
 use Rattle.junction_selection.specs.Ranks.{selected_of}

@@ -10,5 +10,3 @@ invariant-loop-k l =
     (l.k ≤ l.n) × (length l.allowed ≡ max_proposals)
     × ((C : Context) → Allows C l.records l.boundaries l.marks l.rows l.n → Allowed C l.rows l.k l.allowed)
 
-abbrev pub decreases-loop-k : goal.decreases-loop-k
-decreases-loop-k l = l.n - l.k
