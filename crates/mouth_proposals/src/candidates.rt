@@ -145,6 +145,7 @@ fn push_mouths(
         (collect context.entry.count (mouth_candidate C ramp.boundary)) }
 {
     let mut n = 0;
+    // Kept: a fold would carry n beside the list that its closure fills, and says no more than these lines.
     for m in 0..context.count {
         n = push_mouth(context, regions, &mut *entries, n, m, ramp);
     }

@@ -40,9 +40,8 @@ pub fn region_near(region: Region, boundaries: &[u64], proposal: MouthProposal) 
     let ramp = center_of(boundaries, proposal.ramp);
     let mouth = center_of(boundaries, proposal.mouth);
     let broad = proposal.kind.is_broad();
-    let corners = region.corners();
-    corner_near(ramp, mouth, broad, corners[0])
-        & corner_near(ramp, mouth, broad, corners[1])
-        & corner_near(ramp, mouth, broad, corners[2])
-        & corner_near(ramp, mouth, broad, corners[3])
+    region
+        .corners()
+        .iter()
+        .all(|&corner| corner_near(ramp, mouth, broad, corner))
 }
