@@ -11,7 +11,6 @@ ghost use Rattle.mouth_selection.specs.Held.{TakenState};
 ghost use Rattle.mouth_selection.specs.Selecting.{BestOf, Progress, is_stale};
 ghost use Rattle.topology.specs.Mouths.{near_at, BetterNear, NearBest, NoMarks, Replaced, PassLocates, PassEntryAsked, PassNearAsked, PassRampAsked, PassReplaces};
 
-use crate::entries::candidate_at;
 use crate::slice::record_at;
 use context::{PartitionContext, Region};
 use mouth_proposals::candidates::{Candidate, MouthProposal, push_ramp};
@@ -100,7 +99,7 @@ fn best_near(
 {
     let mut best = None;
     for k in 0..n {
-        best = better_near(records, context, taken, best, candidate_at(entries, k));
+        best = better_near(records, context, taken, best, entries[k]);
     }
     best
 }
