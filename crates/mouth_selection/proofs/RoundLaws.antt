@@ -22,6 +22,13 @@ use Rattle.mouth_selection.proofs.LeastOfRows.{join, least_rows}
 use Rattle.mouth_selection.specs.Selecting.{ForRamp, Bests, NextBest}
 use Rattle.mouth_selection.proofs.BestLaws.{weak, least_left}
 
+-- what holds of the value, if there is one, which there is
+pub of_some : {A : Type 0} {P : A → Type 0} {o : Option A} {x : A} → o ≡ Some x → OnO P o → P x
+of_some {P = P} {x = x} e h = go (subst (OnO P) e h)
+  where
+    go : OnO P (Some x) → P x
+    go (present k) = k
+
 pub least_none : (boundaries : List ℕ) (bests : List (Option Candidate)) → None ≡ least_of boundaries bests 0
 unfolding least_of
 least_none boundaries bests = refl

@@ -11,7 +11,6 @@ ghost use Rattle.mouth_selection.specs.Held.{TakenState};
 ghost use Rattle.mouth_selection.specs.Selecting.{BestOf, Progress, is_stale};
 ghost use Rattle.topology.specs.Mouths.{near_at, BetterNear, NearBest, NoMarks, Replaced, PassLocates, PassEntryAsked, PassNearAsked, PassRampAsked, PassReplaces};
 
-use crate::entries::candidate_at;
 use crate::slice::record_at;
 use context::{PartitionContext, Region};
 use mouth_proposals::candidates::{Candidate, MouthProposal, push_ramp};
@@ -90,7 +89,8 @@ fn best_near(
     entries: &[Candidate; 256],
     n: usize,
 ) -> Option<Candidate>
-    requires { (C : Context) × PassNearAsked C records.now context taken.now.marks.now entries.now n }
+    requires { (C : Context) × ((chosen : List definition.MouthProposal) × (PassNearAsked C records.now context taken.now.marks.now entries.now n
+        × TakenState C chosen taken.now.removed taken.now.ramp_ends taken.now.marks.now)) }
     ensures least { (C : Context) (chosen : List definition.MouthProposal) →
         PassNearAsked C records.now context.entry taken.now.marks.now entries.now n →
         TakenState C chosen taken.now.removed taken.now.ramp_ends taken.now.marks.now →
@@ -99,7 +99,7 @@ fn best_near(
 {
     let mut best = None;
     for k in 0..n {
-        best = better_near(records, context, taken, best, candidate_at(entries, k));
+        best = better_near(records, context, taken, best, entries[k]);
     }
     best
 }
@@ -112,7 +112,8 @@ fn best_of_ramp(
     taken: &Taken,
     a: usize,
 ) -> Option<Candidate>
-    requires { (C : Context) × PassRampAsked C records.now context taken.now.marks.now counts.now a }
+    requires { (C : Context) × ((chosen : List definition.MouthProposal) × (PassRampAsked C records.now context taken.now.marks.now counts.now a
+        × TakenState C chosen taken.now.removed taken.now.ramp_ends taken.now.marks.now)) }
     ensures best { (C : Context) (chosen : List definition.MouthProposal) →
         PassRampAsked C records.now context.entry taken.now.marks.now counts.now a →
         TakenState C chosen taken.now.removed taken.now.ramp_ends taken.now.marks.now →

@@ -23,7 +23,7 @@ use Rattle.mouth_selection.specs.Held.{is_refused, left_at, TakenState}
 use Rattle.mouth_selection.specs.Rounds.{least_among}
 use Rattle.mouth_selection.specs.Selecting.{Lists, LeastLeft, NextBest, Progress, Renewed, is_stale}
 use Rattle.mouth_selection.proofs.SelectionLaws.{safe-mouth, all-rows, mouth-left, fewer-left}
-use Rattle.mouth_selection.proofs.RoundLaws.{safe-key}
+use Rattle.mouth_selection.proofs.RoundLaws.{of_some, safe-key}
 use Rattle.mouth_selection.proofs.BestSteps.{ended, still-anchored, taken-progress, weight-taken}
 use Rattle.mouth_selection.proofs.bests.advance.Goals as goal
 use Rattle.mouth_selection.proofs.bests.advance.Goals.{At-loop-best}
@@ -42,17 +42,11 @@ module _ (c : goal.At-loop-best) where
 -- p is the next best
 module _ {boundaries pairs starts marks : List ℕ} {gone ends : List Bool} {bests : List (Option Candidate)} {count : ℕ} {C : Context} (L : Lists boundaries pairs starts count C)
     (P : Progress C marks gone ends bests count) {o : Option Candidate} (N : NextBest C P.chosen bests count o) {e : Candidate} (is : o ≡ Some e) {p : declared.MouthProposal} (same : p ≡ proposal_form e) where
-  of_some : {Q : Candidate → Type 0} → OnO Q o → Q e
-  of_some {Q} h = go (subst (OnO Q) is h)
-    where
-      go : OnO Q (Some e) → Q e
-      go (present h) = h
-
   of_entry : (Q : declared.MouthProposal → Type 0) → Q (proposal_form e) → Q p
   of_entry Q = subst Q (sym same)
 
   abbrev listed : Known C e × ((e.ramp < count) × (get_or bests e.ramp None ≡ Some e))
-  listed = of_some N.listed
+  listed = of_some is N.listed
 
   safe : SafeMouth pairs starts marks p.mouth p.outer
   safe = of_entry (λ p. SafeMouth pairs starts marks p.mouth p.outer) (safe-mouth L marks P.anchored.long listed.0)

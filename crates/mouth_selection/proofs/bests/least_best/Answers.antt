@@ -17,8 +17,7 @@ pub better_of-least-requires : goal.better_of-least-requires
 better_of-least-requires c =
     let s = c.args in
     let at = c.loop-a in
-    let few = c.loop-a-test.true in
-    (
+    let few = c.loop-a-test.true in (
       subst (OnO (SafeKey s.boundaries.now)) (sym at.invariant.1) (least_keeps s.boundaries.now s.bests.now at.a (λ a l. c.requires.safe a (omega (arith, l, few)))),
       c.requires.safe at.a few,
     )
@@ -26,8 +25,7 @@ better_of-least-requires c =
 pub loop-a-preserved : goal.loop-a-preserved
 loop-a-preserved c =
     let s = c.args in
-    let at = c.loop-a in
-    (
+    let at = c.loop-a in (
       search rules,
       c.better_of-least.ensures ∙ ap (λ o. better_of s.boundaries.now o (get_or s.bests.now at.a None)) at.invariant.1 ∙ sym (least_more s.boundaries.now s.bests.now at.a),
     )
