@@ -2,18 +2,16 @@
 use Prim.Native.Nat.{ℕ, zero, suc, ◌+◌, ◌-◌, ◌*◌, ◌≤◌, ◌<◌}
 use native.Mathlib.Omega.{arith}
 use mathlib.Core.Path.{◌≡◌, refl, sym, ap, ap₂, ◌∙◌}
-use mathlib.Core.Bool.{Bool, true, false, not, ◌||◌, cond, false≢true}
+use mathlib.Core.Bool.{Bool, true, false, not, ◌||◌, cond}
 use mathlib.Core.List.{List, [], ◌∷◌, ◌++◌, append-nil, append_assoc}
 use lib.ListN.{length, take, drop, get_or}
 use lib.Seq.{sets, sets-eq, drop-drop}
 use borrow.Rule.Slice.PartMut.{put_mid}
 use lib.Dec.{eqb}
-use borrow.Author.Tests.{eq-eqb, ne_eqb}
 use Rattle.std.specs.Prelude.{Option, None, Some}
 use Rattle.std.specs.Option.{is_some, unwrap_or, option_map}
 use Rattle.definitions.specs.Scan.{any, bit}
 use Rattle.definitions.specs.Junctions.{Proposal}
-use Rattle.laws.specs.ListLaws.Tests.{eqb_same}
 use Rattle.laws.specs.ListLaws.Flags.{bit-is_one}
 use Rattle.junction_proposals.specs.Bridges.{FirstIn}
 use Rattle.ranked_list.specs.RankedList.{Listed, first_place, blocks, judged, judged_after, flat_ranked}
