@@ -6,7 +6,7 @@ pub replace_ramp_mouths-requires-clause-lists_show : goal.replace_ramp_mouths-re
 replace_ramp_mouths-requires-clause-lists_show c = (_, mouths-lent c.requires.lists_show.0 c.requires.lists_show.1)
 
 pub returns-in-ReplaceRampMouths : goal.returns-in-ReplaceRampMouths
-returns-in-ReplaceRampMouths c = λ C S. marked-mouths C S (c.replace_ramp_mouths.ensures C (mouths-lent C S))
+returns-in-ReplaceRampMouths c = λ C S. rw c.in-ReplaceRampMouths.is (marked-mouths C S (c.replace_ramp_mouths.ensures C (mouths-lent C S)))
 
 pub collapse_ramp_interiors-requires-clause-lists_show : goal.collapse_ramp_interiors-requires-clause-lists_show
 collapse_ramp_interiors-requires-clause-lists_show c = (_, interiors-lent c.requires.lists_show.0 c.requires.lists_show.1)
@@ -16,7 +16,7 @@ collapse_ramp_interiors-requires-clause-none_marked c =
     let none = c.requires.none_marked in (none.long, clear-marks c.requires.lists_show.0 c.requires.lists_show.1 none)
 
 pub returns-in-CollapseRampInteriors : goal.returns-in-CollapseRampInteriors
-returns-in-CollapseRampInteriors c = λ C S. marked-interiors C S (c.collapse_ramp_interiors.ensures C (interiors-lent C S))
+returns-in-CollapseRampInteriors c = λ C S. rw c.in-CollapseRampInteriors.is (marked-interiors C S (c.collapse_ramp_interiors.ensures C (interiors-lent C S)))
 
 pub remove_junction_boundaries-requires-clause-lists_show : goal.remove_junction_boundaries-requires-clause-lists_show
 remove_junction_boundaries-requires-clause-lists_show c = (_, junctions-lent c.requires.lists_show.0 c.requires.lists_show.1)
@@ -25,4 +25,4 @@ pub remove_junction_boundaries-requires-clause-none_marked : goal.remove_junctio
 remove_junction_boundaries-requires-clause-none_marked c = clear-marks c.requires.lists_show.0 c.requires.lists_show.1 c.requires.none_marked
 
 pub returns-in-RemoveJunctionBoundaries : goal.returns-in-RemoveJunctionBoundaries
-returns-in-RemoveJunctionBoundaries c = λ C S. marked-junctions C S (c.remove_junction_boundaries.ensures C (junctions-lent C S))
+returns-in-RemoveJunctionBoundaries c = λ C S. rw c.in-RemoveJunctionBoundaries.is (marked-junctions C S (c.remove_junction_boundaries.ensures C (junctions-lent C S)))
