@@ -4,7 +4,7 @@ ghost use Rattle.std.specs.Prelude.{◌≡◌, [], ◌∷◌, ℕ, ◌+◌, ◌�
 ghost use Rattle.definitions.specs.MouthShapes.{regions_of};
 ghost use Rattle.context.specs.Shown.{pair_at, pairs_between};
 ghost use Rattle.context.specs.Rows.{NamedRow};
-ghost use Rattle.mouth_proposals.specs.Rows.{is_outer, rows_of};
+ghost use Rattle.mouth_proposals.specs.Rows.{rows_of};
 ghost use Rattle.mouth_proposals.specs.Candidates.{Numbered};
 ghost use Rattle.mouth_selection.specs.Entries.{SafeMouth};
 ghost use Rattle.mouth_selection.specs.Held.{hold_at_lem, outer_hold, outer_held, inner_held, row_held, held_at, mark_held, mark_outer, mark_inner};

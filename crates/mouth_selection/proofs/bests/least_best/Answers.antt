@@ -1,6 +1,5 @@
 -- `bests::least_best` meets its contract. The invariant: `least` is the least of the bests passed. Assumes nothing.
 use native.Mathlib.Omega.{arith}
-use native.Mathlib.Nat.{le_antisymm}
 use mathlib.Core.Path.{sym, ap, ◌∙◌, subst}
 use Rattle.std.specs.Prelude.{None}
 use lib.ListN.{get_or}
