@@ -102,7 +102,8 @@ fn single_mouth(
 {
     let overlay = measures.overlay_only();
     let two = regions.incident_count(sides.approach) == 2;
-    let kept_out = overlay & (regions.is_anchored(sides.outer) | !two);
+    let outer_anchored = regions.is_anchored(sides.outer);
+    let kept_out = overlay & (outer_anchored | !two);
     let fits = !regions.is_anchored(sides.approach) & (!kept_out & !blocked);
     fits.then_some(Mouth {
         outer: Some(sides.outer),
