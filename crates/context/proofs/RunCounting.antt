@@ -3,10 +3,15 @@
 use Prim.Native.Nat.{ℕ, zero, suc, ◌+◌, ◌-◌, ◌*◌, ◌≤◌, ◌<◌, zero-le}
 use native.Mathlib.Omega.{arith}
 use native.Mathlib.Nat.{add-zero}
-use mathlib.Core.Path.{◌≡◌, refl, sym, ap, ap₂, ◌∙◌}
+use mathlib.Core.Path.{◌≡◌, refl, sym, ap, ap₂, ◌∙◌, subst}
 use mathlib.Core.Bool.{Bool, true, false, not}
 use mathlib.Core.List.{List, [], ◌∷◌}
-use lib.ListN.{get_or, set}
+use lib.ListN.{length, get_or, set, take, drop, length-append}
+use lib.Seq.{length-take-le, get_or-take}
+use Rattle.std.proofs.lemmas.List.{length-drop, get_or-drop, get_or-append-add, get_or_append_left}
+use Rattle.std.specs.List.{AllAdjacentBelow}
+use mathlib.Core.List.{◌++◌}
+use Rattle.std.proofs.Common.{add-one}
 use lib.Dec.{eqb, ltb}
 use borrow.Author.Tests.{eqb-true, eqb-false, lt-ltb, le-ltb}
 use Rattle.definitions.specs.Scan.{any_below_lem, count_below, bit}
@@ -14,7 +19,7 @@ use Rattle.definitions.specs.Grid.{is_ramp, elevation}
 use Rattle.definitions.specs.RegionRecord.{mask_of}
 use Rattle.laws.specs.ListLaws.ScanSteps.{count-le}
 use Rattle.laws.specs.RegionLaws.OneMore.{any-counted}
-use Rattle.context.specs.Runs.{Equal, elevation_among, elevations_among, ramps_among}
+use Rattle.context.specs.Runs.{Within, elevation_among, elevations_among, ramps_among}
 use Rattle.context.proofs.RecordLaws.{counts_of, counts_ext, mask_ext}
 
 -- ---- a test that says the same of m numbers from n on
@@ -57,54 +62,83 @@ among-few bytes c n (suc (suc (suc (suc e)))) = zero-le
 
 -- ---- the loop
 
--- the cells from `from` to before c are counted
-pub record Counting (bytes : List ℕ) (from end c ramps : ℕ) (elevations : List ℕ) : Type 0 where
-  pub begun : from ≤ c
-  pub within : c ≤ end
-  pub ramps_are : ramps ≡ ramps_among bytes from (c - from)
-  pub elevations_are : elevations ≡ elevations_among bytes from (c - from)
+-- neighbours that are alike equal the first
+alike : (l : List ℕ) (n : ℕ) → AllAdjacentBelow (λ a b. eqb a b ≡ true) l n → (i : ℕ) → i < n → get_or l i 0 ≡ get_or l 0 0
+alike l n h zero m = refl
+alike l n h (suc i) m = ap (λ k. get_or l k 0) (sym (add-one i)) ∙ sym (eqb-true _ _ (h i 0 (omega arith))) ∙ alike l n h i (omega arith)
 
-pub counting-starts : (bytes : List ℕ) (from end : ℕ) → from ≤ end → Counting bytes from end from 0 (0 ∷ 0 ∷ 0 ∷ 0 ∷ [])
+-- of the cells from `from` to before `end` those before the rest are counted
+pub record Counting (bytes : List ℕ) (from end : ℕ) (rest : List ℕ) (ramps : ℕ) (elevations : List ℕ) : Type 0 where
+  pub few : from + length rest ≤ end
+  pub at : (i : ℕ) → i < length rest → get_or rest i 0 ≡ get_or bytes (from + (end - from - length rest + i)) 0
+  pub ramps_are : ramps ≡ ramps_among bytes from (end - from - length rest)
+  pub elevations_are : elevations ≡ elevations_among bytes from (end - from - length rest)
+
+pub counting-starts : (bytes : List ℕ) (from end : ℕ) {rest : List ℕ} → from ≤ end → end ≤ length bytes → rest ≡ take (end - from) (drop from bytes) → Counting bytes from end rest 0 (0 ∷ 0 ∷ 0 ∷ 0 ∷ [])
 unfolding count_below
-counting-starts bytes from end h =
+counting-starts bytes from end {rest} h inside e =
     record {
-      begun = omega arith;
-      within = h;
+      few = omega (arith, long);
+      at = λ i l. ap (λ r. get_or r i 0) e ∙ get_or-take (end - from) (drop from bytes) i 0 (omega (arith, long)) ∙ get_or-drop from bytes i 0 ∙ ap (λ k. get_or bytes k 0) (omega (arith, long));
       ramps_are = ap (ramps_among bytes from) none;
       elevations_are = ap (elevations_among bytes from) none;
     }
   where
-    none : 0 ≡ from - from
-    none = omega arith
+    long : length rest ≡ end - from
+    long = ap length e ∙ length-take-le (end - from) (drop from bytes) (omega (arith, length-drop from bytes))
 
-module _ {bytes : List ℕ} {from end c ramps : ℕ} {elevations : List ℕ} (C : Counting bytes from end c ramps elevations) where
-  pub counting-few : ramps ≤ c - from
-  counting-few = omega (arith, C.ramps_are, count-le (λ i. is_ramp (get_or bytes (from + i) 0)) (c - from))
+    none : 0 ≡ end - from - length rest
+    none = omega (arith, long)
 
-  pub counting_each : (e : ℕ) → get_or elevations e 0 ≤ c - from
-  counting_each e = rw C.elevations_are (among-few bytes from (c - from) e)
+module _ {bytes : List ℕ} {from end ramps : ℕ} {rest elevations : List ℕ} (C : Counting bytes from end rest ramps elevations) where
+  pub counting-few : ramps ≤ end - from - length rest
+  counting-few = omega (arith, C.ramps_are, count-le (λ i. is_ramp (get_or bytes (from + i) 0)) (end - from - length rest))
 
-  pub counting-goes_on : {next e r : ℕ} → Equal bytes c end next → elevation (get_or bytes c 0) < 4 → e ≡ elevation (get_or bytes c 0) → r ≡ bit (is_ramp (get_or bytes c 0))
-      → Counting bytes from end next (ramps + (next - c) * r) (set elevations e (get_or elevations e 0 + (next - c)))
-  counting-goes_on {next} {e} {r} E low he hr =
-      record {
-        begun = omega (arith, C.begun, E.more);
-        within = E.inside;
-        ramps_are =
-            ap₂ (λ k b. k + (next - c) * b) C.ramps_are hr
-            ∙ sym (ap (ramps_among bytes from) split ∙ count-alike (λ i. is_ramp (get_or bytes (from + i) 0)) (is_ramp (get_or bytes c 0)) (c - from) (next - c) (λ i l. ap is_ramp (same i l)));
-        elevations_are =
-            ap₂ (λ l e. set l e (get_or l e 0 + (next - c))) C.elevations_are he
-            ∙ counts-several (elevation_among bytes from (c - from)) (elevation (get_or bytes c 0)) (next - c) low
-            ∙ counts_ext _ _ (λ e. sym (ap (λ n. elevation_among bytes from n e) split
-            ∙ count-alike (λ i. eqb (elevation (get_or bytes (from + i) 0)) e) (eqb (elevation (get_or bytes c 0)) e) (c - from) (next - c) (λ i l. ap (λ b. eqb (elevation b) e) (same i l))));
-      }
-    where
-      split : next - from ≡ c - from + (next - c)
-      split = omega (arith, C.begun, E.more)
+  pub counting_each : (e : ℕ) → get_or elevations e 0 ≤ end - from - length rest
+  counting_each e = rw C.elevations_are (among-few bytes from (end - from - length rest) e)
 
-      same : (i : ℕ) → i < next - c → get_or bytes (from + (c - from + i)) 0 ≡ get_or bytes c 0
-      same i l = ap (λ k. get_or bytes k 0) (omega (arith, C.begun)) ∙ E.same (c + i) (omega arith) (omega (arith, E.more))
+  -- a run of cells more, which are alike
+  module _ (run left : List ℕ) (split : rest ≡ run ++ left) where
+    longer : length rest ≡ length run + length left
+    longer = ap length split ∙ length-append run left
+
+    pub counting-room : (n : ℕ) → n ≤ end - from - length rest → n + length run ≤ end - from
+    counting-room n h = omega (arith, C.few, longer)
+
+    pub counting-low : Within bytes from end → 0 < length run → elevation (get_or run 0 0) < 4
+    counting-low W some =
+        subst (λ b. elevation b < 4)
+        (sym (C.at 0 (omega (arith, longer))) ∙ ap (λ r. get_or r 0 0) split ∙ get_or_append_left run left 0 0 some)
+        (W.counted _ (omega arith) (omega (arith, C.few, longer)))
+
+    pub counting-goes_on : {e r : ℕ} → 0 < length run → AllAdjacentBelow (λ a b. eqb a b ≡ true) rest (length run) → elevation (get_or run 0 0) < 4
+        → e ≡ elevation (get_or run 0 0) → r ≡ bit (is_ramp (get_or run 0 0))
+        → Counting bytes from end left (ramps + length run * r) (set elevations e (get_or elevations e 0 + length run))
+    counting-goes_on {e} {r} some h low he hr =
+        record {
+          few = omega (arith, C.few, longer);
+          at = λ i l.
+              sym (get_or-append-add run left i 0) ∙ sym (ap (λ r. get_or r (length run + i) 0) split) ∙ C.at (length run + i) (omega (arith, longer))
+              ∙ ap (λ k. get_or bytes k 0) (omega (arith, C.few, longer));
+          ramps_are =
+              ap₂ (λ k b. k + length run * b) C.ramps_are hr
+              ∙ sym (ap (ramps_among bytes from) more-done ∙ count-alike (λ i. is_ramp (get_or bytes (from + i) 0)) (is_ramp (get_or run 0 0)) done (length run) (λ i l. ap is_ramp (same i l)));
+          elevations_are =
+              ap₂ (λ l e. set l e (get_or l e 0 + length run)) C.elevations_are he
+              ∙ counts-several (elevation_among bytes from done) (elevation (get_or run 0 0)) (length run) low
+              ∙ counts_ext _ _ (λ e. sym (ap (λ n. elevation_among bytes from n e) more-done
+              ∙ count-alike (λ i. eqb (elevation (get_or bytes (from + i) 0)) e) (eqb (elevation (get_or run 0 0)) e) done (length run) (λ i l. ap (λ b. eqb (elevation b) e) (same i l))));
+        }
+      where
+        done : ℕ
+        done = end - from - length rest
+
+        more-done : end - from - length left ≡ done + length run
+        more-done = omega (arith, C.few, longer)
+
+        same : (i : ℕ) → i < length run → get_or bytes (from + (done + i)) 0 ≡ get_or run 0 0
+        same i l =
+            sym (C.at i (omega (arith, longer))) ∙ alike rest (length run) h i l ∙ ap (λ r. get_or r 0 0) split ∙ get_or_append_left run left 0 0 some
 
 -- ---- the mask of what is counted
 

@@ -15,12 +15,6 @@ pub record Within (bytes : List ℕ) (from end : ℕ) : Type 0 where
   pub narrow : end - from ≤ max_side
   pub counted : (k : ℕ) → from ≤ k → k < end → elevation (get_or bytes k 0) < 4
 
--- the cells from `from` to before r equal the first of them
-pub record Equal (bytes : List ℕ) (from end r : ℕ) : Type 0 where
-  pub more : from < r
-  pub inside : r ≤ end
-  pub same : (k : ℕ) → from ≤ k → k < r → get_or bytes k 0 ≡ get_or bytes from 0
-
 -- of the n cells from c on: how many have elevation e, the counts of all four, and how many have the ramp bit
 abbrev pub elevation_among : List ℕ → ℕ → ℕ → ℕ → ℕ
 elevation_among bytes c n e = count_below n (λ i. eqb (elevation (get_or bytes (c + i) 0)) e)

@@ -15,34 +15,28 @@ use crate::Region;
 use crate::runs::{mask_of, run_counts, sums};
 use elevations::{Dominance, dominance_of};
 use geometry::Point;
-
-const PIXELS_PER_WALK_CELL: u32 = 8;
+use geometry::numbers::{float, fmax, fmin};
+use span_geometry::PIXELS_PER_WALK_CELL;
 
 // An edge that lies `cells` cells from the map's left or upper edge, in pixels.
 fn edge(cells: usize) -> f64
     requires { cells ≤ max_side }
     ensures { result ≡ float (cells * pixels_per_walk_cell) }
 {
-    (cells as u32 * PIXELS_PER_WALK_CELL) as f64
+    float(cells as u64 * PIXELS_PER_WALK_CELL)
 }
 
 // The first cell sets an edge; each further one may move it out.
 fn lesser_edge(first: bool, old: f64, new: f64) -> f64
     ensures { result ≡ lesser_edge first old new }
 {
-    if first {
-        return new;
-    }
-    if new < old { new } else { old }
+    if first { new } else { fmin(old, new) }
 }
 
 fn greater_edge(first: bool, old: f64, new: f64) -> f64
     ensures { result ≡ greater_edge first old new }
 {
-    if first {
-        return new;
-    }
-    if old < new { new } else { old }
+    if first { new } else { fmax(old, new) }
 }
 
 impl Region {

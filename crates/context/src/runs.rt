@@ -4,7 +4,7 @@ ghost use Rattle.definitions.specs.Scan.{bit};
 ghost use Rattle.definitions.specs.Grid.{elevation, is_ramp};
 ghost use Rattle.definitions.specs.RegionRecord.{mask_of};
 ghost use Rattle.context.specs.Records.{max_cells};
-ghost use Rattle.context.specs.Runs.{Within, Equal, RunCounted};
+ghost use Rattle.context.specs.Runs.{Within, RunCounted};
 
 #[derive(Clone, Copy)]
 pub struct RunCounts {
@@ -25,15 +25,6 @@ fn ramp_bit(cell: u8) -> usize
     usize::from(cell / 2 % 2)
 }
 
-// Up to where the cells from `from` on equal the first.
-fn equal_end(cells: &[u8], from: usize, end: usize) -> usize
-    requires { (from < end) × (end ≤ length cells.now) }
-    ensures { Equal cells.now from end result }
-{
-    let first = cells[from];
-    (from + 1..end).find(|&c| cells[c] != first).unwrap_or(end)
-}
-
 // The counts of the cells from `from` to before `end`.
 pub fn run_counts(cells: &[u8], from: usize, end: usize) -> RunCounts
     requires { Within cells.now from end }
@@ -41,14 +32,10 @@ pub fn run_counts(cells: &[u8], from: usize, end: usize) -> RunCounts
 {
     let mut ramps = 0;
     let mut elevations = [0; 4];
-    let mut c = from;
-    while c < end {
-        let next = equal_end(cells, c, end);
-        let alike = next - c;
-        let e = elevation_of(cells[c]);
-        ramps += alike * ramp_bit(cells[c]);
-        elevations[e] += alike;
-        c = next;
+    for alike in cells[from..end].chunk_by(|a, b| a == b) {
+        let e = elevation_of(alike[0]);
+        ramps += alike.len() * ramp_bit(alike[0]);
+        elevations[e] += alike.len();
     }
     RunCounts { ramps, elevations }
 }

@@ -3,11 +3,11 @@ use Prim.Native.Nat.{ℕ, zero, suc, ◌+◌, ◌-◌, ◌%◌, ◌≤◌, ◌<�
 use native.Mathlib.Omega.{arith}
 use mathlib.Core.Path.{◌≡◌, refl, sym, ap, ap₂, ◌∙◌}
 use mathlib.Core.Bool.{Bool, true, false, not, ◌&&◌, ◌||◌, cond, and-true, and-false, true≢false, false≢true}
-use mathlib.Core.Logic.{⊎_elim}
 use mathlib.Core.List.{List, []}
 use lib.ListN.{length, get_or}
 use lib.Dec.{eqb, leb}
-use borrow.Author.Tests.{eq-eqb, ne_eqb, eqb-true, not-true}
+use borrow.Author.Tests.{eq-eqb, ne_eqb, not-true}
+use Rattle.std.specs.Prelude.{MatchBool}
 use Rattle.definitions.specs.Scan.{any, any_below_lem, all_below, count_below, gather, bit}
 use Rattle.definitions.specs.Context.{Context, incident_count}
 use Rattle.definitions.specs.MouthShapes.{regions_of}
@@ -16,7 +16,8 @@ use Rattle.laws.specs.ListLaws.Lists.{All, all_map, all_both, any-gather}
 use Rattle.laws.specs.ListLaws.ListsAsSets.{any-add_all}
 use Rattle.laws.specs.ListLaws.Tests.{both}
 use Rattle.laws.specs.ListLaws.Below.{below_at}
-use Rattle.laws.specs.ListLaws.ScanSteps.{any-fails_at, any_none, count_next}
+use Rattle.laws.specs.ListLaws.Chains.{any_is}
+use Rattle.laws.specs.ListLaws.ScanSteps.{any-fails_at}
 use Rattle.laws.specs.SetLaws.Sets.{numbers_below, length-below}
 use Rattle.laws.specs.RegionLaws.Merging.{Within}
 use Rattle.laws.specs.RustMouths.Triangles.{any-regions}
@@ -24,9 +25,10 @@ use Rattle.laws.specs.RustContext.SoundContext.{Sound}
 use Rattle.laws.specs.RustInteriors.ComponentRegions.{inside, edge_is}
 use Rattle.context.specs.Shown.{pairs_between}
 use Rattle.interior_proposals.specs.Given.{flags_of, Marked}
-use Rattle.interior_proposals.specs.Owners.{pair_named, several, all_in_lem, edge, Owned}
+use Rattle.interior_proposals.specs.declared.owners.Owner.{Owner}
+use Rattle.interior_proposals.specs.Owners.{pair_named, one_owner, several, owned_by, owner_at, all_in_lem, edge, Owned, Owners}
 use Rattle.interior_proposals.specs.Candidates.{Mapped, is_marked, pair_marked, spoils_at, candidate, port}
-use Rattle.interior_proposals.proofs.Commons.{any_same}
+use Rattle.interior_proposals.proofs.Commons.{any_same, several_one}
 
 -- ---- tests
 
@@ -120,8 +122,19 @@ module _ (C : Context) (r : ℕ) where
     pub candidate_unspoilt : (i : ℕ) → i < C.count → spoils_at C r i ≡ false
     candidate_unspoilt = any-fails_at (spoils_at C r) C.count (not-true spoilt_any parts.1)
 
-  pub spoilt : (i : ℕ) → i < C.count → spoils_at C r i ≡ true → candidate C r ≡ false
-  spoilt i l e = candidate_is ∙ ap (λ t. named && (some && few) && not t) (below_at C.count (spoils_at C r) i l e) ∙ and-false (named && (some && few))
+  -- what a chain over the boundaries gives, where its test is told of boundaries of C alone
+  spoilt_is : {count : ℕ} → C.count ≡ count → (t : Bool) → MatchBool t ((k : ℕ) × (0 ≤ k) × (k < count) × (k < C.count → spoils_at C r k ≡ true)) ((k : ℕ) → 0 ≤ k → k < count → k < C.count → spoils_at C r k ≡ false) → t ≡ spoilt_any
+  spoilt_is e true (k, a, l, h) =
+      let m : k < C.count = omega arith in
+      any_is (spoils_at C r) C.count true (k, a, m, h m)
+  spoilt_is e false h = any_is (spoils_at C r) C.count false (λ k a l. h k a (omega arith) l)
+
+  module _ {count : ℕ} (e : C.count ≡ count) (t : Bool) (chain : MatchBool t ((k : ℕ) × (0 ≤ k) × (k < count) × (k < C.count → spoils_at C r k ≡ true)) ((k : ℕ) → 0 ≤ k → k < count → k < C.count → spoils_at C r k ≡ false)) where
+    pub spoilt : t ≡ true → false ≡ candidate C r
+    spoilt h = sym (candidate_is ∙ ap (λ t. named && (some && few) && not t) (sym (spoilt_is e t chain) ∙ h) ∙ and-false (named && (some && few)))
+
+    pub unspoilt : t ≡ false → spoilt_any ≡ false
+    unspoilt h = sym (spoilt_is e t chain) ∙ h
 
   pub unnamed : named ≡ false → candidate C r ≡ false
   unnamed e = candidate_is ∙ ap (λ t. t && (some && few) && not spoilt_any) e
@@ -137,9 +150,9 @@ module _ (C : Context) (r : ℕ) where
 
 -- ---- a boundary and its owner
 
-module _ (C : Context) (r i : ℕ) {v : ℕ} (from : 1 ≤ r) (upto : r ≤ C.regions) (o : Owned C i v) where
+module _ (C : Context) (r i : ℕ) {v : Owner} (from : 1 ≤ r) (upto : r ≤ C.regions) (o : Owned C i v) where
   -- an edge that does not spoil the component is owned by it
-  pub edge-owned : spoils_at C r i ≡ false → eqb v r ≡ edge C r i
+  pub edge-owned : spoils_at C r i ≡ false → owned_by r v ≡ edge C r i
   unfolding spoils_at
   edge-owned h = o.whole r from upto ∙ go (edge C r i) (all_in_lem C r i) (any C.anchored (regions_of (C.pairs i))) h
     where
@@ -148,26 +161,34 @@ module _ (C : Context) (r i : ℕ) {v : ℕ} (from : 1 ≤ r) (upto : r ≤ C.re
       go true false b q = absurd (true≢false q)
       go false a b q = refl
 
-  pub spoils_own : v ≡ r → spoils_at C r i ≡ any C.anchored (regions_of (C.pairs i))
+  spoils_own : owned_by r v ≡ true → spoils_at C r i ≡ any C.anchored (regions_of (C.pairs i))
   unfolding spoils_at
   spoils_own e =
-      let t = both (edge C r i) (all_in_lem C r i) (sym (o.whole r from upto) ∙ eq-eqb v r e) in
+      let t = both (edge C r i) (all_in_lem C r i) (sym (o.whole r from upto) ∙ e) in
       ap₂ (λ x y. x && (not y || any C.anchored (regions_of (C.pairs i)))) t.0 t.1
 
-  edge_other : (v ≡ r → ⊥) → (v ≡ several → ⊥) → edge C r i ≡ false
+  edge_other : owned_by r v ≡ false → (v ≡ several → ⊥) → edge C r i ≡ false
   edge_other n m = go (edge C r i) refl
     where
       go : (b : Bool) → edge C r i ≡ b → b ≡ false
-      go true e = absurd (n (eqb-true v r (o.whole r from upto ∙ ap₂ ◌&&◌ e (o.part r from upto e m))))
+      go true e = absurd (true≢false (sym (o.whole r from upto ∙ ap₂ ◌&&◌ e (o.part r from upto e m)) ∙ n))
       go false e = refl
 
-  pub spoils_other : (v ≡ r → ⊥) → (v ≡ several → ⊥) → spoils_at C r i ≡ false
+  pub spoils_other : owned_by r v ≡ false → (v ≡ several → ⊥) → spoils_at C r i ≡ false
   unfolding spoils_at
   spoils_other n m = ap (λ x. x && (not (all_in_lem C r i) || any C.anchored (regions_of (C.pairs i)))) (edge_other n m)
 
-  pub spoils_several : v ≡ several → (v ≡ r → ⊥) → spoils_at C r i ≡ edge C r i
+  -- the component n is the owner
+  module _ {n : ℕ} (e : v ≡ one_owner n) where
+    pub spoils_one : n ≡ r → {t : Bool} → t ≡ any C.anchored (regions_of (C.pairs i)) → t ≡ spoils_at C r i
+    spoils_one q h = h ∙ sym (spoils_own (ap (owned_by r) e ∙ eq-eqb n r q))
+
+    pub spoils_not : (n ≡ r → ⊥) → false ≡ spoils_at C r i
+    spoils_not q = sym (spoils_other (ap (owned_by r) e ∙ ne_eqb n r q) (λ d. several_one (sym d ∙ e)))
+
+  pub spoils_several : v ≡ several → spoils_at C r i ≡ edge C r i
   unfolding spoils_at
-  spoils_several e n = go (edge C r i) (all_in_lem C r i) (any C.anchored (regions_of (C.pairs i))) (sym (o.whole r from upto) ∙ ne_eqb v r n)
+  spoils_several e = go (edge C r i) (all_in_lem C r i) (any C.anchored (regions_of (C.pairs i))) (sym (o.whole r from upto) ∙ ap (owned_by r) e)
     where
       go : (x y z : Bool) → (x && y) ≡ false → (x && (not y || z)) ≡ x
       go true true z q = absurd (true≢false q)
@@ -175,26 +196,29 @@ module _ (C : Context) (r i : ℕ) {v : ℕ} (from : 1 ≤ r) (upto : r ≤ C.re
       go false y z q = refl
 
   -- a port, of a candidate
-  pub port-owned : i < C.count → candidate C r ≡ true → port C r i ≡ (not (eqb v r) && any (λ p. inside C r p.lo || inside C r p.hi) (C.pairs i))
+  port-owned : i < C.count → candidate C r ≡ true → port C r i ≡ (not (owned_by r v) && any (λ p. inside C r p.lo || inside C r p.hi) (C.pairs i))
   unfolding is_port
   port-owned l h = ap (λ t. not t && any (λ p. inside C r p.lo || inside C r p.hi) (C.pairs i)) (sym (edge-owned (candidate_unspoilt C r h i l)))
 
-  pub port-own : i < C.count → candidate C r ≡ true → v ≡ r → false ≡ port C r i
-  port-own l h e = sym (port-owned l h ∙ ap (λ t. not t && any (λ p. inside C r p.lo || inside C r p.hi) (C.pairs i)) (eq-eqb v r e))
+  port-own : i < C.count → candidate C r ≡ true → owned_by r v ≡ true → false ≡ port C r i
+  port-own l h e = sym (port-owned l h ∙ ap (λ t. not t && any (λ p. inside C r p.lo || inside C r p.hi) (C.pairs i)) e)
 
-  pub port-other : i < C.count → candidate C r ≡ true → (v ≡ r → ⊥) → any (λ p. inside C r p.lo || inside C r p.hi) (C.pairs i) ≡ port C r i
-  port-other l h e = sym (port-owned l h ∙ ap (λ t. not t && any (λ p. inside C r p.lo || inside C r p.hi) (C.pairs i)) (ne_eqb v r e))
+  pub port-other : i < C.count → candidate C r ≡ true → owned_by r v ≡ false → any (λ p. inside C r p.lo || inside C r p.hi) (C.pairs i) ≡ port C r i
+  port-other l h e = sym (port-owned l h ∙ ap (λ t. not t && any (λ p. inside C r p.lo || inside C r p.hi) (C.pairs i)) e)
 
-  -- one boundary more: n of those before are edges, and m is whether this one is owned
-  pub survey_more : {n m : ℕ} → n ≡ count_below i (edge C r) → any_below_lem i (spoils_at C r) ≡ false → spoils_at C r i ≡ false → m ≡ bit (eqb v r) → (n + m ≡ count_below (i + 1) (edge C r)) × (any_below_lem (i + 1) (spoils_at C r) ≡ false)
-  survey_more a b c d = (ap₂ ◌+◌ a (d ∙ ap bit (edge-owned c)) ∙ sym (count_next (edge C r) i), any_none (spoils_at C r) i b c)
+-- ---- edges that are counted
 
-pub survey_end : (C : Context) (r : ℕ) {n i count : ℕ} {t : Bool} → t ≡ eqb (component_of C (components C) r) r → t ≡ true → C.count ≡ count → i ≤ count → count ≤ i → n ≡ count_below i (edge C r) → any_below_lem i (spoils_at C r) ≡ false → (leb 1 n && leb n max_interior_edges) ≡ candidate C r
-survey_end C r {i = i} q h e a b c d =
-    counted-candidate C r (sym q ∙ h) (c ∙ ap (λ k. count_below k (edge C r)) same) (sym (ap (λ k. any_below_lem k (spoils_at C r)) same) ∙ d)
-  where
-    same : i ≡ C.count
-    same = omega arith
+counted_same : (f g : ℕ → Bool) (n : ℕ) → ((k : ℕ) → k < n → f k ≡ g k) → count_below n f ≡ count_below n g
+unfolding count_below
+counted_same f g zero h = refl
+counted_same f g (suc n) h = ap₂ ◌+◌ (counted_same f g n (λ k l. h k (omega arith))) (ap bit (h n (omega arith)))
+
+-- where no boundary spoils the component, those that it owns are its edges
+pub counted_owned : (C : Context) (r : ℕ) (owners : List Owner) {n count : ℕ} {t : Bool} → 1 ≤ r → r ≤ C.regions → Owners C owners → t ≡ eqb (component_of C (components C) r) r → t ≡ true → C.count ≡ count → any_below_lem C.count (spoils_at C r) ≡ false
+    → n ≡ count_below count (λ i. owned_by r (owner_at owners i)) → (leb 1 n && leb n max_interior_edges) ≡ candidate C r
+counted_owned C r owners from upto O q h e s c =
+    counted-candidate C r (sym q ∙ h)
+    (c ∙ ap (λ k. count_below k (λ i. owned_by r (owner_at owners i))) (sym e) ∙ counted_same (λ i. owned_by r (owner_at owners i)) (edge C r) C.count (λ i l. edge-owned C r i from upto (O i l) (any-fails_at (spoils_at C r) C.count s i l))) s
 
 -- ---- what the lists say of a boundary's pairs
 
@@ -221,12 +245,18 @@ module _ {C : Context} {rows starts names marks : List ℕ} {r : ℕ} (M : Mappe
   touches_edge o = touches_is ∙ sym (ap (λ t. t && any (λ p. inside C r p.lo || inside C r p.hi) (C.pairs i)) o) ∙ edge_is C (within M.sound) r i l
 
   -- a boundary that another component owns lies there whole
-  pub port-elsewhere : {v : ℕ} → Owned C i v → candidate C r ≡ true → (v ≡ r → ⊥) → (v ≡ 0 → ⊥) → (v ≡ several → ⊥) → false ≡ port C r i
+  port-elsewhere : {v : Owner} → Owned C i v → candidate C r ≡ true → owned_by r v ≡ false → (n : ℕ) → v ≡ one_owner n → false ≡ port C r i
   unfolding is_edge
-  port-elsewhere {v} o h n z m = ⊎_elim (λ e. absurd (z e)) (λ e. ⊎_elim (λ d. absurd (m d)) owned e) o.range
+  port-elsewhere {v} o h m n e =
+      let w = o.range n e in
+      let own = (both (edge C n i) (all_in_lem C n i) (sym (o.whole n w.0 w.1) ∙ ap (owned_by n) e ∙ eq-eqb n n refl)).0 in
+      let plain = (both (is_ordinary C i) (any (λ p. eqb (component_of C (components C) p.lo) n) (C.pairs i)) own).0 in
+      sym (edge_other C r i M.from M.upto o m (λ d. several_one (sym d ∙ e))) ∙ sym (touches_edge plain) ∙ touches_is ∙ port-other C r i M.from M.upto o l h m
+
+  -- nor is an edge of the component itself a port
+  pub port-one : {v : Owner} → Owned C i v → candidate C r ≡ true → (n : ℕ) → v ≡ one_owner n → false ≡ port C r i
+  port-one {v} o h n e = go (owned_by r v) refl
     where
-      owned : (1 ≤ v) × (v ≤ C.regions) → false ≡ port C r i
-      owned w =
-          let own = (both (edge C v i) (all_in_lem C v i) (sym (o.whole v w.0 w.1) ∙ eq-eqb v v refl)).0 in
-          let plain = (both (is_ordinary C i) (any (λ p. eqb (component_of C (components C) p.lo) v) (C.pairs i)) own).0 in
-          sym (edge_other C r i M.from M.upto o n m) ∙ sym (touches_edge plain) ∙ touches_is ∙ port-other C r i M.from M.upto o l h n
+      go : (b : Bool) → owned_by r v ≡ b → false ≡ port C r i
+      go true q = port-own C r i M.from M.upto o l h q
+      go false q = port-elsewhere o h q n e

@@ -2,12 +2,13 @@
 use Prim.Native.Nat.{ℕ, ◌+◌, ◌-◌, ◌%◌, ◌≤◌, ◌<◌}
 use native.Mathlib.Omega.{arith}
 use mathlib.Core.Path.{◌≡◌, refl, sym, ap, ap₂, subst, ◌∙◌}
-use mathlib.Core.Bool.{Bool, true, false, not, ◌&&◌, ◌||◌, cond, or-false, or-true, and-true, and-false, and_assoc, true≢false}
+use mathlib.Core.Bool.{Bool, true, false, not, beq, ◌&&◌, ◌||◌, cond, or-false, or-true, and-true, and-false, and_assoc, true≢false}
 use mathlib.Core.Logic.{◌⊎◌, inl, inr, ⊎_elim}
 use mathlib.Core.List.{List, [], ◌∷◌, ◌++◌}
 use lib.ListN.{length, set, length-set}
 use lib.Dec.{eqb, ltb, leb}
 use borrow.Author.Tests.{eq-eqb, ne_eqb, eqb-true}
+use Rattle.std.specs.Prelude.{MatchBool}
 use Rattle.definitions.specs.Scan.{any, all, member, bit}
 use Rattle.definitions.specs.Grid.{Pair, contains}
 use Rattle.definitions.specs.Context.{Context, is_incident, incident_count}
@@ -20,7 +21,7 @@ use Rattle.context.specs.Shown.{pair_at, pairs_between}
 use Rattle.interior_proposals.specs.Owners.{Walkable, entry_at}
 use Rattle.interior_proposals.specs.Leaves.{Inside, Single, Grown, Exteriored, Cleared, from, Held, Ported, RowOf, Walked}
 use Rattle.interior_proposals.proofs.Forests.{set_case}
-use Rattle.interior_proposals.proofs.RowScans.{between_none, between_next, between-end, any-rows_at}
+use Rattle.interior_proposals.proofs.RowScans.{between_none, between_next, between-end, any-rows_at, all-rows_is}
 use Rattle.interior_proposals.proofs.Walks.{low_in_lem, high_in}
 use Rattle.interior_proposals.proofs.MarkLaws.{exterior_is, leaf_is}
 
@@ -46,7 +47,7 @@ some_inside true false = refl
 some_inside false true = refl
 some_inside false false = refl
 
-one_of_two : (a b : Bool) → eqb (bit a + bit b) 1 ≡ not ((a && b) || (not a && not b))
+one_of_two : (a b : Bool) → eqb (bit a + bit b) 1 ≡ not (beq a b)
 one_of_two true true = refl
 one_of_two true false = refl
 one_of_two false true = refl
@@ -86,7 +87,7 @@ module _ (C : Context) (i r : ℕ) (rs es : List ℕ) (v : Bool) {names marks : 
       high-exterior : b ≡ member hi es
       high-exterior = g ∙ exterior_is M hi W.high_from W.high_upto
 
-      outside : stepped ≡ cond (not ((a && b) || (not a && not b))) (add_leaf C i (from rs v) (cond a hi lo)) (invalid (from rs v))
+      outside : stepped ≡ cond (not (beq a b)) (add_leaf C i (from rs v) (cond a hi lo)) (invalid (from rs v))
       unfolding expand_pair inside_count
       outside =
           ap (λ t. cond t (from rs v) (cond (eqb (inside_count es row) 1) (add_leaf C i (from rs v) (cond (member lo es) hi lo)) (invalid (from rs v)))) (sym inside_is ∙ n)
@@ -99,14 +100,14 @@ module _ (C : Context) (i r : ℕ) (rs es : List ℕ) (v : Bool) {names marks : 
           high_exterior' : member hi es ≡ b
           high_exterior' = sym high-exterior
 
-      pub row_unclear : ((a && b) || (not a && not b)) ≡ true → Held C i r stepped v names names false
+      pub row_unclear : beq a b ≡ true → Held C i r stepped v names names false
       row_unclear h =
           subst (λ s. Held C i r s v names names false)
           (sym (outside ∙ ap (λ t. cond (not t) (add_leaf C i (from rs v) (cond a hi lo)) (invalid (from rs v))) h))
           (record { inside = I; grown = grown_same C i r names; fits = and-false v })
 
       -- x is the region that was chosen
-      module _ (m : ((a && b) || (not a && not b)) ≡ false) {x : ℕ} (c : x ≡ cond a hi lo) where
+      module _ (m : beq a b ≡ false) {x : ℕ} (c : x ≡ cond a hi lo) where
         chosen : stepped ≡ add_leaf C i (from rs v) x
         chosen = outside ∙ ap (λ t. cond (not t) (add_leaf C i (from rs v) (cond a hi lo)) (invalid (from rs v))) m ∙ ap (add_leaf C i (from rs v)) (sym c)
 
@@ -188,13 +189,25 @@ module _ (C : Context) (i r : ℕ) (rs es : List ℕ) (v : Bool) {names marks : 
 
 -- ---- rows with exactly one region inside
 
-module _ (C : Context) (rs : List ℕ) {names rows : List ℕ} {first end r k : ℕ} (I : Inside C r rs names) (w : Walkable rows first end C.regions) (h : first ≤ k) (l : k < end)
-    {lo hi : ℕ} (d : lo ≡ (pair_at rows k).lo) (e : hi ≡ (pair_at rows k).hi) {p q : ℕ} (i : p ≡ entry_at names lo) (j : q ≡ entry_at names hi) where
-  pub split_is : not ((eqb p r && eqb q r) || (not (eqb p r) && not (eqb q r))) ≡ eqb (inside_count rs (pair_at rows k)) 1
+-- exactly one region of p has the name
+abbrev pub splits : List ℕ → ℕ → Pair → Bool
+splits names r p = not (beq (eqb (entry_at names p.lo) r) (eqb (entry_at names p.hi) r))
+
+module _ (C : Context) (rs : List ℕ) {names rows : List ℕ} {first end r : ℕ} (I : Inside C r rs names) (w : Walkable rows first end C.regions) where
+  abbrev split : Pair → Bool
+  split p = eqb (inside_count rs p) 1
+
+  splits-row : (k : ℕ) → first ≤ k → k < end → splits names r (pair_at rows k) ≡ split (pair_at rows k)
   unfolding inside_count
-  split_is =
-      sym (one_of_two (eqb p r) (eqb q r))
-      ∙ (λ t. eqb (bit ((ap (λ n. eqb n r) i ∙ I.at lo (low_in_lem w h l d).0 (low_in_lem w h l d).1 ∙ ap (λ x. member x rs) d) t) + bit ((ap (λ n. eqb n r) j ∙ I.at hi (high_in w h l e).0 (high_in w h l e).1 ∙ ap (λ x. member x rs) e) t)) 1)
+  splits-row k h l =
+      let a = low_in_lem w h l refl in
+      let b = high_in w h l refl in
+      let p = pair_at rows k in
+      sym (one_of_two (eqb (entry_at names p.lo) r) (eqb (entry_at names p.hi) r)) ∙ (λ t. eqb (bit (I.at p.lo a.0 a.1 t) + bit (I.at p.hi b.0 b.1 t)) 1)
+
+  pub split_rows : (t : Bool) → MatchBool t ((k : ℕ) → first ≤ k → k < end → splits names r (pair_at rows k) ≡ true) ((k : ℕ) × (first ≤ k) × (k < end) × (splits names r (pair_at rows k) ≡ false)) → t ≡ all split (pairs_between rows first end)
+  split_rows true h = all-rows_is split rows first end w.rising true (λ k a b. sym (splits-row k a b) ∙ h k a b)
+  split_rows false (k, a, b, e) = all-rows_is split rows first end w.rising false (k, a, b, sym (splits-row k a b) ∙ e)
 
 -- ---- all rows
 

@@ -1,5 +1,6 @@
 pub mod Bools
 pub mod RowScans
+mod Counting
 pub mod Stored
 pub mod Forests
 pub mod Preparing

@@ -7,58 +7,74 @@ use mathlib.Core.Logic.{⊎_elim}
 use mathlib.Core.List.{List, [], ◌∷◌}
 use lib.ListN.{length, get_or, set}
 use lib.Dec.{eqb}
-use borrow.Author.Tests.{eq-eqb, ne_eqb, eqb-false, not-true}
-use Rattle.std.specs.Prelude.{Option, None}
+use borrow.Author.Tests.{eq-eqb, ne_eqb, not-true}
+use Rattle.std.specs.Prelude.{Option, None, MatchBool}
 use Rattle.definitions.specs.Scan.{any_below_lem, member}
 use Rattle.definitions.specs.Context.{Context}
 use Rattle.definitions.specs.RampInteriors.{components, component_ports, ports_fit}
 use Rattle.laws.specs.ListLaws.Tests.{both}
 use Rattle.laws.specs.ListLaws.Below.{below_at}
+use Rattle.laws.specs.ListLaws.Chains.{any_is}
 use Rattle.laws.specs.ListLaws.ScanSteps.{any_next, any-fails_at}
 use Rattle.laws.specs.RustContext.SoundContext.{Sound}
 use Rattle.laws.specs.RustInteriors.ComponentRegions.{inside}
 use Rattle.laws.specs.ListLaws.Beyond.{beyond_same, beyond-then}
 use Rattle.laws.specs.NumberLaws.Comparisons.{last_or}
-use Rattle.interior_proposals.specs.Owners.{several, all_in_lem, edge, Owners}
+use Rattle.interior_proposals.specs.declared.owners.Owner.{Owner}
+use Rattle.interior_proposals.specs.Owners.{one_owner, is_one, owned_by, name_of, owner_at, name_at, all_in_lem, edge, Owners}
 use Rattle.interior_proposals.specs.Candidates.{Told, candidate, both_ports}
 use Rattle.interior_proposals.specs.Leaves.{Inside}
-use Rattle.interior_proposals.specs.Proposals.{expanded_of, fitting_ports, proposed_ports, Facing, Leafed, Proposed, is_first, found_ports, Progress, Owning, FoundAll}
+use Rattle.interior_proposals.specs.Proposals.{expanded_of, fitting_ports, proposed_ports, Facing, Leafed, Proposed, owned_before, is_first, found_ports, Progress, Owning, FoundAll}
 use Rattle.interior_proposals.specs.declared.ports.Ports.{Ports}
 use Rattle.interior_proposals.proofs.PortLaws.{same_ports}
 use Rattle.interior_proposals.proofs.Stored.{filled_more}
 use Rattle.interior_proposals.proofs.NoConflict.{Fit, regions-apart, loose_edge}
 use Rattle.interior_proposals.proofs.Removed.{fit_of}
+use Rattle.interior_proposals.proofs.Commons.{one_named}
 
 -- ---- a boundary that comes first
 
-module _ {C : Context} (owners : List ℕ) (O : Owners C owners) (i : ℕ) (l : i < C.count) (h : is_first owners i ≡ true) where
-  abbrev owner : ℕ
-  owner = get_or owners i 0
-
-  first_parts : ((eqb owner 0 || eqb owner several) ≡ false) × (any_below_lem i (λ j. eqb (get_or owners j 0) owner) ≡ false)
+module _ (owners : List Owner) (i : ℕ) where
+  -- no boundary before it has the component that it has
+  pub first_unmet : is_first owners i ≡ true → owned_before owners i (name_at owners i) ≡ false
   unfolding is_first
-  first_parts =
-      let t = both (not (eqb owner 0 || eqb owner several)) (not (any_below_lem i (λ j. eqb (get_or owners j 0) owner))) h in
-      (not-true (eqb owner 0 || eqb owner several) t.0, not-true (any_below_lem i (λ j. eqb (get_or owners j 0) owner)) t.1)
+  first_unmet h = not-true (owned_before owners i (name_at owners i)) (both (is_one (owner_at owners i)) (not (owned_before owners i (name_at owners i))) h).1
+
+  pub first_one : is_first owners i ≡ true → owner_at owners i ≡ one_owner (name_at owners i)
+  unfolding is_first
+  first_one h = one_named (owner_at owners i) (both (is_one (owner_at owners i)) (not (owned_before owners i (name_at owners i))) h).0
+
+  -- by what a chain over those before says
+  pub owned_is : (r : ℕ) (t : Bool) → MatchBool t ((k : ℕ) × (0 ≤ k) × (k < i) × (owned_by r (owner_at owners k) ≡ true)) ((k : ℕ) → 0 ≤ k → k < i → owned_by r (owner_at owners k) ≡ false) → t ≡ owned_before owners i r
+  unfolding owned_before
+  owned_is r t = any_is (λ j. owned_by r (owner_at owners j)) i t
+
+  -- by the owner
+  pub none_first : is_one (owner_at owners i) ≡ false → is_first owners i ≡ false
+  unfolding is_first
+  none_first e = ap (λ t. t && not (owned_before owners i (name_at owners i))) e
+
+  module _ {r : ℕ} (e : owner_at owners i ≡ one_owner r) where
+    pub first_is : is_first owners i ≡ not (owned_before owners i r)
+    unfolding is_first
+    first_is = ap (λ o. is_one o && not (owned_before owners i (name_of o))) e
+
+    -- where a chain says whether a boundary before has it
+    pub not-first : {t : Bool} → t ≡ owned_before owners i r → t ≡ true → is_first owners i ≡ false
+    not-first d h = first_is ∙ ap not (sym d ∙ h)
+
+    pub first_found : {t : Bool} → t ≡ owned_before owners i r → t ≡ false → is_first owners i ≡ true
+    first_found d h = first_is ∙ ap not (sym d ∙ h)
+
+module _ {C : Context} (owners : List Owner) (O : Owners C owners) (i : ℕ) (l : i < C.count) (h : is_first owners i ≡ true) where
+  abbrev owner : ℕ
+  owner = name_at owners i
 
   pub first_region : (1 ≤ owner) × (owner ≤ C.regions)
-  first_region = ⊎_elim (λ e. absurd (clash (eq-eqb owner 0 e))) (λ e. ⊎_elim (λ d. absurd (clash' (eq-eqb owner several d))) (λ d. d) e) (O i l).range
-    where
-      clash : eqb owner 0 ≡ true → ⊥
-      clash e = true≢false (sym (ap (λ t. t || eqb owner several) e) ∙ first_parts.0)
-
-      clash' : eqb owner several ≡ true → ⊥
-      clash' e = go (eqb owner 0) (ap (λ t. eqb owner 0 || t) (sym e) ∙ first_parts.0)
-        where
-          go : (t : Bool) → (t || true) ≡ false → ⊥
-          go true k = true≢false k
-          go false k = true≢false k
+  first_region = (O i l).range owner (first_one owners i h)
 
   pub first_edge : any_below_lem C.count (edge C owner) ≡ true
-  first_edge = below_at C.count (edge C owner) i l (both (edge C owner i) (all_in_lem C owner i) (sym ((O i l).whole owner first_region.0 first_region.1) ∙ eq-eqb owner owner refl)).0
-
-  pub first_unmet : any_below_lem i (λ j. eqb (get_or owners j 0) owner) ≡ false
-  first_unmet = first_parts.1
+  first_edge = below_at C.count (edge C owner) i l (both (edge C owner i) (all_in_lem C owner i) (sym ((O i l).whole owner first_region.0 first_region.1) ∙ ap (owned_by owner) (first_one owners i h) ∙ eq-eqb owner owner refl)).0
 
 -- ---- two ports that were found
 
@@ -91,23 +107,24 @@ proposed_two C r {a} {b} e = go (candidate C r) refl e
     go true c k = (c, two_found C r (component_ports C (components C) r) k)
     go false c k = absurd (other_two k)
 
-pub found_first : (C : Context) (owners : List ℕ) (i : ℕ) {a b : ℕ} → found_ports C owners i ≡ both_ports a b → (is_first owners i ≡ true) × (proposed_ports C (get_or owners i 0) ≡ both_ports a b)
+pub found_first : (C : Context) (owners : List Owner) (i : ℕ) {a b : ℕ} → found_ports C owners i ≡ both_ports a b → (is_first owners i ≡ true) × (proposed_ports C (name_at owners i) ≡ both_ports a b)
 unfolding found_ports
 found_first C owners i {a} {b} e = go (is_first owners i) refl e
   where
-    go : (t : Bool) → is_first owners i ≡ t → cond t (proposed_ports C (get_or owners i 0)) None ≡ both_ports a b → (is_first owners i ≡ true) × (proposed_ports C (get_or owners i 0) ≡ both_ports a b)
+    go : (t : Bool) → is_first owners i ≡ t → cond t (proposed_ports C (name_at owners i)) None ≡ both_ports a b → (is_first owners i ≡ true) × (proposed_ports C (name_at owners i) ≡ both_ports a b)
     go true c k = (c, k)
     go false c k = absurd (other_two k)
 
 -- ---- one boundary more
 
-module _ {C : Context} {owners was names wasMarks marks : List ℕ} (S : Sound C) (O : Owners C owners) (i : ℕ) (l : i < C.count) (P : Progress C owners was names wasMarks marks i) where
+module _ {C : Context} {owners : List Owner} {was names wasMarks marks : List ℕ} (S : Sound C) (O : Owners C owners) (i : ℕ) (l : i < C.count) (P : Progress C owners was names wasMarks marks i) where
   split_or : (a b : Bool) → (a || b) ≡ false → (a ≡ false) × (b ≡ false)
   split_or true b e = absurd (true≢false e)
   split_or false b e = (refl, e)
 
-  met : (q : ℕ) → any_below_lem (i + 1) (λ j. eqb (get_or owners j 0) q) ≡ false → (any_below_lem i (λ j. eqb (get_or owners j 0) q) ≡ false) × (eqb (get_or owners i 0) q ≡ false)
-  met q e = split_or (any_below_lem i (λ j. eqb (get_or owners j 0) q)) (eqb (get_or owners i 0) q) (sym (any_next (λ j. eqb (get_or owners j 0) q) i) ∙ e)
+  met : (q : ℕ) → owned_before owners (i + 1) q ≡ false → (owned_before owners i q ≡ false) × (owned_by q (owner_at owners i) ≡ false)
+  unfolding owned_before
+  met q e = split_or (owned_before owners i q) (owned_by q (owner_at owners i)) (sym (any_next (λ j. owned_by q (owner_at owners j)) i) ∙ e)
 
   pub progress-other : is_first owners i ≡ false → Progress C owners was names wasMarks marks (i + 1)
   progress-other h =
@@ -119,9 +136,12 @@ module _ {C : Context} {owners was names wasMarks marks : List ℕ} (S : Sound C
         cleared = P.cleared;
       }
 
-  module _ (h : is_first owners i ≡ true) {now nowMarks : List ℕ} {x : Option Ports} (Q : Proposed C (get_or owners i 0) names now marks nowMarks x) where
+  module _ (h : is_first owners i ≡ true) {now nowMarks : List ℕ} {x : Option Ports} (Q : Proposed C (name_at owners i) names now marks nowMarks x) where
     abbrev r : ℕ
-    r = get_or owners i 0
+    r = name_at owners i
+
+    apart : (q : ℕ) → owned_by q (owner_at owners i) ≡ false → r ≡ q → ⊥
+    apart q e d = true≢false (sym (ap (owned_by q) (first_one owners i h) ∙ eq-eqb r q d) ∙ e)
 
     leaf-fit : {y : ℕ} → (L : Leafed C r y) → Fit C S r L.first L.second
     leaf-fit L = fit_of C S r (first_region owners O i l h).0 L.candidates L.two L.fit
@@ -151,60 +171,49 @@ module _ {C : Context} {owners was names wasMarks marks : List ℕ} (S : Sound C
         out y L true k = absurd (regions-apart C S F (leaf-fit L) n v y k L.found)
         out y L false k = refl
 
+    earlier : (j : ℕ) → j < i → owned_by r (owner_at owners j) ≡ false
+    unfolding owned_before
+    earlier = any-fails_at (λ o. owned_by r (owner_at owners o)) i (first_unmet owners i h)
+
     pub progress_first : Progress C owners was now wasMarks nowMarks (i + 1)
     progress_first =
         record {
           long = subst (λ m. C.regions ≤ m) (sym Q.spread.beyond.long) P.long;
-          unmet = λ q a b e n. told q a e (eqb-false r q (met q n).1) (P.unmet q a b e (met q n).0);
+          unmet = λ q a b e n. told q a e (apart q (met q n).1) (P.unmet q a b e (met q n).0);
           settled = λ j m. ⊎_elim
-              (λ e a b k. subst (λ o. Inside C (get_or owners o 0) (expanded_of C (get_or owners o 0) a b).regions now) (sym e) (Q.holds a b (Q.result ∙ (found_first C owners i (ap (found_ports C owners) (sym e) ∙ k)).1)))
+              (λ e a b k. subst (λ o. Inside C (name_at owners o) (expanded_of C (name_at owners o) a b).regions now) (sym e) (Q.holds a b (Q.result ∙ (found_first C owners i (ap (found_ports C owners) (sym e) ∙ k)).1)))
               (λ e a b k.
               let w = found_first C owners j k in
-              let t = proposed_two C (get_or owners j 0) w.1 in
+              let t = proposed_two C (name_at owners j) w.1 in
               let u : j < C.count = omega arith in
-              held (get_or owners j 0) a b (fit_of C S (get_or owners j 0) (first_region owners O j u w.0).0 t.0 t.1.0 t.1.1.0) t.1.1.1
-              (eqb-false (get_or owners j 0) r (any-fails_at (λ o. eqb (get_or owners o 0) r) i (first_unmet owners O i l h) j e)) (P.settled j e a b k))
+              held (name_at owners j) a b (fit_of C S (name_at owners j) (first_region owners O j u w.0).0 t.0 t.1.0 t.1.1.0) t.1.1.1
+              (λ d. true≢false (sym (ap (owned_by r) (first_one owners j w.0) ∙ eq-eqb (name_at owners j) r d) ∙ earlier j e)) (P.settled j e a b k))
               (last_or j i (omega arith));
           beyond = beyond-then P.beyond Q.spread.beyond;
           cleared = record { marked = Q.cleared.marked; beyond = beyond-then P.cleared.beyond Q.cleared.beyond };
         }
 
--- ---- by the tests of the code
-
--- t is the test of the owner
-pub not-region : (owners : List ℕ) (i : ℕ) → (eqb (get_or owners i 0) 0 || eqb (get_or owners i 0) several) ≡ true → false ≡ is_first owners i
-unfolding is_first
-not-region owners i e = sym (ap (λ t. not t && not (any_below_lem i (λ j. eqb (get_or owners j 0) (get_or owners i 0)))) e)
-
-pub first_by_scan : (owners : List ℕ) (i : ℕ) → (eqb (get_or owners i 0) 0 || eqb (get_or owners i 0) several) ≡ false → not (any_below_lem i (λ j. eqb (get_or owners j 0) (get_or owners i 0))) ≡ is_first owners i
-unfolding is_first
-first_by_scan owners i e = sym (ap (λ t. not t && not (any_below_lem i (λ j. eqb (get_or owners j 0) (get_or owners i 0)))) e)
-
-pub is_first_lem : (owners : List ℕ) (i : ℕ) {j : ℕ} → (eqb (get_or owners i 0) 0 || eqb (get_or owners i 0) several) ≡ false → j ≤ i → i ≤ j → any_below_lem j (λ k. eqb (get_or owners k 0) (get_or owners i 0)) ≡ false → true ≡ is_first owners i
-unfolding is_first
-is_first_lem owners i {j} e a b h = sym (ap₂ (λ t u. not t && not u) e (ap (λ n. any_below_lem n (λ k. eqb (get_or owners k 0) (get_or owners i 0))) same ∙ h))
-  where
-    same : i ≡ j
-    same = omega arith
-
 -- ---- for the calls
 
 -- with nothing said of what was there before
-pub progress-now : {C : Context} {owners was names wasMarks marks : List ℕ} {i : ℕ} → Progress C owners was names wasMarks marks i → Progress C owners names names marks marks i
+pub progress-now : {C : Context} {owners : List Owner} {was names wasMarks marks : List ℕ} {i : ℕ} → Progress C owners was names wasMarks marks i → Progress C owners names names marks marks i
 progress-now {C} {names = names} {marks = marks} P =
     record { long = P.long; unmet = P.unmet; settled = P.settled; beyond = beyond_same C.regions names; cleared = record { marked = P.cleared.marked; beyond = beyond_same C.regions marks } }
 
-module _ {C : Context} {boundaries tallies pairs starts names marks owners was wasMarks : List ℕ} {count : ℕ} (W : Owning C boundaries tallies pairs starts owners count) (i : ℕ) (l : i < C.count) (P : Progress C owners was names wasMarks marks i) {t : Bool} (e : t ≡ is_first owners i) where
-  pub facing : t ≡ true → Facing C boundaries tallies pairs starts names marks owners count (get_or owners i 0)
-  facing h =
-      let f = sym e ∙ h in
-      let g = first_region owners W.owned i l f in
-      record {
+module _ {C : Context} {boundaries tallies pairs starts names marks was wasMarks : List ℕ} {owners : List Owner} {count : ℕ} (W : Owning C boundaries tallies pairs starts owners count) (i : ℕ) (l : i < C.count) (P : Progress C owners was names wasMarks marks i) where
+  pub facing : {r : ℕ} → (owner_at owners i ≡ one_owner r) × (is_first owners i ≡ true) → Facing C boundaries tallies pairs starts names marks owners count r
+  facing {r} (e, f) = subst (Facing C boundaries tallies pairs starts names marks owners count) {x = name_at owners i} {y = r} (ap name_of e) faced
+    where
+      g : (1 ≤ name_at owners i) × (name_at owners i ≤ C.regions)
+      g = first_region owners W.owned i l f
+
+      faced : Facing C boundaries tallies pairs starts names marks owners count (name_at owners i)
+      faced = record {
         given = W.given;
         mapped =
             record {
               paired = W.given.paired;
-              told = P.unmet (get_or owners i 0) g.0 g.1 (first_edge owners W.owned i l f) (first_unmet owners W.owned i l f);
+              told = P.unmet (name_at owners i) g.0 g.1 (first_edge owners W.owned i l f) (first_unmet owners i f);
               marked = P.cleared.marked;
               sound = W.given.sound;
               from = g.0;
@@ -214,16 +223,17 @@ module _ {C : Context} {boundaries tallies pairs starts names marks owners was w
         owned = W.owned;
       }
 
-  pub found-proposed : {now nowMarks : List ℕ} {x : Option Ports} → t ≡ true → Proposed C (get_or owners i 0) names now marks nowMarks x → Progress C owners was now wasMarks nowMarks (i + 1) × (x ≡ found_ports C owners i)
+  pub found-proposed : {r : ℕ} → (owner_at owners i ≡ one_owner r) × (is_first owners i ≡ true) → {now nowMarks : List ℕ} {x : Option Ports} → Proposed C r names now marks nowMarks x → Progress C owners was now wasMarks nowMarks (i + 1) × (x ≡ found_ports C owners i)
   unfolding found_ports
-  found-proposed h Q = (progress_first W.given.sound W.owned i l P (sym e ∙ h) Q, Q.result ∙ sym (ap (λ b. cond b (proposed_ports C (get_or owners i 0)) None) (sym e ∙ h)))
+  found-proposed {r} (e, f) {now} {nowMarks} {x} R = (progress_first W.given.sound W.owned i l P f Q, Q.result ∙ sym (ap (λ b. cond b (proposed_ports C (name_at owners i)) None) f))
+    where
+      Q : Proposed C (name_at owners i) names now marks nowMarks x
+      Q = subst (λ n. Proposed C n names now marks nowMarks x) {x = r} {y = name_at owners i} (sym (ap name_of e)) R
 
-  pub found_nothing : t ≡ false → Progress C owners was names wasMarks marks (i + 1) × (None ≡ found_ports C owners i)
+  pub found_nothing : is_first owners i ≡ false → Progress C owners was names wasMarks marks (i + 1) × (None ≡ found_ports C owners i)
   unfolding found_ports
-  found_nothing h = (progress-other W.given.sound W.owned i l P (sym e ∙ h), sym (ap (λ b. cond b (proposed_ports C (get_or owners i 0)) None) (sym e ∙ h)))
+  found_nothing f = (progress-other W.given.sound W.owned i l P f, sym (ap (λ b. cond b (proposed_ports C (name_at owners i)) None) f))
 
 -- one boundary's ports are stored
-pub found_more : (C : Context) (owners : List ℕ) (found : List (Option Ports)) (i : ℕ) {x : Option Ports} → FoundAll C owners found i → i < length found → x ≡ found_ports C owners i → FoundAll C owners (set found i x) (i + 1)
+pub found_more : (C : Context) (owners : List Owner) (found : List (Option Ports)) (i : ℕ) {x : Option Ports} → FoundAll C owners found i → i < length found → x ≡ found_ports C owners i → FoundAll C owners (set found i x) (i + 1)
 found_more C owners found i F l e = filled_more (λ o p. p ≡ found_ports C owners o) None found F l e
-
--- ---- before the first boundary

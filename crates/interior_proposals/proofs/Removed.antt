@@ -7,7 +7,7 @@ use mathlib.Core.Bool.{Bool, true, false, not, ◌&&◌, ◌||◌, cond, or-fals
 use Rattle.std.specs.Prelude.{Option, None, Some}
 use mathlib.Core.List.{List, [], ◌∷◌, ◌++◌, append-nil, append_assoc}
 use lib.Dec.{eqb, ltb}
-use borrow.Author.Tests.{eq-eqb, ltb-true, ne_eqb, eqb-true, lt-ltb, not-true}
+use borrow.Author.Tests.{eq-eqb, ltb-true, eqb-true, lt-ltb, not-true}
 use Rattle.definitions.specs.Scan.{any, all, member, collect, to_list, only_if, any_below_lem, concat_map}
 use Rattle.definitions.specs.Sort.{insert, sort_onto, sort, select}
 use Rattle.definitions.specs.RegionRecord.{has_ramp}
@@ -23,7 +23,8 @@ use Rattle.laws.specs.SetLaws.Sets.{Ascending, numbers_below, member_below, belo
 use Rattle.laws.specs.SetLaws.Sets as sets
 use Rattle.laws.specs.RustContext.SoundContext.{Sound}
 use Rattle.laws.specs.ListLaws.NumberLists.{member-append}
-use Rattle.interior_proposals.specs.Owners.{edge, Owned}
+use Rattle.interior_proposals.specs.declared.owners.Owner.{Owner}
+use Rattle.interior_proposals.specs.Owners.{one_owner, owned_by, edge, Owned}
 use Rattle.interior_proposals.specs.Candidates.{candidate, port, both_ports}
 use Rattle.interior_proposals.specs.Proposals.{expanded_of, fitting_ports, proposed_ports, records_fit}
 use Rattle.interior_proposals.specs.declared.ports.Ports.{Ports}
@@ -252,36 +253,36 @@ module _ (C : Context) (S : Sound C) where
   abbrev pub is_proposal : ℕ → Bool
   is_proposal r = any (λ p. true) (to_list (interior_proposal C (components C) r))
 
-  module _ (i : ℕ) (l : i < C.count) {v : ℕ} (o : Owned C i v) where
-    owned-edge : (k : ℕ) → k < C.regions → any (λ p. member i p.edges) (to_list (found_at k)) ≡ (is_proposal (suc k) && eqb v (suc k))
+  module _ (i : ℕ) (l : i < C.count) {v : Owner} (o : Owned C i v) where
+    owned-edge : (k : ℕ) → k < C.regions → any (λ p. member i p.edges) (to_list (found_at k)) ≡ (is_proposal (suc k) && owned_by (suc k) v)
     unfolding any
     owned-edge k m = go (found_at k) refl
       where
-        go : (x : Option InteriorProposal) → found_at k ≡ x → any (λ p. member i p.edges) (to_list x) ≡ (any (λ p. true) (to_list x) && eqb v (suc k))
+        go : (x : Option InteriorProposal) → found_at k ≡ x → any (λ p. member i p.edges) (to_list x) ≡ (any (λ p. true) (to_list x) && owned_by (suc k) v)
         go None e = refl
         go (Some p) e =
             let w = made k p e in
             or-false (member i p.edges) ∙ ap (member i) w.edges ∙ edge_of (suc k) i ∙ ap (λ b. b && edge C (suc k) i) (lt-ltb i C.count l)
             ∙ sym (edge-owned C (suc k) i (omega arith) (omega arith) o (candidate_unspoilt C (suc k) w.fit.cand i l))
 
-    owned_scan : member i (removed C) ≡ any_below_lem C.regions (λ k. is_proposal (suc k) && eqb v (suc k))
-    owned_scan = removed_is i ∙ below_ext C.regions (λ k. any (λ p. member i p.edges) (to_list (found_at k))) (λ k. is_proposal (suc k) && eqb v (suc k)) owned-edge
+    owned_scan : member i (removed C) ≡ any_below_lem C.regions (λ k. is_proposal (suc k) && owned_by (suc k) v)
+    owned_scan = removed_is i ∙ below_ext C.regions (λ k. any (λ p. member i p.edges) (to_list (found_at k))) (λ k. is_proposal (suc k) && owned_by (suc k) v) owned-edge
 
-    -- a boundary whose owner is no region stays
-    pub removed_none : ((k : ℕ) → k < C.regions → v ≡ suc k → ⊥) → member i (removed C) ≡ false
-    removed_none h = owned_scan ∙ below_none C.regions (λ k. is_proposal (suc k) && eqb v (suc k)) (λ k m. ap (λ b. is_proposal (suc k) && b) (ne_eqb v (suc k) (h k m)) ∙ and-false (is_proposal (suc k)))
+    -- a boundary that no component owns stays
+    pub removed_none : ((r : ℕ) → owned_by r v ≡ false) → member i (removed C) ≡ false
+    removed_none h = owned_scan ∙ below_none C.regions (λ k. is_proposal (suc k) && owned_by (suc k) v) (λ k m. ap (λ b. is_proposal (suc k) && b) (h (suc k)) ∙ and-false (is_proposal (suc k)))
 
     -- a boundary goes exactly when its owner is proposed
-    pub removed-owned : (n : ℕ) → n < C.regions → v ≡ suc n → member i (removed C) ≡ is_proposal v
-    removed-owned n m q = owned_scan ∙ go (is_proposal v) refl
+    pub removed-owned : (n : ℕ) → n < C.regions → v ≡ one_owner (suc n) → member i (removed C) ≡ is_proposal (suc n)
+    removed-owned n m q = owned_scan ∙ go (is_proposal (suc n)) refl
       where
-        go : (b : Bool) → is_proposal v ≡ b → any_below_lem C.regions (λ k. is_proposal (suc k) && eqb v (suc k)) ≡ b
-        go true e = below_at C.regions (λ k. is_proposal (suc k) && eqb v (suc k)) n m (ap₂ ◌&&◌ (ap is_proposal (sym q) ∙ e) (eq-eqb v (suc n) q))
-        go false e = below_none C.regions (λ k. is_proposal (suc k) && eqb v (suc k)) (λ k u. at k (eqb v (suc k)) refl)
+        go : (b : Bool) → is_proposal (suc n) ≡ b → any_below_lem C.regions (λ k. is_proposal (suc k) && owned_by (suc k) v) ≡ b
+        go true e = below_at C.regions (λ k. is_proposal (suc k) && owned_by (suc k) v) n m (ap₂ ◌&&◌ e (ap (owned_by (suc n)) q ∙ eq-eqb (suc n) (suc n) refl))
+        go false e = below_none C.regions (λ k. is_proposal (suc k) && owned_by (suc k) v) (λ k u. at k (eqb (suc n) (suc k)) refl)
           where
-            at : (k : ℕ) (t : Bool) → eqb v (suc k) ≡ t → (is_proposal (suc k) && t) ≡ false
-            at k true d = ap (λ b. b && true) (ap is_proposal (sym (eqb-true v (suc k) d)) ∙ e)
-            at k false d = and-false (is_proposal (suc k))
+            at : (k : ℕ) (t : Bool) → eqb (suc n) (suc k) ≡ t → (is_proposal (suc k) && owned_by (suc k) v) ≡ false
+            at k true d = ap (λ x. is_proposal x && owned_by (suc k) v) (sym (eqb-true (suc n) (suc k) d)) ∙ ap (λ b. b && owned_by (suc k) v) e
+            at k false d = ap (λ b. is_proposal (suc k) && b) (ap (owned_by (suc k)) q ∙ d) ∙ and-false (is_proposal (suc k))
 
   -- ---- a proposal is what was found, with records that fit
 

@@ -120,3 +120,16 @@ module _ (f : Pair → Bool) (rows : List ℕ) (first end : ℕ) (rising : first
     where
       last : end ≡ first + (end - first)
       last = omega arith
+
+  every_of : ((k : ℕ) → first ≤ k → k < end → f (pair_at rows k) ≡ true) → (n : ℕ) → first + n ≤ end → all f (pairs_between rows first (first + n)) ≡ true
+  every_of h zero l = ap (λ m. all f (pairs_between rows first m)) (omega arith) ∙ all-rows_none f rows first
+  every_of h (suc n) l =
+      let next : first + suc n ≡ first + n + 1 = omega arith in
+      ap (λ m. all f (pairs_between rows first m)) next ∙ all-rows_next f rows first (first + n) (omega arith) ∙ ap₂ ◌&&◌ (every_of h n (omega arith)) (h (first + n) (omega arith) (omega arith))
+
+  pub all-rows_is : (r : Bool) → MatchBool r ((k : ℕ) → first ≤ k → k < end → f (pair_at rows k) ≡ true) ((k : ℕ) × (first ≤ k) × (k < end) × (f (pair_at rows k) ≡ false)) → r ≡ all f (pairs_between rows first end)
+  all-rows_is true h = sym (ap (λ m. all f (pairs_between rows first m)) last ∙ every_of h (end - first) (omega arith))
+    where
+      last : end ≡ first + (end - first)
+      last = omega arith
+  all-rows_is false (k, a, b, e) = sym (all-rows_fail f rows first k end a b e)

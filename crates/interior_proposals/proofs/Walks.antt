@@ -1,17 +1,27 @@
 -- What a walk over rows may read. Assumes nothing.
 use Prim.Native.Nat.{ℕ, suc, ◌+◌, ◌*◌, ◌≤◌, ◌<◌}
 use native.Mathlib.Omega.{arith}
-use mathlib.Core.Path.{◌≡◌}
+use mathlib.Core.Path.{◌≡◌, ap}
 use mathlib.Core.List.{List}
 use lib.ListN.{length, get_or}
 use Rattle.definitions.specs.Limits.{numbers_per_pair}
 use Rattle.definitions.specs.Context.{Context}
 use Rattle.definitions.specs.RampInteriors.{components}
 use Rattle.context.specs.Shown.{pair_at, ShownPairs}
+use Rattle.context.specs.declared.pairs.Pair as declared
+use Rattle.context.specs.Rows.{pair_form}
 use Rattle.context.proofs.ShownLaws.{shown-stretch}
 use Rattle.interior_proposals.specs.Forest.{Names}
 use Rattle.interior_proposals.specs.Owners.{Walkable}
 use Rattle.interior_proposals.proofs.Preparing.{rows-placed, components-size}
+
+-- the regions of a row as it was read
+module _ (rows : List ℕ) (k : ℕ) {p : declared.Pair} (e : pair_form p ≡ pair_at rows k) where
+  pub row_low : p.lo ≡ (pair_at rows k).lo
+  row_low = ap (λ q. q.lo) e
+
+  pub row_high : p.hi ≡ (pair_at rows k).hi
+  row_high = ap (λ q. q.hi) e
 
 module _ {rows : List ℕ} {first end n k : ℕ} (w : Walkable rows first end n) (a : first ≤ k) (b : k < end) where
   pub row_in : numbers_per_pair * k + 2 < length rows

@@ -1,11 +1,13 @@
 -- The component that the pairs of an ordinary full cut lie in. Definitions only; assumes nothing.
-use Rattle.std.specs.Prelude.{ℕ, suc, ◌-◌, ◌*◌, ◌≤◌, ◌<◌, ◌≡◌, Bool, true, ◌&&◌, ◌||◌, ◌⊎◌, List, [], length, get_or, eqb}
+use Rattle.std.specs.Prelude.{ℕ, suc, ◌-◌, ◌*◌, ◌≤◌, ◌<◌, ◌≡◌, Bool, true, false, ◌&&◌, ◌||◌, List, [], length, get_or, eqb}
 use Rattle.definitions.specs.Limits.{numbers_per_pair}
 use Rattle.definitions.specs.Scan.{any, all}
 use Rattle.definitions.specs.Grid.{Pair}
 use Rattle.definitions.specs.Context.{Context}
 use Rattle.definitions.specs.RampInteriors.{is_ordinary, components, component_of, is_edge}
 use Rattle.interior_proposals.specs.Forest.{Rows}
+use Rattle.interior_proposals.specs.declared.owners.Owner.{Owner}
+use Rattle.interior_proposals.specs.declared.owners.Owner.TheVariants as owner-is
 
 -- the rows from `first` on, before `end`, stand in the list, and what they name has one of n entries
 pub record Walkable (rows : List ℕ) (first end n : ℕ) : Type 0 where
@@ -25,14 +27,43 @@ low_named names r p = eqb (entry_at names p.lo) r
 abbrev pub pair_named : List ℕ → ℕ → Pair → Bool
 pair_named names r p = eqb (entry_at names p.lo) r || eqb (entry_at names p.hi) r
 
--- in place of a component's name, where there are several; no region has this number
-abbrev pub several : ℕ
-several = 4294967295
+abbrev pub nobody : Owner
+nobody = owner-is.None
 
--- the name that the smaller regions of all pairs of l have
-pub data Common (names : List ℕ) (l : List Pair) : ℕ → Type 0 where
-  none : l ≡ [] → Common names l 0
-  one : (n : ℕ) → all (low_named names n) l ≡ true → any (low_named names n) l ≡ true → Common names l n
+abbrev pub one_owner : ℕ → Owner
+one_owner r = owner-is.One r
+
+abbrev pub several : Owner
+several = owner-is.Several
+
+abbrev pub is_one : Owner → Bool
+is_one owner-is.None = false
+is_one (owner-is.One r) = true
+is_one owner-is.Several = false
+
+-- the owner is the component named r
+abbrev pub owned_by : ℕ → Owner → Bool
+owned_by r owner-is.None = false
+owned_by r (owner-is.One n) = eqb n r
+owned_by r owner-is.Several = false
+
+-- the component, if it is one; else 0, which names none
+abbrev pub name_of : Owner → ℕ
+name_of owner-is.None = 0
+name_of (owner-is.One n) = n
+name_of owner-is.Several = 0
+
+abbrev pub owner_at : List Owner → ℕ → Owner
+owner_at owners i = get_or owners i nobody
+
+-- the component that boundary i has for its owner
+abbrev pub name_at : List Owner → ℕ → ℕ
+name_at owners i = name_of (owner_at owners i)
+
+-- the component whose name the smaller regions of all pairs of l have
+pub data Common (names : List ℕ) (l : List Pair) : Owner → Type 0 where
+  none : l ≡ [] → Common names l nobody
+  one : (n : ℕ) → all (low_named names n) l ≡ true → any (low_named names n) l ≡ true → Common names l (one_owner n)
   several_names : (m n : ℕ) → (m ≡ n → ⊥) → any (low_named names m) l ≡ true → any (low_named names n) l ≡ true → Common names l several
 
 module _ (C : Context) where
@@ -43,12 +74,12 @@ module _ (C : Context) where
   abbrev pub edge : ℕ → ℕ → Bool
   edge r i = is_edge C (components C) r i
 
-  -- v names the component in which all pairs of boundary i lie, if it is an ordinary full cut with a pair
-  pub record Owned (i v : ℕ) : Type 0 where
-    pub range : (v ≡ 0) ⊎ ((v ≡ several) ⊎ ((1 ≤ v) × (v ≤ C.regions)))
-    pub whole : (r : ℕ) → 1 ≤ r → r ≤ C.regions → eqb v r ≡ (edge r i && all_in_lem r i)
+  -- v is the component in which all pairs of boundary i lie, if it is an ordinary full cut with a pair
+  pub record Owned (i : ℕ) (v : Owner) : Type 0 where
+    pub range : (r : ℕ) → v ≡ one_owner r → (1 ≤ r) × (r ≤ C.regions)
+    pub whole : (r : ℕ) → 1 ≤ r → r ≤ C.regions → owned_by r v ≡ (edge r i && all_in_lem r i)
     pub part : (r : ℕ) → 1 ≤ r → r ≤ C.regions → edge r i ≡ true → (v ≡ several → ⊥) → all_in_lem r i ≡ true
     pub ordinary : v ≡ several → is_ordinary C i ≡ true
 
-  abbrev pub Owners : List ℕ → Type 0
-  Owners owners = (i : ℕ) → i < C.count → Owned i (get_or owners i 0)
+  abbrev pub Owners : List Owner → Type 0
+  Owners owners = (i : ℕ) → i < C.count → Owned i (owner_at owners i)

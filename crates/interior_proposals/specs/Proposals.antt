@@ -1,5 +1,5 @@
 -- A component and what is found about it before its records are looked at. Definitions only; assumes nothing.
-use Rattle.std.specs.Prelude.{ℕ, ◌≤◌, ◌<◌, ◌≡◌, Bool, true, false, not, ◌&&◌, ◌||◌, ◌⊎◌, eqb, length, get_or, Option, None, Some}
+use Rattle.std.specs.Prelude.{ℕ, ◌≤◌, ◌<◌, ◌≡◌, Bool, true, false, not, ◌&&◌, ◌⊎◌, length, get_or, Option, None, Some, MatchOption}
 use Rattle.std.proofs.Math.Bool.{cond}
 use mathlib.Core.List.{List, [], ◌∷◌}
 use Rattle.definitions.specs.Scan.{any, all, member, any_below_lem}
@@ -8,19 +8,20 @@ use Rattle.definitions.specs.Context.{Context, no_ramp}
 use Rattle.definitions.specs.RampInteriors.{Expansion, components, component_regions, component_ports, ports_fit, region_fits, expand_port}
 use Rattle.laws.specs.ListLaws.Beyond.{Beyond}
 use Rattle.interior_proposals.specs.Given.{Given}
-use Rattle.interior_proposals.specs.Owners.{entry_at, several, edge, Owners}
+use Rattle.interior_proposals.specs.Owners.{entry_at, one_owner, is_one, owned_by, owner_at, name_at, edge, Owners}
 use Rattle.interior_proposals.specs.Candidates.{Told, Mapped, candidate, both_ports}
 use Rattle.interior_proposals.specs.Leaves.{Inside, Single, Cleared, from}
+use Rattle.interior_proposals.specs.declared.owners.Owner.{Owner}
 use Rattle.interior_proposals.specs.declared.ports.Ports.{Ports}
 
 -- the lists show C, r is a region, and the owners of boundaries are known
-pub record Facing (C : Context) (boundaries tallies pairs starts names marks owners : List ℕ) (count r : ℕ) : Type 0 where
+pub record Facing (C : Context) (boundaries tallies pairs starts names marks : List ℕ) (owners : List Owner) (count r : ℕ) : Type 0 where
   pub given : Given C boundaries tallies pairs starts
   pub mapped : Mapped C pairs starts names marks r
   pub counted : C.count ≡ count
   pub owned : Owners C owners
 
-abbrev pub SomeFacing : List ℕ → List ℕ → List ℕ → List ℕ → List ℕ → List ℕ → List ℕ → ℕ → ℕ → Type 0
+abbrev pub SomeFacing : List ℕ → List ℕ → List ℕ → List ℕ → List ℕ → List ℕ → List Owner → ℕ → ℕ → Type 0
 SomeFacing boundaries tallies pairs starts names marks owners count r = (C : Context) × Facing C boundaries tallies pairs starts names marks owners count r
 
 module _ (C : Context) (r : ℕ) where
@@ -70,27 +71,36 @@ module _ (C : Context) (r : ℕ) where
 
 -- ---- all components
 
--- boundary i is the first that its owner, a component, has
-unfoldable pub is_first : List ℕ → ℕ → Bool
+-- a boundary before i has the component r for its owner
+unfoldable pub owned_before : List Owner → ℕ → ℕ → Bool
 unfolding any_below_lem
-is_first owners i = not (eqb (get_or owners i 0) 0 || eqb (get_or owners i 0) several) && not (any_below_lem i (λ j. eqb (get_or owners j 0) (get_or owners i 0)))
+owned_before owners i r = any_below_lem i (λ j. owned_by r (owner_at owners j))
+
+-- boundary i is the first that its owner, a component, has
+unfoldable pub is_first : List Owner → ℕ → Bool
+unfolding owned_before
+is_first owners i = is_one (owner_at owners i) && not (owned_before owners i (name_at owners i))
+
+-- r is the component of which boundary i is the first
+abbrev pub FirstOf : List Owner → ℕ → Option ℕ → Type 0
+FirstOf owners i found = MatchOption found (is_first owners i ≡ false) (λ r. (owner_at owners i ≡ one_owner r) × (is_first owners i ≡ true))
 
 -- what is found at boundary i
-unfoldable pub found_ports : Context → List ℕ → ℕ → Option Ports
+unfoldable pub found_ports : Context → List Owner → ℕ → Option Ports
 unfolding is_first proposed_ports
-found_ports C owners i = cond (is_first owners i) (proposed_ports C (get_or owners i 0)) None
+found_ports C owners i = cond (is_first owners i) (proposed_ports C (name_at owners i)) None
 
-module _ (C : Context) (owners names : List ℕ) where
+module _ (C : Context) (owners : List Owner) (names : List ℕ) where
   -- a component that no boundary before i has, and has an edge, is told by the names
   abbrev pub Unmet : ℕ → Type 0
-  Unmet i = (q : ℕ) → 1 ≤ q → q ≤ C.regions → any_below_lem C.count (edge C q) ≡ true → any_below_lem i (λ j. eqb (get_or owners j 0) q) ≡ false → Told C q names
+  Unmet i = (q : ℕ) → 1 ≤ q → q ≤ C.regions → any_below_lem C.count (edge C q) ≡ true → owned_before owners i q ≡ false → Told C q names
 
   -- what is found at boundary j expands to the regions that have the owner's name
   abbrev pub Settled : ℕ → Type 0
-  Settled j = (a b : ℕ) → found_ports C owners j ≡ both_ports a b → Inside C (get_or owners j 0) (expanded_of C (get_or owners j 0) a b).regions names
+  Settled j = (a b : ℕ) → found_ports C owners j ≡ both_ports a b → Inside C (name_at owners j) (expanded_of C (name_at owners j) a b).regions names
 
 -- the boundaries before i are done
-pub record Progress (C : Context) (owners was names wasMarks marks : List ℕ) (i : ℕ) : Type 0 where
+pub record Progress (C : Context) (owners : List Owner) (was names wasMarks marks : List ℕ) (i : ℕ) : Type 0 where
   pub long : C.regions ≤ length names
   pub unmet : Unmet C owners names i
   pub settled : (j : ℕ) → j < i → Settled C owners names j
@@ -98,18 +108,18 @@ pub record Progress (C : Context) (owners was names wasMarks marks : List ℕ) (
   pub cleared : Cleared C wasMarks marks
 
 -- the lists show C, and the owners are known
-pub record Owning (C : Context) (boundaries tallies pairs starts owners : List ℕ) (count : ℕ) : Type 0 where
+pub record Owning (C : Context) (boundaries tallies pairs starts : List ℕ) (owners : List Owner) (count : ℕ) : Type 0 where
   pub given : Given C boundaries tallies pairs starts
   pub counted : C.count ≡ count
   pub owned : Owners C owners
 
 -- some context is so, of which the boundaries before i are done
-abbrev pub SomeProgress : List ℕ → List ℕ → List ℕ → List ℕ → List ℕ → List ℕ → List ℕ → ℕ → ℕ → Type 0
+abbrev pub SomeProgress : List ℕ → List ℕ → List ℕ → List ℕ → List ℕ → List ℕ → List Owner → ℕ → ℕ → Type 0
 SomeProgress boundaries tallies pairs starts names marks owners count i =
     (C : Context) × (Owning C boundaries tallies pairs starts owners count × Progress C owners names names marks marks i)
 
 -- the ports found at the boundaries before i are stored
-abbrev pub FoundAll : Context → List ℕ → List (Option Ports) → ℕ → Type 0
+abbrev pub FoundAll : Context → List Owner → List (Option Ports) → ℕ → Type 0
 FoundAll C owners found i = (j : ℕ) → j < i → get_or found j None ≡ found_ports C owners j
 
 -- what is asked of the records of the regions that a component with these ports expands to

@@ -1,13 +1,16 @@
 // Candidates: components of one edge to eight whose edges have no pair elsewhere, and of which no region is anchored.
 ghost use Rattle.std.specs.Prelude.{◌≡◌, ◌≤◌, ◌<◌, length};
-ghost use Rattle.definitions.specs.Scan.{any, bit};
+ghost use Rattle.definitions.specs.Limits.{max_entries};
+ghost use Rattle.definitions.specs.Scan.{any, count_below};
 ghost use Rattle.definitions.specs.Context.{Context};
 ghost use Rattle.context.specs.Shown.{pairs_between};
-ghost use Rattle.interior_proposals.specs.Owners.{Walkable, Owned, Owners};
+ghost use Rattle.interior_proposals.specs.Owners.{Walkable, owned_by, owner_at, Owned, Owners};
 ghost use Rattle.interior_proposals.specs.Candidates.{Mapped, SomeMapped, AllMapped, is_marked, pair_marked, spoils_at, candidate};
 
-use crate::components::{larger_at, parent_of, smaller_at};
-use crate::owners::{SEVERAL, touches};
+use crate::components::parent_of;
+use crate::owners::{Components, Owner, touches};
+use context::PartitionContext;
+use context::pairs::row_at;
 
 const MAX_INTERIOR_EDGES: usize = 8;
 
@@ -25,69 +28,52 @@ fn any_anchored(marks: &[u16], pairs: &[u32], first: usize, end: usize) -> bool
     ensures { result ≡ any (pair_marked marks.now) (pairs_between pairs.now first end) }
 {
     (first..end).any(|k| {
-        is_anchored(marks, smaller_at(pairs, k)) | is_anchored(marks, larger_at(pairs, k))
+        let pair = row_at(pairs, k);
+        is_anchored(marks, pair.lo) | is_anchored(marks, pair.hi)
     })
 }
 
 // Whether boundary i is an edge that keeps the component r from being a candidate: it has a pair elsewhere, or a region of it is anchored.
-fn spoils(
-    pairs: &[u32],
-    starts: &[usize; 257],
-    names: &[u32],
-    marks: &[u16],
-    owner: u32,
-    i: usize,
-    r: u32,
-) -> bool
-    requires { SomeMapped pairs.now starts.now names.now marks.now r i }
+fn spoils(context: PartitionContext, known: Components, i: usize, r: u32) -> bool
+    requires { SomeMapped context.pairs.now context.starts.now known.names.now known.marks.now r i }
     ensures { (C : Context) →
-        Mapped C pairs.now starts.now names.now marks.now r →
+        Mapped C context.entry.pairs.now context.entry.starts.now known.entry.names.now known.entry.marks.now r →
         i < C.count →
-        Owned C i owner →
+        Owned C i (owner_at known.entry.owners.now i) →
         result ≡ spoils_at C r i }
 {
-    if owner == r {
-        return any_anchored(marks, pairs, starts[i], starts[i + 1]);
+    let first = context.starts[i];
+    let end = context.starts[i + 1];
+    match known.owners[i] {
+        Owner::None => false,
+        Owner::One(name) => (name == r) && any_anchored(known.marks, context.pairs, first, end),
+        Owner::Several => touches(known.names, context.pairs, first, end, r),
     }
-    if owner == SEVERAL {
-        return touches(names, pairs, starts[i], starts[i + 1], r);
-    }
-    false
 }
 
-fn one_if(b: bool) -> usize
-    ensures { (result ≡ bit b) × (result ≤ 1) }
+// How many edges lie whole in the component r.
+fn edge_count(owners: &[Owner; 256], count: usize, r: u32) -> usize
+    requires { count ≤ max_entries }
+    ensures { result ≡ count_below count (λ i. owned_by r (owner_at owners.now i)) }
 {
-    if b { 1 } else { 0 }
+    (0..count).filter(|&i| owners[i] == Owner::One(r)).count()
 }
 
 // Whether r names a candidate.
-pub fn is_candidate(
-    pairs: &[u32],
-    starts: &[usize; 257],
-    names: &[u32],
-    marks: &[u16],
-    owners: &[u32; 256],
-    count: usize,
-    r: u32,
-) -> bool
-    requires { AllMapped pairs.now starts.now names.now marks.now r count }
+pub fn is_candidate(context: PartitionContext, known: Components, r: u32) -> bool
+    requires { AllMapped context.pairs.now context.starts.now known.names.now known.marks.now r context.count }
     ensures { (C : Context) →
-        Mapped C pairs.now starts.now names.now marks.now r →
-        C.count ≡ count →
-        Owners C owners.now →
+        Mapped C context.entry.pairs.now context.entry.starts.now known.entry.names.now known.entry.marks.now r →
+        C.count ≡ context.entry.count →
+        Owners C known.entry.owners.now →
         result ≡ candidate C r }
 {
-    if parent_of(names, r) != r {
+    if parent_of(known.names, r) != r {
         return false;
     }
-    let mut edges = 0;
-    for i in 0..count {
-        let owner = owners[i];
-        if spoils(pairs, starts, names, marks, owner, i, r) {
-            return false;
-        }
-        edges += one_if(owner == r);
+    if (0..context.count).any(|i| spoils(context, known, i, r)) {
+        return false;
     }
+    let edges = edge_count(known.owners, context.count, r);
     (1 <= edges) & (edges <= MAX_INTERIOR_EDGES)
 }

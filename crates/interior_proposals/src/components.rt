@@ -3,15 +3,15 @@ ghost use Rattle.std.specs.Prelude.{◌≡◌, List, [], ◌∷◌, ℕ, suc, �
 ghost use Rattle.definitions.specs.Limits.{max_side, numbers_per_pair, numbers_per_boundary, tallies_per_span};
 ghost use Rattle.definitions.specs.Context.{Context};
 ghost use Rattle.definitions.specs.RampInteriors.{is_ordinary, links};
-ghost use Rattle.context.specs.Shown.{ShownBoundaries, ShownTallies, ShownAnchored, ShownIncidents, pair_at, pairs_between};
+ghost use Rattle.context.specs.Shown.{ShownBoundaries, ShownTallies, ShownAnchored, ShownIncidents, pairs_between};
+ghost use Rattle.context.specs.Rows.{pair_form};
 ghost use Rattle.laws.specs.ListLaws.Beyond.{Beyond};
 ghost use Rattle.interior_proposals.specs.Forest.{Parented, Rooted, Found, Joinable, Placed, Merged, Rows, RowsJoinable, Forest, Names};
 ghost use Rattle.interior_proposals.specs.Given.{Given, Lent, SomeLent, flags_of, alone, links_of, CutJoinable, CutsJoinable, Prepared, Known};
 
-use context::pairs::full_cut;
+use context::PartitionContext;
+use context::pairs::{Pair, row_at};
 use geometry::boundaries::kind_at;
-
-pub const NUMBERS_PER_PAIR: usize = 3;
 
 // The parent of region r.
 pub fn parent_of(parents: &[u32], r: u32) -> u32
@@ -35,6 +35,7 @@ fn root_of(parents: &mut [u32], r: u32) -> u32
 {
     let mut x = r;
     let mut p = parent_of(parents, x);
+    // Kept: the way goes from a region to its parent, and no range or chain has these numbers.
     while p != x {
         let above = parent_of(parents, p);
         set_parent(parents, x, above);
@@ -44,33 +45,17 @@ fn root_of(parents: &mut [u32], r: u32) -> u32
     x
 }
 
-// Joins the regions lo and hi: the larger root gets the smaller for its parent.
-fn join(parents: &mut [u32], lo: u32, hi: u32)
-    requires { Joinable parents.old (record { lo = lo; hi = hi }) }
+// Joins the regions of a pair: the larger root gets the smaller for its parent.
+fn join(parents: &mut [u32], pair: Pair)
+    requires { Joinable parents.old (pair_form pair) }
     ensures { (cs : List ℕ) →
         Parented cs parents.old →
-        Placed (length cs) (record { lo = lo; hi = hi }) →
-        Merged cs parents.old (record { lo = lo; hi = hi } ∷ []) parents.new }
+        Placed (length cs) (pair_form pair) →
+        Merged cs parents.old (pair_form pair ∷ []) parents.new }
 {
-    let a = root_of(parents, lo);
-    let b = root_of(parents, hi);
+    let a = root_of(parents, pair.lo);
+    let b = root_of(parents, pair.hi);
     set_parent(parents, a.max(b), a.min(b));
-}
-
-// The smaller region of row k.
-pub fn smaller_at(pairs: &[u32], k: usize) -> u32
-    requires { numbers_per_pair * k + 2 < length pairs.now }
-    ensures { result ≡ (pair_at pairs.now k).lo }
-{
-    pairs[NUMBERS_PER_PAIR * k + 1]
-}
-
-// The larger one.
-pub fn larger_at(pairs: &[u32], k: usize) -> u32
-    requires { numbers_per_pair * k + 2 < length pairs.now }
-    ensures { result ≡ (pair_at pairs.now k).hi }
-{
-    pairs[NUMBERS_PER_PAIR * k + 2]
 }
 
 // Joins the regions of each pair of the rows from `first` on, before `end`.
@@ -83,62 +68,53 @@ fn join_pairs(parents: &mut [u32], pairs: &[u32], first: usize, end: usize)
         Merged cs parents.old (pairs_between pairs.now first end) parents.new }
 {
     for k in first..end {
-        join(parents, smaller_at(pairs, k), larger_at(pairs, k));
+        join(parents, row_at(pairs, k));
     }
 }
 
 // Whether boundary i is an ordinary full cut: it has no ramp.
-pub fn is_ordinary(boundaries: &[u64], tallies: &[u32], i: usize) -> bool
-    requires { (numbers_per_boundary * i + 8 < length boundaries.now) × (tallies_per_span * i + 1 < length tallies.now) }
+pub fn is_ordinary(context: PartitionContext, i: usize) -> bool
+    requires { (numbers_per_boundary * i + 8 < length context.boundaries.now) × (tallies_per_span * i + 1 < length context.tallies.now) }
     ensures { (C : Context) →
-        ShownBoundaries C boundaries.now →
-        ShownTallies C tallies.now →
+        ShownBoundaries C context.entry.boundaries.now →
+        ShownTallies C context.entry.tallies.now →
         i < C.count →
         result ≡ is_ordinary C i }
 {
-    (kind_at(boundaries, i) == 0) & full_cut(tallies, i)
+    (kind_at(context.boundaries, i) == 0) & context.full_cut(i)
 }
 
 // Joins the regions of each pair of boundary i, if it is an ordinary full cut.
-fn join_cut(
-    parents: &mut [u32],
-    boundaries: &[u64],
-    tallies: &[u32],
-    pairs: &[u32],
-    starts: &[usize; 257],
-    i: usize,
-)
-    requires { CutJoinable boundaries.now tallies.now pairs.now starts.now parents.old i }
+fn join_cut(parents: &mut [u32], context: PartitionContext, i: usize)
+    requires { CutJoinable context.boundaries.now context.tallies.now context.pairs.now context.starts.now parents.old i }
     ensures { (C : Context) (cs : List ℕ) →
-        Given C boundaries.now tallies.now pairs.now starts.now →
+        Given C context.entry.boundaries.now context.entry.tallies.now context.entry.pairs.now context.entry.starts.now →
         i < C.count →
         Parented cs parents.old →
         length cs ≡ suc C.regions →
         Merged cs parents.old (links_of C i) parents.new }
 {
-    if is_ordinary(boundaries, tallies, i) {
-        join_pairs(parents, pairs, starts[i], starts[i + 1]);
+    if is_ordinary(context, i) {
+        join_pairs(
+            parents,
+            context.pairs,
+            context.starts[i],
+            context.starts[i + 1],
+        );
     }
 }
 
 // Joins the regions of the pairs of all ordinary full cuts.
-fn join_cuts(
-    parents: &mut [u32],
-    boundaries: &[u64],
-    tallies: &[u32],
-    pairs: &[u32],
-    starts: &[usize; 257],
-    count: usize,
-)
-    requires { CutsJoinable boundaries.now tallies.now pairs.now starts.now parents.old count }
+fn join_cuts(parents: &mut [u32], context: PartitionContext)
+    requires { CutsJoinable context.boundaries.now context.tallies.now context.pairs.now context.starts.now parents.old context.count }
     ensures { (C : Context) →
-        Given C boundaries.now tallies.now pairs.now starts.now →
-        C.count ≡ count →
+        Given C context.entry.boundaries.now context.entry.tallies.now context.entry.pairs.now context.entry.starts.now →
+        C.count ≡ context.entry.count →
         Parented (alone C) parents.old →
         Merged (alone C) parents.old (links C) parents.new }
 {
-    for i in 0..count {
-        join_cut(parents, boundaries, tallies, pairs, starts, i);
+    for i in 0..context.count {
+        join_cut(parents, context, i);
     }
 }
 
@@ -182,23 +158,19 @@ fn prepare(marks: &mut [u16], counts: &mut [u32], regions: usize)
 
 // Names the component of each region by its least region, in place of the counts of incidents.
 pub fn name_components(
-    boundaries: &[u64],
-    tallies: &[u32],
-    pairs: &[u32],
-    starts: &[usize; 257],
-    count: usize,
+    context: PartitionContext,
     regions: usize,
     marks: &mut [u16],
     counts: &mut [u32],
 )
-    requires { SomeLent boundaries.now tallies.now pairs.now starts.now count regions marks.old counts.old }
+    requires { SomeLent context.boundaries.now context.tallies.now context.pairs.now context.starts.now context.count regions marks.old counts.old }
     ensures known { (C : Context) →
-        Lent C boundaries.now tallies.now pairs.now starts.now count regions marks.old
-        counts.old →
+        Lent C context.entry.boundaries.now context.entry.tallies.now context.entry.pairs.now context.entry.starts.now
+        context.entry.count regions marks.old counts.old →
         Known C marks.new counts.new }
     ensures beyond { Beyond regions marks.old marks.new × Beyond regions counts.old counts.new }
 {
     prepare(marks, counts, regions);
-    join_cuts(counts, boundaries, tallies, pairs, starts, count);
+    join_cuts(counts, context);
     flatten(counts, regions);
 }

@@ -11,8 +11,8 @@ ghost use Rattle.context.specs.Records.{record_of};
 ghost use Rattle.interior_proposals.specs.Fits.{Listed, Aimed, elevation_fits, is_within};
 ghost use Rattle.geometry.specs.Placed.{Placed};
 
-use context::Region;
-use context::pairs::full_cut;
+use crate::ports::Ports;
+use context::{PartitionContext, Region};
 use geometry::Point;
 use geometry::boundaries::{center_of, kind_at, lower_at, ramp_at, upper_at};
 use geometry::points::distance;
@@ -31,35 +31,42 @@ pub struct Reach {
 }
 
 // Whether both ports are full cuts and the two ends of one ramp.
-pub fn ports_fit(boundaries: &[u64], tallies: &[u32], a: usize, b: usize) -> bool
-    requires { Listed boundaries.now tallies.now a × Listed boundaries.now tallies.now b }
+pub fn ports_fit(context: PartitionContext, ports: Ports) -> bool
+    requires first_listed { Listed context.boundaries.now context.tallies.now ports.first }
+    requires second_listed { Listed context.boundaries.now context.tallies.now ports.second }
     ensures { (C : Context) →
-        ShownBoundaries C boundaries.now →
-        ShownTallies C tallies.now →
-        a < C.count →
-        b < C.count →
-        result ≡ ports_fit C a b }
+        ShownBoundaries C context.entry.boundaries.now →
+        ShownTallies C context.entry.tallies.now →
+        ports.first < C.count →
+        ports.second < C.count →
+        result ≡ ports_fit C ports.first ports.second }
 {
-    let first = kind_at(boundaries, a);
-    let second = kind_at(boundaries, b);
+    let first = kind_at(context.boundaries, ports.first);
+    let second = kind_at(context.boundaries, ports.second);
+    let same_ramp = ramp_at(context.boundaries, ports.first)
+        == ramp_at(context.boundaries, ports.second);
     (first != 0)
         & (second != 0)
-        & full_cut(tallies, a)
-        & full_cut(tallies, b)
-        & (ramp_at(boundaries, a) == ramp_at(boundaries, b))
+        & context.full_cut(ports.first)
+        & context.full_cut(ports.second)
+        & same_ramp
         & (first != second)
 }
 
-// The reach of the ports a and b.
-pub fn reach_of(boundaries: &[u64], a: usize, b: usize) -> Reach
-    requires { Placed boundaries.now a × Placed boundaries.now b }
-    ensures { (C : Context) → ShownBoundaries C boundaries.now → a < C.count → b < C.count → Aimed C a b result }
+// The reach of two ports.
+pub fn reach_of(boundaries: &[u64], ports: Ports) -> Reach
+    requires { Placed boundaries.now ports.first × Placed boundaries.now ports.second }
+    ensures { (C : Context) →
+        ShownBoundaries C boundaries.now →
+        ports.first < C.count →
+        ports.second < C.count →
+        Aimed C ports.first ports.second result }
 {
     Reach {
-        lower: lower_at(boundaries, a),
-        upper: upper_at(boundaries, a),
-        first: center_of(boundaries, a),
-        second: center_of(boundaries, b),
+        lower: lower_at(boundaries, ports.first),
+        upper: upper_at(boundaries, ports.first),
+        first: center_of(boundaries, ports.first),
+        second: center_of(boundaries, ports.second),
     }
 }
 

@@ -4,11 +4,13 @@ ghost use Rattle.definitions.specs.Scan.{all, member};
 ghost use Rattle.definitions.specs.Context.{Context};
 ghost use Rattle.definitions.specs.RampInteriors.{inside_count, exteriors, expand_pair, expand_pairs};
 ghost use Rattle.context.specs.Shown.{pairs_between};
+ghost use Rattle.context.specs.Rows.{pair_form};
 ghost use Rattle.interior_proposals.specs.Given.{Marked};
 ghost use Rattle.interior_proposals.specs.Owners.{Walkable, entry_at};
 ghost use Rattle.interior_proposals.specs.Leaves.{Reachable, Inside, Exteriored, Cleared, from, Held, RowOf, Ported, Walked};
 
-use crate::components::{larger_at, parent_of, set_parent, smaller_at};
+use crate::components::{parent_of, set_parent};
+use context::pairs::{Pair, row_at};
 
 // Whether region x is marked as an exterior.
 fn is_exterior(marks: &[u16], x: u32) -> bool
@@ -71,12 +73,11 @@ fn mark_exteriors(
 {
     let mut fit = true;
     for k in first..end {
-        let lo = smaller_at(pairs, k);
-        let hi = larger_at(pairs, k);
-        let a = parent_of(names, lo) == r;
-        let b = parent_of(names, hi) == r;
-        mark_exterior(marks, hi, a & !b);
-        mark_exterior(marks, lo, b & !a);
+        let pair = row_at(pairs, k);
+        let a = parent_of(names, pair.lo) == r;
+        let b = parent_of(names, pair.hi) == r;
+        mark_exterior(marks, pair.hi, a & !b);
+        mark_exterior(marks, pair.lo, b & !a);
         fit = fit & !(a & b);
     }
     fit
@@ -92,8 +93,9 @@ fn clear_exteriors(marks: &mut [u16], pairs: &[u32], first: usize, end: usize)
     ensures marks_length { length marks.new ≡ length marks.old }
 {
     for k in first..end {
-        clear_exterior(marks, smaller_at(pairs, k));
-        clear_exterior(marks, larger_at(pairs, k));
+        let pair = row_at(pairs, k);
+        clear_exterior(marks, pair.lo);
+        clear_exterior(marks, pair.hi);
     }
 }
 
@@ -105,42 +107,32 @@ fn rows_split(names: &[u32], pairs: &[u32], first: usize, end: usize, r: u32) ->
         Inside C r rs names.now →
         result ≡ all (λ p. eqb (inside_count rs p) 1) (pairs_between pairs.now first end) }
 {
-    for k in first..end {
-        let a = parent_of(names, smaller_at(pairs, k)) == r;
-        let b = parent_of(names, larger_at(pairs, k)) == r;
-        if (a & b) | (!a & !b) {
-            return false;
-        }
-    }
-    true
-}
-
-fn choose(b: bool, x: u32, y: u32) -> u32
-    ensures { result ≡ cond b x y }
-{
-    if b { x } else { y }
+    (first..end).all(|k| {
+        let pair = row_at(pairs, k);
+        (parent_of(names, pair.lo) == r) != (parent_of(names, pair.hi) == r)
+    })
 }
 
 // A row with no region named r names one exterior and one leaf, which gets the name. Whether it does.
-fn expand_row(names: &mut [u32], marks: &[u16], lo: u32, hi: u32, r: u32) -> bool
-    requires lo_named { (1 ≤ lo) × ((lo ≤ length names.old) × (lo ≤ length marks.now)) }
-    requires hi_named { (1 ≤ hi) × ((hi ≤ length names.old) × (hi ≤ length marks.now)) }
+fn expand_row(names: &mut [u32], marks: &[u16], pair: Pair, r: u32) -> bool
+    requires lo_named { (1 ≤ pair.lo) × ((pair.lo ≤ length names.old) × (pair.lo ≤ length marks.now)) }
+    requires hi_named { (1 ≤ pair.hi) × ((pair.hi ≤ length names.old) × (pair.hi ≤ length marks.now)) }
     ensures expanded { (C : Context) (i : ℕ) (rs es : List ℕ) (v : Bool) →
-        RowOf C i lo hi →
+        RowOf C i pair.lo pair.hi →
         Inside C r rs names.old →
         Marked C (λ y. member y es) marks.now →
-        Held C i r (expand_pair C i es (from rs v) (record { lo = lo; hi = hi })) v names.old names.new result }
+        Held C i r (expand_pair C i es (from rs v) (pair_form pair)) v names.old names.new result }
     ensures names_length { length names.new ≡ length names.old }
 {
-    if (parent_of(names, lo) == r) | (parent_of(names, hi) == r) {
+    if (parent_of(names, pair.lo) == r) | (parent_of(names, pair.hi) == r) {
         return true;
     }
-    let a = is_exterior(marks, lo);
-    let b = is_exterior(marks, hi);
-    if (a & b) | (!a & !b) {
+    let a = is_exterior(marks, pair.lo);
+    let b = is_exterior(marks, pair.hi);
+    if a == b {
         return false;
     }
-    let leaf = choose(a, hi, lo);
+    let leaf = if a { pair.hi } else { pair.lo };
     if !is_leaf(marks, leaf) {
         return false;
     }
@@ -167,9 +159,7 @@ fn expand_rows(
 {
     let mut fit = true;
     for k in first..end {
-        let lo = smaller_at(pairs, k);
-        let hi = larger_at(pairs, k);
-        let ok = expand_row(names, marks, lo, hi, r);
+        let ok = expand_row(names, marks, row_at(pairs, k), r);
         fit = fit & ok;
     }
     fit

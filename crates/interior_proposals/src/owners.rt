@@ -7,10 +7,25 @@ ghost use Rattle.context.specs.Shown.{pairs_between};
 ghost use Rattle.interior_proposals.specs.Given.{Kept, SomeKept, AllKept};
 ghost use Rattle.interior_proposals.specs.Owners.{Walkable, pair_named, Common, Owned, Owners};
 
-use crate::components::{is_ordinary, larger_at, parent_of, smaller_at};
+use crate::components::{is_ordinary, parent_of};
+use context::PartitionContext;
+use context::pairs::row_at;
 
-// In place of a component's name, where there are several: no region has this number.
-pub const SEVERAL: u32 = 4294967295;
+// The component in which all pairs of a boundary lie, by its name: none where the boundary is no ordinary full cut or has no pair.
+#[derive(Clone, Copy, PartialEq, Eq)]
+pub enum Owner {
+    None,
+    One(u32),
+    Several,
+}
+
+// What is known of components: the name that each region has, the marks of regions, and the owners of boundaries.
+#[derive(Clone, Copy)]
+pub struct Components<'a> {
+    pub names: &'a [u32],
+    pub marks: &'a [u16],
+    pub owners: &'a [Owner; 256],
+}
 
 // Whether a region of a row from `first` on, before `end`, is named r.
 pub fn touches(names: &[u32], pairs: &[u32], first: usize, end: usize, r: u32) -> bool
@@ -18,70 +33,56 @@ pub fn touches(names: &[u32], pairs: &[u32], first: usize, end: usize, r: u32) -
     ensures { result ≡ any (pair_named names.now r) (pairs_between pairs.now first end) }
 {
     (first..end).any(|k| {
-        let lo = parent_of(names, smaller_at(pairs, k));
-        let hi = parent_of(names, larger_at(pairs, k));
-        (lo == r) | (hi == r)
+        let pair = row_at(pairs, k);
+        (parent_of(names, pair.lo) == r) | (parent_of(names, pair.hi) == r)
     })
 }
 
-// The name that the smaller regions of all rows from `first` on, before `end`, have.
-fn common_name(names: &[u32], pairs: &[u32], first: usize, end: usize) -> u32
+// The component that the smaller regions of all rows from `first` on, before `end`, have for their name.
+fn common_name(names: &[u32], pairs: &[u32], first: usize, end: usize) -> Owner
     requires { Walkable pairs.now first end (length names.now) }
     ensures { Common names.now (pairs_between pairs.now first end) result }
 {
     if first == end {
-        return 0;
+        return Owner::None;
     }
-    let name = parent_of(names, smaller_at(pairs, first));
-    for k in first + 1..end {
-        if parent_of(names, smaller_at(pairs, k)) != name {
-            return SEVERAL;
-        }
+    let name = parent_of(names, row_at(pairs, first).lo);
+    if (first..end).all(|k| parent_of(names, row_at(pairs, k).lo) == name) {
+        Owner::One(name)
+    } else {
+        Owner::Several
     }
-    name
 }
 
-// The component in which all pairs of boundary i lie: 0 where it is no ordinary full cut or has no pair.
-fn owner_of(
-    boundaries: &[u64],
-    tallies: &[u32],
-    pairs: &[u32],
-    starts: &[usize; 257],
-    names: &[u32],
-    i: usize,
-) -> u32
-    requires { SomeKept boundaries.now tallies.now pairs.now starts.now names.now i }
+fn owner_of(context: PartitionContext, names: &[u32], i: usize) -> Owner
+    requires { SomeKept context.boundaries.now context.tallies.now context.pairs.now context.starts.now names.now i }
     ensures { (C : Context) →
-        Kept C boundaries.now tallies.now pairs.now starts.now names.now →
+        Kept C context.entry.boundaries.now context.entry.tallies.now context.entry.pairs.now context.entry.starts.now names.now →
         i < C.count →
         Owned C i result }
 {
-    if is_ordinary(boundaries, tallies, i) {
-        common_name(names, pairs, starts[i], starts[i + 1])
+    if is_ordinary(context, i) {
+        common_name(
+            names,
+            context.pairs,
+            context.starts[i],
+            context.starts[i + 1],
+        )
     } else {
-        0
+        Owner::None
     }
 }
 
 // The owners of all boundaries.
-pub fn find_owners(
-    boundaries: &[u64],
-    tallies: &[u32],
-    pairs: &[u32],
-    starts: &[usize; 257],
-    names: &[u32],
-    count: usize,
-    owners: &mut [u32; 256],
-)
-    requires kept { AllKept boundaries.now tallies.now pairs.now starts.now names.now count }
+pub fn find_owners(context: PartitionContext, names: &[u32], owners: &mut [Owner; 256])
+    requires kept { AllKept context.boundaries.now context.tallies.now context.pairs.now context.starts.now names.now context.count }
     requires owners_room { length owners.old ≡ max_entries }
     ensures { (C : Context) →
-        Kept C boundaries.now tallies.now pairs.now starts.now names.now →
-        C.count ≡ count →
+        Kept C context.entry.boundaries.now context.entry.tallies.now context.entry.pairs.now context.entry.starts.now names.now →
+        C.count ≡ context.entry.count →
         Owners C owners.new }
 {
-    for i in 0..count {
-        let owner = owner_of(boundaries, tallies, pairs, starts, names, i);
-        owners[i] = owner;
+    for i in 0..context.count {
+        owners[i] = owner_of(context, names, i);
     }
 }

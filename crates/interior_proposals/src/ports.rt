@@ -2,10 +2,11 @@
 ghost use Rattle.std.specs.Prelude.{◌≡◌, true, ◌≤◌, ◌<◌, IfSome};
 ghost use Rattle.definitions.specs.Context.{Context};
 ghost use Rattle.definitions.specs.RampInteriors.{components, component_ports};
-ghost use Rattle.interior_proposals.specs.Owners.{Owned, Owners};
+ghost use Rattle.interior_proposals.specs.Owners.{owner_at, Owned, Owners};
 ghost use Rattle.interior_proposals.specs.Candidates.{Mapped, SomeMapped, AllMapped, candidate, port, NextPort, two_ports};
 
-use crate::owners::{SEVERAL, touches};
+use crate::owners::{Components, Owner, touches};
+use context::PartitionContext;
 
 // The two ports of a candidate that has no others.
 #[derive(Clone, Copy)]
@@ -15,78 +16,56 @@ pub struct Ports {
 }
 
 // Whether boundary i is a port of the candidate r.
-fn is_port(
-    pairs: &[u32],
-    starts: &[usize; 257],
-    names: &[u32],
-    marks: &[u16],
-    owner: u32,
-    i: usize,
-    r: u32,
-) -> bool
-    requires { SomeMapped pairs.now starts.now names.now marks.now r i }
+fn is_port(context: PartitionContext, known: Components, i: usize, r: u32) -> bool
+    requires { SomeMapped context.pairs.now context.starts.now known.names.now known.marks.now r i }
     ensures { (C : Context) →
-        Mapped C pairs.now starts.now names.now marks.now r →
+        Mapped C context.entry.pairs.now context.entry.starts.now known.entry.names.now known.entry.marks.now r →
         i < C.count →
-        Owned C i owner →
+        Owned C i (owner_at known.entry.owners.now i) →
         candidate C r ≡ true →
         result ≡ port C r i }
 {
-    if owner == r {
-        return false;
+    match known.owners[i] {
+        // It is an edge of r, or all its pairs lie in another component.
+        Owner::One(_) => false,
+        Owner::None | Owner::Several => touches(
+            known.names,
+            context.pairs,
+            context.starts[i],
+            context.starts[i + 1],
+            r,
+        ),
     }
-    // All pairs of such a boundary lie in its owner.
-    if (owner != 0) & (owner != SEVERAL) {
-        return false;
-    }
-    touches(names, pairs, starts[i], starts[i + 1], r)
 }
 
 // The first port of the candidate r from `first` on.
-fn next_port(
-    pairs: &[u32],
-    starts: &[usize; 257],
-    names: &[u32],
-    marks: &[u16],
-    owners: &[u32; 256],
-    count: usize,
-    r: u32,
-    first: usize,
-) -> Option<usize>
-    requires mapped { AllMapped pairs.now starts.now names.now marks.now r count }
-    requires ordered { first ≤ count }
+fn next_port(context: PartitionContext, known: Components, r: u32, first: usize) -> Option<usize>
+    requires mapped { AllMapped context.pairs.now context.starts.now known.names.now known.marks.now r context.count }
+    requires ordered { first ≤ context.count }
     ensures next_port { (C : Context) →
-        Mapped C pairs.now starts.now names.now marks.now r →
-        C.count ≡ count →
-        Owners C owners.now →
+        Mapped C context.entry.pairs.now context.entry.starts.now known.entry.names.now known.entry.marks.now r →
+        C.count ≡ context.entry.count →
+        Owners C known.entry.owners.now →
         candidate C r ≡ true →
-        NextPort C r count first result }
-    ensures bound { IfSome result (λ i. i < count) }
+        NextPort C r context.entry.count first result }
+    ensures bound { IfSome result (λ i. i < context.entry.count) }
 {
-    (first..count).find(|&i| is_port(pairs, starts, names, marks, owners[i], i, r))
+    (first..context.count).find(|&i| is_port(context, known, i, r))
 }
 
 // The ports of the candidate r, if they are two.
-pub fn find_ports(
-    pairs: &[u32],
-    starts: &[usize; 257],
-    names: &[u32],
-    marks: &[u16],
-    owners: &[u32; 256],
-    count: usize,
-    r: u32,
-) -> Option<Ports>
-    requires { AllMapped pairs.now starts.now names.now marks.now r count }
+pub fn find_ports(context: PartitionContext, known: Components, r: u32) -> Option<Ports>
+    requires { AllMapped context.pairs.now context.starts.now known.names.now known.marks.now r context.count }
     ensures { (C : Context) →
-        Mapped C pairs.now starts.now names.now marks.now r →
-        C.count ≡ count →
-        Owners C owners.now →
+        Mapped C context.entry.pairs.now context.entry.starts.now known.entry.names.now known.entry.marks.now r →
+        C.count ≡ context.entry.count →
+        Owners C known.entry.owners.now →
         candidate C r ≡ true →
         result ≡ two_ports (component_ports C (components C) r) }
 {
-    let first = next_port(pairs, starts, names, marks, owners, count, r, 0)?;
-    let second = next_port(pairs, starts, names, marks, owners, count, r, first + 1)?;
-    match next_port(pairs, starts, names, marks, owners, count, r, second + 1) {
+    let first = next_port(context, known, r, 0)?;
+    let second = next_port(context, known, r, first + 1)?;
+    match next_port(context, known, r, second + 1) {
         None => Some(Ports { first, second }),
         Some(_) => None,
     }

@@ -5,138 +5,149 @@ ghost use Rattle.definitions.specs.Context.{Context};
 ghost use Rattle.context.specs.Shown.{ShownPairs};
 ghost use Rattle.interior_proposals.specs.Given.{Marked};
 ghost use Rattle.interior_proposals.specs.Leaves.{Inside, PortReachable, BothWalked};
-ghost use Rattle.interior_proposals.specs.Proposals.{Facing, SomeFacing, Proposed, is_first, found_ports, Progress, Owning, SomeProgress, FoundAll};
+ghost use Rattle.interior_proposals.specs.Proposals.{Facing, SomeFacing, Proposed, FirstOf, found_ports, Progress, Owning, SomeProgress, FoundAll};
 
 use crate::candidates::is_candidate;
 use crate::fits::ports_fit;
 use crate::leaves::expand_port;
-use crate::owners::SEVERAL;
+use crate::owners::{Components, Owner};
 use crate::ports::{Ports, find_ports};
+use context::PartitionContext;
 
-// The leaves beyond the ports a and b. Whether both are valid.
+// The leaves beyond both ports. Whether both are valid.
 fn expand_ports(
     names: &mut [u32],
     marks: &mut [u16],
-    pairs: &[u32],
-    starts: &[usize; 257],
-    a: usize,
-    b: usize,
+    context: PartitionContext,
+    ports: Ports,
     r: u32,
 ) -> bool
-    requires { PortReachable pairs.now starts.now names.old marks.old a × PortReachable pairs.now starts.now names.old marks.old b }
+    requires first_reachable { PortReachable context.pairs.now context.starts.now names.old marks.old ports.first }
+    requires second_reachable { PortReachable context.pairs.now context.starts.now names.old marks.old ports.second }
     ensures expanded { (C : Context) (rs : List ℕ) →
-        ShownPairs C pairs.now starts.now →
-        a < C.count →
-        b < C.count →
+        ShownPairs C context.entry.pairs.now context.entry.starts.now →
+        ports.first < C.count →
+        ports.second < C.count →
         Inside C r rs names.old →
         Marked C (λ y. false) marks.old →
-        BothWalked C a b r rs names.old names.new marks.old marks.new result }
+        BothWalked C ports.first ports.second r rs names.old names.new marks.old marks.new result }
     ensures lengths { (length names.new ≡ length names.old) × (length marks.new ≡ length marks.old) }
 {
-    let first = expand_port(names, marks, pairs, starts[a], starts[a + 1], r);
-    let second = expand_port(names, marks, pairs, starts[b], starts[b + 1], r);
-    first & second
+    let Ports { first, second } = ports;
+    let starts = context.starts;
+    let before = expand_port(
+        names,
+        marks,
+        context.pairs,
+        starts[first],
+        starts[first + 1],
+        r,
+    );
+    let behind = expand_port(
+        names,
+        marks,
+        context.pairs,
+        starts[second],
+        starts[second + 1],
+        r,
+    );
+    before & behind
 }
 
 // The two ports of the component r, if it is a candidate with two ports that fit and are valid. The names then hold r for each of its regions and leaves.
 pub fn propose(
-    boundaries: &[u64],
-    tallies: &[u32],
-    pairs: &[u32],
-    starts: &[usize; 257],
+    context: PartitionContext,
     names: &mut [u32],
     marks: &mut [u16],
-    owners: &[u32; 256],
-    count: usize,
+    owners: &[Owner; 256],
     r: u32,
 ) -> Option<Ports>
-    requires { SomeFacing boundaries.now tallies.now pairs.now starts.now names.old marks.old owners.now count r }
+    requires { SomeFacing context.boundaries.now context.tallies.now context.pairs.now context.starts.now names.old marks.old
+        owners.now context.count r }
     ensures proposed { (C : Context) →
-        Facing C boundaries.now tallies.now pairs.now starts.now names.old marks.old
-        owners.now count r →
+        Facing C context.entry.boundaries.now context.entry.tallies.now context.entry.pairs.now context.entry.starts.now names.old
+        marks.old owners.now context.entry.count r →
         Proposed C r names.old names.new marks.old marks.new result }
     ensures lengths { (length names.new ≡ length names.old) × (length marks.new ≡ length marks.old) }
 {
-    if !is_candidate(pairs, starts, names, marks, owners, count, r) {
+    let known = Components {
+        names,
+        marks,
+        owners,
+    };
+    if !is_candidate(context, known, r) {
         return None;
     }
-    let ports = find_ports(pairs, starts, names, marks, owners, count, r)?;
-    if !ports_fit(boundaries, tallies, ports.first, ports.second) {
+    let ports = find_ports(context, known, r)?;
+    if !ports_fit(context, ports) {
         return None;
     }
-    if expand_ports(names, marks, pairs, starts, ports.first, ports.second, r) {
+    if expand_ports(names, marks, context, ports, r) {
         Some(ports)
     } else {
         None
     }
 }
 
-// Whether boundary i is the first that its owner, a component, has.
-fn is_first(owners: &[u32; 256], i: usize) -> bool
+// The component of which boundary i is the first edge.
+fn first_of(owners: &[Owner; 256], i: usize) -> Option<u32>
     requires { i < max_entries }
-    ensures { result ≡ is_first owners.now i }
+    ensures { FirstOf owners.now i result }
 {
-    let owner = owners[i];
-    if (owner == 0) | (owner == SEVERAL) {
-        return false;
+    match owners[i] {
+        Owner::None | Owner::Several => None,
+        Owner::One(name) => {
+            if (0..i).any(|j| owners[j] == Owner::One(name)) {
+                None
+            } else {
+                Some(name)
+            }
+        }
     }
-    !(0..i).any(|j| owners[j] == owner)
 }
 
 // What is found at boundary i, if it comes first.
 fn propose_at(
-    boundaries: &[u64],
-    tallies: &[u32],
-    pairs: &[u32],
-    starts: &[usize; 257],
+    context: PartitionContext,
     names: &mut [u32],
     marks: &mut [u16],
-    owners: &[u32; 256],
-    count: usize,
+    owners: &[Owner; 256],
     i: usize,
 ) -> Option<Ports>
-    requires i_within { i < count }
-    requires progress { SomeProgress boundaries.now tallies.now pairs.now starts.now names.old marks.old owners.now count i }
+    requires i_within { i < context.count }
+    requires progress { SomeProgress context.boundaries.now context.tallies.now context.pairs.now context.starts.now names.old marks.old
+        owners.now context.count i }
     ensures proposed { (C : Context) (was wasMarks : List ℕ) →
-        Owning C boundaries.now tallies.now pairs.now starts.now owners.now count →
+        Owning C context.entry.boundaries.now context.entry.tallies.now context.entry.pairs.now context.entry.starts.now owners.now
+        context.entry.count →
         Progress C owners.now was names.old wasMarks marks.old i →
         Progress C owners.now was names.new wasMarks marks.new (i + 1) × (result ≡ found_ports C owners.now i) }
     ensures lengths { (length names.new ≡ length names.old) × (length marks.new ≡ length marks.old) }
 {
-    if is_first(owners, i) {
-        propose(
-            boundaries, tallies, pairs, starts, names, marks, owners, count, owners[i],
-        )
-    } else {
-        None
-    }
+    let r = first_of(owners, i)?;
+    propose(context, names, marks, owners, r)
 }
 
 // What is found of all components, at the first boundary of each.
 pub fn propose_all(
-    boundaries: &[u64],
-    tallies: &[u32],
-    pairs: &[u32],
-    starts: &[usize; 257],
+    context: PartitionContext,
     names: &mut [u32],
     marks: &mut [u16],
-    owners: &[u32; 256],
-    count: usize,
+    owners: &[Owner; 256],
     found: &mut [Option<Ports>; 256],
 )
-    requires progress { SomeProgress boundaries.now tallies.now pairs.now starts.now names.old marks.old owners.now count 0 }
+    requires progress { SomeProgress context.boundaries.now context.tallies.now context.pairs.now context.starts.now names.old marks.old
+        owners.now context.count 0 }
     requires room { length found.old ≡ max_entries }
     ensures proposed { (C : Context) (was wasMarks : List ℕ) →
-        Owning C boundaries.now tallies.now pairs.now starts.now owners.now count →
+        Owning C context.entry.boundaries.now context.entry.tallies.now context.entry.pairs.now context.entry.starts.now owners.now
+        context.entry.count →
         Progress C owners.now was names.old wasMarks marks.old 0 →
         Progress C owners.now was names.new wasMarks marks.new C.count
         × FoundAll C owners.now found.new C.count }
     ensures lengths { (length names.new ≡ length names.old) × (length marks.new ≡ length marks.old) }
 {
-    for i in 0..count {
-        let ports = propose_at(
-            boundaries, tallies, pairs, starts, names, marks, owners, count, i,
-        );
-        found[i] = ports;
+    for i in 0..context.count {
+        found[i] = propose_at(context, names, marks, owners, i);
     }
 }

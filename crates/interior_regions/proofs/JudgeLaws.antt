@@ -1,10 +1,9 @@
 -- What is found at the places of rows is what is asked of the regions that a component expands to (`judged_two`), and where nothing was found, nothing is
 -- (`judged_none`). The boundaries whose owners are accepted are those that the pass removes (`marked-removed`). Assumes Sound.
-use Prim.Native.Nat.{ℕ, ◌-◌, ◌*◌, ◌≤◌, ◌<◌}
+use Prim.Native.Nat.{ℕ, suc, ◌-◌, ◌*◌, ◌≤◌, ◌<◌}
 use native.Mathlib.Omega.{arith}
 use mathlib.Core.Path.{◌≡◌, refl, sym, ap, ap₂, subst, ◌∙◌}
-use mathlib.Core.Bool.{Bool, true, false, not, ◌&&◌, ◌||◌, cond, true≢false, false≢true}
-use mathlib.Core.Logic.{⊎_elim}
+use mathlib.Core.Bool.{Bool, true, false, not, ◌&&◌, ◌||◌, cond, and-false, true≢false, false≢true}
 use mathlib.Core.List.{List, [], ◌∷◌}
 use lib.ListN.{get_or}
 use lib.Dec.{eqb, ltb, leb}
@@ -21,15 +20,18 @@ use Rattle.laws.specs.ListLaws.ScanSteps.{all_intro, any-fails_at}
 use Rattle.laws.specs.SetLaws.Sets.{member-all}
 use Rattle.laws.specs.RustContext.SoundContext.{Sound}
 use Rattle.context.specs.Shown.{ShownPairs}
-use Rattle.interior_proposals.specs.Owners.{several, edge, Owners}
+use Rattle.interior_proposals.specs.declared.owners.Owner.{Owner}
+use Rattle.interior_proposals.specs.declared.owners.Owner.TheVariants as owner-is
+use Rattle.interior_proposals.specs.Owners.{one_owner, is_one, owned_by, name_of, owner_at, name_at, edge, Owners}
 use Rattle.interior_proposals.specs.Leaves.{Inside}
-use Rattle.interior_proposals.specs.Proposals.{expanded_of, proposed_ports, is_first, found_ports, records_fit}
+use Rattle.interior_proposals.specs.Proposals.{expanded_of, proposed_ports, owned_before, is_first, found_ports, records_fit}
 use Rattle.interior_proposals.specs.Candidates.{both_ports}
 use Rattle.interior_proposals.proofs.RowScans.{all-holds}
 use Rattle.interior_proposals.proofs.CandidateLaws.{edge-owned, candidate_unspoilt}
 use Rattle.interior_proposals.proofs.NoConflict.{Fit}
-use Rattle.interior_proposals.proofs.Removed.{fit_of, removed_none, removed-owned, proposal_is}
-use Rattle.interior_proposals.proofs.ProgressLaws.{first_region, proposed_two, found_first, is_first_lem}
+use Rattle.interior_proposals.proofs.Commons.{owned_one}
+use Rattle.interior_proposals.proofs.Removed.{fit_of, is_proposal, removed_none, removed-owned, proposal_is}
+use Rattle.interior_proposals.proofs.ProgressLaws.{first_region, first_unmet, none_first, first_found, proposed_two, found_first}
 use Rattle.interior_regions.specs.Places.{region_at, is_named, fits_at, ramp_at, interior_fits_lem}
 use Rattle.interior_regions.specs.Marks.{accepted, marked_before, EndOf}
 use Rattle.interior_regions.proofs.PlaceLaws.{place-readable, Placed, incident_placed, Spanned, expanded_incident}
@@ -113,9 +115,9 @@ module _ {C : Context} (S : Sound C) {rows starts names : List ℕ} (P : ShownPa
 
 -- ---- what was found at boundary i
 
-module _ {C : Context} (S : Sound C) (owners : List ℕ) (O : Owners C owners) (i : ℕ) (l : i < C.count) where
+module _ {C : Context} (S : Sound C) (owners : List Owner) (O : Owners C owners) (i : ℕ) (l : i < C.count) where
   abbrev owner : ℕ
-  owner = get_or owners i 0
+  owner = name_at owners i
 
   pub found-fit : {a b : ℕ} → found_ports C owners i ≡ both_ports a b → Fit C S owner a b
   found-fit e =
@@ -130,23 +132,23 @@ module _ {C : Context} (S : Sound C) (owners : List ℕ) (O : Owners C owners) (
 
   -- the edges of what was found are from i on, and before the number after the last that has the owner
   pub found-spanned : {a b low high n count : ℕ} → found_ports C owners i ≡ both_ports a b → C.count ≡ count → EndOf owners count owner n → n ≤ high → high ≤ count → low ≤ i → (low ≤ a) × (a < high) → (low ≤ b) × (b < high) → Spanned C owner a b low high
-  unfolding is_first
+  unfolding owned_before
   found-spanned {a = a} {b = b} {low = low} {high = high} {n = n} e c E u v s t w = record { upto = omega arith; edges = edges; first = t; second = w }
     where
       F : Fit C S owner a b
       F = found-fit e
 
-      alone : any_below_lem i (λ j. eqb (get_or owners j 0) owner) ≡ false
-      alone = not-true (any_below_lem i (λ j. eqb (get_or owners j 0) owner)) (both (not (eqb owner 0 || eqb owner several)) (not (any_below_lem i (λ j. eqb (get_or owners j 0) owner))) (found_first C owners i e).0).1
+      alone : owned_before owners i owner ≡ false
+      alone = first_unmet owners i (found_first C owners i e).0
 
       edges : (j : ℕ) → j < C.count → edge C owner j ≡ true → (low ≤ j) × (j < high)
       edges j m d = (after (ltb j i) refl, before (ltb j n) refl)
         where
-          same : eqb (get_or owners j 0) owner ≡ true
+          same : owned_by owner (owner_at owners j) ≡ true
           same = edge-owned C owner j F.from (first_region owners O i l (found_first C owners i e).0).1 (O j m) (candidate_unspoilt C owner F.cand j m) ∙ d
 
           after : (t : Bool) → ltb j i ≡ t → low ≤ j
-          after true q = absurd (true≢false (sym same ∙ any-fails_at (λ k. eqb (get_or owners k 0) owner) i alone j (ltb-true j i q)))
+          after true q = absurd (true≢false (sym same ∙ any-fails_at (λ k. owned_by owner (owner_at owners k)) i alone j (ltb-true j i q)))
           after false q = omega (arith, ltb-false j i q)
 
           before : (t : Bool) → ltb j n ≡ t → j < high
@@ -156,6 +158,11 @@ module _ {C : Context} (S : Sound C) (owners : List ℕ) (O : Owners C owners) (
   pub judged_none : found_ports C owners i ≡ None → accepted C owners i ≡ false
   unfolding accepted records_fit
   judged_none e = ap (records_fit C owner) e
+
+  -- nothing is accepted where no component is met first
+  pub judged_other : is_one (owner_at owners i) ≡ false → accepted C owners i ≡ false
+  unfolding found_ports
+  judged_other e = judged_none (ap (λ t. cond t (proposed_ports C owner) None) (none_first owners i e))
 
   -- accepted ones come first, and are proposed
   accepted_first : accepted C owners i ≡ true → (is_first owners i ≡ true) × (records_fit C owner (proposed_ports C owner) ≡ true)
@@ -172,55 +179,43 @@ module _ {C : Context} (S : Sound C) (owners : List ℕ) (O : Owners C owners) (
 
 -- ---- all boundaries
 
-module _ {C : Context} (S : Sound C) (few : C.regions < several) (owners : List ℕ) (O : Owners C owners) (j : ℕ) (l : j < C.count) where
-  abbrev v : ℕ
-  v = get_or owners j 0
+module _ {C : Context} (S : Sound C) (owners : List Owner) (O : Owners C owners) (j : ℕ) (l : j < C.count) where
+  abbrev v : Owner
+  v = owner_at owners j
 
   abbrev test : ℕ → Bool
-  test k = accepted C owners k && eqb v (get_or owners k 0)
+  test k = accepted C owners k && owned_by (name_at owners k) v
 
-  -- an accepted boundary with the same owner
-  same_owner : (k : ℕ) → k < C.count → test k ≡ true → ((1 ≤ v) × (v ≤ C.regions)) × (records_fit C v (proposed_ports C v) ≡ true)
-  same_owner k m h =
-      let t = both (accepted C owners k) (eqb v (get_or owners k 0)) h in
-      let w = accepted_first S owners O k m t.0 in
-      let e = eqb-true v (get_or owners k 0) t.1 in
-      (subst (λ x. (1 ≤ x) × (x ≤ C.regions)) (sym e) (first_region owners O k m w.0), subst (λ x. records_fit C x (proposed_ports C x) ≡ true) (sym e) w.1)
+  -- a boundary that no component owns stays
+  pub marked_none : ((r : ℕ) → owned_by r v ≡ false) → marked_before C owners C.count j ≡ member j (removed C)
+  marked_none n = below_none C.count test (λ k m. ap (λ b. accepted C owners k && b) (n (name_at owners k)) ∙ and-false (accepted C owners k)) ∙ sym (removed_none C S j l (O j l) n)
 
-  no_region : ((1 ≤ v) × (v ≤ C.regions) → ⊥) → any_below_lem C.count test ≡ false
-  no_region n = below_none C.count test (λ k m. go k m (test k) refl)
-    where
-      go : (k : ℕ) → k < C.count → (t : Bool) → test k ≡ t → t ≡ false
-      go k m true e = absurd (n (same_owner k m e).0)
-      go k m false e = refl
+  module _ {r : ℕ} (e : v ≡ one_owner r) where
+    -- an accepted boundary with the same owner
+    same_owner : (k : ℕ) → k < C.count → test k ≡ true → records_fit C r (proposed_ports C r) ≡ true
+    same_owner k m h =
+        let t = both (accepted C owners k) (owned_by (name_at owners k) v) h in
+        subst (λ x. records_fit C x (proposed_ports C x) ≡ true) {x = name_at owners k} {y = r} (sym (eqb-true r (name_at owners k) (sym (ap (owned_by (name_at owners k)) e) ∙ t.1))) (accepted_first S owners O k m t.0).1
 
-  a-region : 1 ≤ v → v ≤ C.regions → any_below_lem C.count test ≡ records_fit C v (proposed_ports C v)
-  a-region u w = same_test
-      (λ h.
-      let f = below_first test C.count h in
-      (same_owner f.place f.below f.found).1)
-      (λ h.
-      let f = below_first (λ k. eqb (get_or owners k 0) v) C.count (below_at C.count (λ k. eqb (get_or owners k 0) v) j l (eq-eqb v v refl)) in
-      let e = eqb-true (get_or owners f.place 0) v f.found in
-      let g = sym (is_first_lem owners f.place (plain (get_or owners f.place 0) (omega (arith, e)) (omega (arith, e))) (omega arith) (omega arith) (subst (λ x. any_below_lem f.place (λ k. eqb (get_or owners k 0) x) ≡ false) (sym e) f.none)) in
-      below_at C.count test f.place f.below (ap₂ ◌&&◌ (first_accepted S owners O f.place f.below g ∙ ap (λ x. records_fit C x (proposed_ports C x)) e ∙ h) (eq-eqb v (get_or owners f.place 0) (sym e))))
-    where
-      plain : (x : ℕ) → 1 ≤ x → x ≤ C.regions → (eqb x 0 || eqb x several) ≡ false
-      plain x a b = go (eqb x 0) refl (eqb x several) refl
-        where
-          go : (s : Bool) → eqb x 0 ≡ s → (t : Bool) → eqb x several ≡ t → (s || t) ≡ false
-          go true e t d = absurd (omega (arith, eqb-true x 0 e))
-          go false e true d = absurd (omega (arith, eqb-true x several d, few))
-          go false e false d = refl
+    pub marked_one : any_below_lem C.count test ≡ records_fit C r (proposed_ports C r)
+    unfolding owned_before
+    marked_one = same_test
+        (λ h.
+        let f = below_first test C.count h in
+        same_owner f.place f.below f.found)
+        (λ h.
+        let f = below_first (λ k. owned_by r (owner_at owners k)) C.count (below_at C.count (λ k. owned_by r (owner_at owners k)) j l (ap (owned_by r) e ∙ eq-eqb r r refl)) in
+        let d = owned_one r (owner_at owners f.place) f.found in
+        let g = first_found owners f.place d refl f.none in
+        below_at C.count test f.place f.below (ap₂ ◌&&◌ (first_accepted S owners O f.place f.below g ∙ ap (λ x. records_fit C x (proposed_ports C x)) (ap name_of d) ∙ h) (ap₂ owned_by (ap name_of d) e ∙ eq-eqb r r refl)))
 
   pub marked-removed : marked_before C owners C.count j ≡ member j (removed C)
-  marked-removed = ⊎_elim none (λ e. ⊎_elim large some e) (O j l).range
+  marked-removed = go v refl
     where
-      none : v ≡ 0 → any_below_lem C.count test ≡ member j (removed C)
-      none e = no_region (λ h. omega (arith, h.0, e)) ∙ sym (removed_none C S j l (O j l) (λ k m d. omega (arith, e, d)))
-
-      large : v ≡ several → any_below_lem C.count test ≡ member j (removed C)
-      large e = no_region (λ h. omega (arith, h.1, e, few)) ∙ sym (removed_none C S j l (O j l) (λ k m d. omega (arith, e, d, few)))
-
-      some : (1 ≤ v) × (v ≤ C.regions) → any_below_lem C.count test ≡ member j (removed C)
-      some h = a-region h.0 h.1 ∙ sym (removed-owned C S j l (O j l) (v - 1) (omega (arith, h.0, h.1)) (omega (arith, h.0)) ∙ proposal_is C S v)
+      go : (o : Owner) → v ≡ o → any_below_lem C.count test ≡ member j (removed C)
+      go owner-is.None e = marked_none (λ r. ap (owned_by r) e)
+      go owner-is.Several e = marked_none (λ r. ap (owned_by r) e)
+      go (owner-is.One r) e =
+          let h = (O j l).range r e in
+          let n : r ≡ suc (r - 1) = omega (arith, h.0) in
+          marked_one e ∙ sym (removed-owned C S j l (O j l) (r - 1) (omega (arith, h.0, h.1)) (e ∙ ap one_owner n) ∙ sym (ap (is_proposal C S) n) ∙ proposal_is C S r)

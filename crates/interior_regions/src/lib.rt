@@ -3,20 +3,21 @@
 
 #![tactic(auto)]
 
-ghost use Rattle.std.specs.Prelude.{◌≡◌, false, ◌&&◌, ◌||◌, ℕ, ◌-◌, ◌≤◌, ◌<◌, length, get_or, eqb, List, None};
+ghost use Rattle.std.specs.Prelude.{◌≡◌, false, ◌&&◌, ◌||◌, ℕ, ◌-◌, ◌≤◌, ◌<◌, length, get_or, List};
 ghost use Rattle.definitions.specs.Limits.{max_entries};
 ghost use Rattle.definitions.specs.Context.{Context};
 ghost use Rattle.laws.specs.FloatLaws.Pixels.{PixelContext};
 ghost use Rattle.interior_proposals.specs.Given.{Lent, SomeLent};
+ghost use Rattle.interior_proposals.specs.Owners.{owned_by, owner_at};
 ghost use Rattle.interior_regions.specs.Marks.{Interiors, SomeInteriors, StandsAt, EndOf};
 ghost use Rattle.interior_regions.specs.Places.{region_at, Readable, is_named};
 
+use context::PartitionContext;
 use interior_proposals::components::{name_components, parent_of};
-use interior_proposals::owners::find_owners;
+use interior_proposals::owners::{Owner, find_owners};
 use interior_proposals::ports::Ports;
 use interior_proposals::proposals::propose_all;
-
-const NUMBERS_PER_PAIR: usize = 3;
+use span_geometry::NUMBERS_PER_PAIR;
 
 const REGIONS_PER_PAIR: usize = 2;
 
@@ -26,8 +27,7 @@ pub struct Interior {
     pub name: u32,
     pub begin: usize,
     pub end: usize,
-    pub first: usize,
-    pub second: usize,
+    pub ports: Ports,
 }
 
 // The region that stands at place k of the rows: each row has two places.
@@ -54,30 +54,35 @@ pub fn is_inside(pairs: &[u32], names: &[u32], name: u32, k: usize) -> bool
     parent_of(names, region_at(pairs, k)) == name
 }
 
-// Marks the boundaries whose owner has the name, if `on`.
-pub fn mark_edges(owners: &[u32; 256], count: usize, name: u32, on: bool, removed: &mut [bool; 256])
+// Marks the boundaries that the component with the name owns, if `on`.
+pub fn mark_edges(
+    owners: &[Owner; 256],
+    count: usize,
+    name: u32,
+    on: bool,
+    removed: &mut [bool; 256],
+)
     requires { (count ≤ max_entries) × (length removed.old ≡ max_entries) }
     ensures removed { (j : ℕ) →
         j < count →
-        get_or removed.new j false ≡ (get_or removed.old j false || (on && eqb (get_or owners.now j 0) name)) }
+        get_or removed.new j false ≡ (get_or removed.old j false || (on && owned_by name (owner_at owners.now j))) }
     ensures removed_length { length removed.new ≡ max_entries }
 {
     if !on {
         return;
     }
     for j in 0..count {
-        let mark = removed[j] | (owners[j] == name);
-        removed[j] = mark;
+        removed[j] |= owners[j] == Owner::One(name);
     }
 }
 
-// The number after the last boundary whose owner has the name; 0 where there is none.
-fn end_of(owners: &[u32; 256], count: usize, name: u32) -> usize
+// The number after the last boundary that the component with the name owns; 0 where there is none.
+fn end_of(owners: &[Owner; 256], count: usize, name: u32) -> usize
     requires { count ≤ max_entries }
     ensures { EndOf owners.now count name result }
 {
     for j in (0..count).rev() {
-        if owners[j] == name {
+        if owners[j] == Owner::One(name) {
             return j + 1;
         }
     }
@@ -86,60 +91,55 @@ fn end_of(owners: &[u32; 256], count: usize, name: u32) -> usize
 
 // What stands at boundary i, if ports were found. It is the first edge, and each region of the interior stands in a row of an edge or of a port.
 pub fn interior_at(
-    pairs: &[u32],
-    starts: &[usize; 257],
-    owners: &[u32; 256],
+    context: PartitionContext,
+    owners: &[Owner; 256],
     found: &[Option<Ports>; 256],
-    count: usize,
     i: usize,
 ) -> Option<Interior>
-    requires i_within { i < count }
-    requires interiors { SomeInteriors pairs.now starts.now owners.now found.now count }
+    requires i_within { i < context.count }
+    requires interiors { SomeInteriors context.pairs.now context.starts.now owners.now found.now context.count }
     ensures { (C : Context) (boundaries tallies names : List ℕ) →
-        Interiors C boundaries tallies pairs.now starts.now names owners.now found.now count →
-        StandsAt C pairs.now names owners.now i result }
+        Interiors C boundaries tallies context.entry.pairs.now context.entry.starts.now names owners.now found.now
+        context.entry.count →
+        StandsAt C context.entry.pairs.now names owners.now i result }
 {
     let ports = found[i]?;
-    let name = owners[i];
-    let low = i.min(ports.first.min(ports.second));
-    let high = end_of(owners, count, name).max(ports.first.max(ports.second) + 1);
-    Some(Interior {
-        name,
-        begin: REGIONS_PER_PAIR * starts[low],
-        end: REGIONS_PER_PAIR * starts[high],
-        first: ports.first,
-        second: ports.second,
-    })
+    match owners[i] {
+        Owner::None | Owner::Several => None,
+        Owner::One(name) => {
+            let low = i.min(ports.first.min(ports.second));
+            let end = end_of(owners, context.count, name);
+            let high = end.max(ports.first.max(ports.second) + 1);
+            Some(Interior {
+                name,
+                begin: REGIONS_PER_PAIR * context.starts[low],
+                end: REGIONS_PER_PAIR * context.starts[high],
+                ports,
+            })
+        }
+    }
 }
 
 // Names the components in place of the counts, and finds owners and ports.
 pub fn find_interiors(
-    boundaries: &[u64],
-    tallies: &[u32],
-    pairs: &[u32],
-    starts: &[usize; 257],
-    count: usize,
+    context: PartitionContext,
     regions: usize,
     marks: &mut [u16],
     counts: &mut [u32],
-    owners: &mut [u32; 256],
+    owners: &mut [Owner; 256],
     found: &mut [Option<Ports>; 256],
 )
-    requires lent { SomeLent boundaries.now tallies.now pairs.now starts.now count regions marks.old counts.old }
+    requires lent { SomeLent context.boundaries.now context.tallies.now context.pairs.now context.starts.now context.count regions marks.old counts.old }
     requires room { (length owners.old ≡ max_entries) × (length found.old ≡ max_entries) }
     ensures found { (C : Context) →
-        Lent C boundaries.now tallies.now pairs.now starts.now count regions marks.old
-        counts.old →
+        Lent C context.entry.boundaries.now context.entry.tallies.now context.entry.pairs.now context.entry.starts.now
+        context.entry.count regions marks.old counts.old →
         PixelContext C →
-        Interiors C boundaries.now tallies.now pairs.now starts.now
-        counts.new owners.new found.new count }
+        Interiors C context.entry.boundaries.now context.entry.tallies.now context.entry.pairs.now context.entry.starts.now counts.new
+        owners.new found.new context.entry.count }
     ensures lengths { (length marks.new ≡ length marks.old) × (length counts.new ≡ length counts.old) }
 {
-    name_components(
-        boundaries, tallies, pairs, starts, count, regions, marks, counts,
-    );
-    find_owners(boundaries, tallies, pairs, starts, counts, count, owners);
-    propose_all(
-        boundaries, tallies, pairs, starts, counts, marks, owners, count, found,
-    );
+    name_components(context, regions, marks, counts);
+    find_owners(context, counts, owners);
+    propose_all(context, counts, marks, owners, found);
 }

@@ -5,6 +5,7 @@ use native.Mathlib.Omega.{arith}
 use mathlib.Core.Path.{◌≡◌, refl, sym, ap, ◌∙◌, subst}
 use mathlib.Core.Bool.{Bool, true, false, cond}
 use mathlib.Core.List.{List, [], ◌∷◌}
+use Rattle.std.specs.Prelude.{Option}
 use lib.ListN.{length, get_or, set, drop, length-append}
 use lib.Seq.{drop-drop}
 use lib.Dec.{eqb}
@@ -19,6 +20,7 @@ use Rattle.laws.specs.RegionLaws.Regions.{label-range, label-blocked}
 use Rattle.laws.specs.ListLaws.Beyond.{Beyond}
 use Rattle.laws.specs.ListLaws.ScanSteps.{count-le}
 use Rattle.areas.proofs.Labelling.{zeroed_at, zeroed_rest}
+use Rattle.context.specs.declared.pairs.Pair.{Pair}
 use Rattle.context.specs.Anchors.{anchor_cell, anchor_cells, mark_label, mark_cells, AnchorsFit}
 use Rattle.context.proofs.AnchorLaws.{marked-beyond, marked-shown}
 use Rattle.context.specs.Rows.{Stretch, NamedRows}
@@ -135,9 +137,9 @@ module _ (M : Map) {w needed : ℕ} {ls anchors : List ℕ} {regions rows count 
         subst (λ z. get_or z (r - 1) 0 < 2) (sym e)
         (cells-fresh ls m₁ (anchor_cells w anchors (length anchors / numbers_per_anchor)) (r - 1) (omega (arith, zeros m em (r - 1) (omega (arith, a, l, P.regions_are)))))
 
-    pub viewed : (q : List ℕ) {q₁ q' starts smaller larger : List ℕ} → q₁ ≡ zeroed regions q → length q₁ ≡ length q →
-        ShownPairs C pairs starts → (C.count ≡ count → ShownTallies C tallies → ShownPairs C pairs starts → ShownFullPairs C smaller larger) → m' ≡ mark_cells ls m₁ (anchor_cells w anchors (length anchors / numbers_per_anchor))
-        → (C.count ≡ count → C.regions ≡ regions → ShownPairs C pairs starts → ShownIncidents C q') → Beyond regions q₁ q' → Viewed M needed pairs m q m' q' starts smaller larger
+    pub viewed : (q : List ℕ) {q₁ q' starts : List ℕ} {full : List (Option Pair)} → q₁ ≡ zeroed regions q → length q₁ ≡ length q →
+        ShownPairs C pairs starts → (C.count ≡ count → ShownTallies C tallies → ShownPairs C pairs starts → ShownFullPairs C full) → m' ≡ mark_cells ls m₁ (anchor_cells w anchors (length anchors / numbers_per_anchor))
+        → (C.count ≡ count → C.regions ≡ regions → ShownPairs C pairs starts → ShownIncidents C q') → Beyond regions q₁ q' → Viewed M needed pairs m q m' q' starts full
     unfolding context_of
     viewed q {q₁} {q'} eq lq S F e I B =
         record {

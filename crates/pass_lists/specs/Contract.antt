@@ -1,11 +1,12 @@
 -- The words of the contract of `view`. Definitions only; assumes nothing.
-use Rattle.std.specs.Prelude.{ℕ, ◌+◌, ◌-◌, ◌*◌, ◌/◌, ◌≤◌, ◌<◌, ◌≡◌, List, length, get_or}
+use Rattle.std.specs.Prelude.{ℕ, ◌+◌, ◌-◌, ◌*◌, ◌/◌, ◌≤◌, ◌<◌, ◌≡◌, List, length, get_or, Option}
 use Rattle.definitions.specs.Limits.{max_side, numbers_per_anchor}
 use Rattle.definitions.specs.Grid.{Map, cell_count}
 use Rattle.definitions.specs.Partition.{region_count}
 use Rattle.definitions.specs.Partition as partition
 use Rattle.definitions.specs.Context.{Context, context_of}
 use Rattle.laws.specs.ListLaws.Beyond.{Beyond}
+use Rattle.context.specs.declared.pairs.Pair.{Pair}
 use Rattle.context.specs.Anchors.{anchor_cell, anchor_cells}
 use Rattle.context.specs.Rows.{PairRows}
 use Rattle.context.specs.Shown.{ShownTallies, ShownPairs, ShownFullPairs, ShownAnchored, ShownIncidents}
@@ -32,9 +33,9 @@ abbrev pub FreshMarks : Context → List ℕ → Type 0
 FreshMarks C marks = (r : ℕ) → 1 ≤ r → r ≤ C.regions → get_or marks (r - 1) 0 < 2
 
 -- the context of M as lists: masks m and queue q have become m' and q', which are as they were beyond the needed length
-pub record Viewed (M : Map) (needed : ℕ) (pairs m q m' q' starts smaller larger : List ℕ) : Type 0 where
+pub record Viewed (M : Map) (needed : ℕ) (pairs m q m' q' starts : List ℕ) (full : List (Option Pair)) : Type 0 where
   pub shown_pairs : ShownPairs (context_of M) pairs starts
-  pub shown_full : ShownFullPairs (context_of M) smaller larger
+  pub shown_full : ShownFullPairs (context_of M) full
   pub shown_anchored : ShownAnchored (context_of M) m'
   pub fresh : FreshMarks (context_of M) m'
   pub shown_incidents : ShownIncidents (context_of M) q'

@@ -9,12 +9,12 @@ ghost use Rattle.pass_lists.specs.Contract.{Partitioned, Viewed};
 ghost use Rattle.pass_lists.specs.Finished.{Finishes, Finished};
 
 use call_partition::scratch::clear_scratch;
+use context::PartitionContext;
 use context::anchored::mark_anchored;
-use context::incidents::count_incidents;
-use context::pairs::{full_pairs, pair_starts};
+use context::pairs::{Pair, pair_starts};
 use rows::canonical_output;
 
-// The context of a partitioned map as lists: where the rows of each span's pairs begin, the full pair of each boundary, which regions are anchored (in masks) and how
+// What a pass reads of a partitioned map: where the rows of each span's pairs begin, the full pair of each boundary, which regions are anchored (in masks) and how
 // many incidents each has (in the queue). Of `count` spans there are `rows` rows of pairs.
 pub fn view(
     width: usize,
@@ -24,28 +24,35 @@ pub fn view(
     regions: usize,
     rows: usize,
     count: usize,
+    boundaries: &[u64],
     tallies: &[u32],
     pairs: &[u32],
     masks: &mut [u16],
     queue: &mut [u32],
     starts: &mut [usize; 257],
-    smaller: &mut [u32; 256],
-    larger: &mut [u32; 256],
+    full: &mut [Option<Pair>; 256],
 )
     requires partitioned { (M : Map) × Partitioned M width needed labels.now anchors.now regions rows count tallies.now pairs.now
         (length masks.old) (length queue.old) }
-    requires room { (length starts.old ≡ max_entries + 1) × (length smaller.old ≡ max_entries) × (length larger.old ≡ max_entries) }
+    requires room { (length starts.old ≡ max_entries + 1) × (length full.old ≡ max_entries) }
     ensures { (M : Map) →
         Partitioned M width needed labels.now anchors.now regions rows count tallies.now pairs.now
         (length masks.old) (length queue.old) →
         Viewed M needed pairs.now masks.old queue.old
-        masks.new queue.new starts.new smaller.new larger.new }
+        masks.new queue.new starts.new full.new }
 {
     clear_scratch(masks, queue, regions);
     pair_starts(pairs, rows, count, starts);
-    full_pairs(tallies, pairs, starts, count, smaller, larger);
+    let context = PartitionContext {
+        boundaries,
+        tallies,
+        pairs,
+        starts,
+        count,
+    };
+    context.full_pairs(full);
     mark_anchored(width, labels, anchors, masks);
-    count_incidents(pairs, starts, count, regions, queue);
+    context.count_incidents(regions, queue);
 }
 
 // Clears masks and queue, writes the rows of the `count` boundaries that are not removed, and gives how many there are.

@@ -10,7 +10,6 @@ ghost use Rattle.context.specs.Records.{record_of};
 ghost use Rattle.stretches.specs.Stretches.{region_up_to, Read, Adding};
 
 use context::Region;
-use plain_numbers::wide;
 
 // Where a stretch ends, and the label of its cells: 0 where it is of no region.
 #[derive(Clone, Copy)]
@@ -25,8 +24,8 @@ pub fn stretch_at(labels: &[u32], queue: &[u32], c: usize) -> Stretch
     ensures { Read labels.now queue.now c result }
 {
     Stretch {
-        end: wide(queue[c]),
-        label: wide(labels[c]),
+        end: queue[c] as usize,
+        label: labels[c] as usize,
     }
 }
 

@@ -7,8 +7,9 @@ ghost use Rattle.topology.specs.Interiors.{Asks, Judges, Collapses, Collapsed};
 ghost use Rattle.topology.specs.Proposals.{Unmarked};
 
 use crate::slice::record_at;
-use context::Region;
+use context::{PartitionContext, Region};
 use interior_proposals::fits::{reach_of, region_fits};
+use interior_proposals::owners::Owner;
 use interior_proposals::ports::Ports;
 use interior_regions::{
     Interior, find_interiors, interior_at, is_inside, mark_edges, record_place,
@@ -17,25 +18,25 @@ use interior_regions::{
 // Whether every region of an interior fits its ports, and one has a ramp.
 pub fn interior_fits(
     records: &[Region],
-    boundaries: &[u64],
-    pairs: &[u32],
+    context: PartitionContext,
     names: &[u32],
     interior: Interior,
 ) -> bool
-    requires { (C : Context) × Asks C records.now boundaries.now pairs.now names.now interior }
+    requires { (C : Context) × Asks C records.now context.boundaries.now context.pairs.now names.now interior }
     ensures { (C : Context) →
-        Asks C records.now boundaries.now pairs.now names.now interior →
-        result ≡ interior_fits_lem C pairs.now names.now interior.name interior.begin interior.first interior.second
-        interior.end }
+        Asks C records.now context.entry.boundaries.now context.entry.pairs.now names.now interior →
+        result ≡ interior_fits_lem C context.entry.pairs.now names.now interior.name interior.begin interior.ports.first
+        interior.ports.second interior.end }
 {
-    let reach = reach_of(boundaries, interior.first, interior.second);
+    let reach = reach_of(context.boundaries, interior.ports);
     let mut fits = true;
     let mut ramp = false;
+    // Kept: one walk gives both answers; by two chains, `all` and `any`, the place and the record of each region would be read twice.
     for k in interior.begin..interior.end {
-        if !is_inside(pairs, names, interior.name, k) {
+        if !is_inside(context.pairs, names, interior.name, k) {
             continue;
         }
-        let region = record_at(records, record_place(pairs, k));
+        let region = record_at(records, record_place(context.pairs, k));
         fits = fits & region_fits(reach, region);
         ramp = ramp | (0 < region.ramp_cells);
     }
@@ -45,30 +46,26 @@ pub fn interior_fits(
 // Marks the edges of each component that is proposed and whose regions fit. No boundary is marked before.
 pub fn judge_interiors(
     records: &[Region],
-    boundaries: &[u64],
-    pairs: &[u32],
-    starts: &[usize; 257],
+    context: PartitionContext,
     names: &[u32],
-    owners: &[u32; 256],
+    owners: &[Owner; 256],
     found: &[Option<Ports>; 256],
-    count: usize,
     removed: &mut [bool; 256],
 )
-    requires interiors_found { (C : Context) × Judges C records.now boundaries.now pairs.now starts.now names.now
-        owners.now found.now count }
-    requires none_marked { (length removed.old ≡ max_entries) × Unmarked removed.old count }
+    requires interiors_found { (C : Context) × Judges C records.now context.boundaries.now context.pairs.now context.starts.now
+        names.now owners.now found.now context.count }
+    requires none_marked { (length removed.old ≡ max_entries) × Unmarked removed.old context.count }
     ensures { (C : Context) →
-        Judges C records.now boundaries.now pairs.now starts.now names.now
-        owners.now found.now count →
-        Collapsed C count removed.new }
+        Judges C records.now context.entry.boundaries.now context.entry.pairs.now context.entry.starts.now names.now
+        owners.now found.now context.entry.count →
+        Collapsed C context.entry.count removed.new }
 {
-    for i in 0..count {
-        let interior = match interior_at(pairs, starts, owners, found, count, i) {
-            None => continue,
-            Some(interior) => interior,
+    for i in 0..context.count {
+        let Some(interior) = interior_at(context, owners, found, i) else {
+            continue;
         };
-        let fits = interior_fits(records, boundaries, pairs, names, interior);
-        mark_edges(owners, count, interior.name, fits, removed);
+        let fits = interior_fits(records, context, names, interior);
+        mark_edges(owners, context.count, interior.name, fits, removed);
     }
 }
 
@@ -76,38 +73,21 @@ pub fn judge_interiors(
 pub fn collapse_ramp_interiors(
     records: &[Region],
     regions: usize,
-    count: usize,
-    boundaries: &[u64],
-    tallies: &[u32],
-    pairs: &[u32],
-    starts: &[usize; 257],
+    context: PartitionContext,
     marks: &mut [u16],
     counts: &mut [u32],
     removed: &mut [bool; 256],
 )
-    requires lists_show { (C : Context) × Collapses C records.now boundaries.now tallies.now pairs.now starts.now
-        count regions marks.old counts.old }
-    requires none_marked { (length removed.old ≡ max_entries) × Unmarked removed.old count }
+    requires lists_show { (C : Context) × Collapses C records.now context.boundaries.now context.tallies.now context.pairs.now context.starts.now
+        context.count regions marks.old counts.old }
+    requires none_marked { (length removed.old ≡ max_entries) × Unmarked removed.old context.count }
     ensures { (C : Context) →
-        Collapses C records.now boundaries.now tallies.now pairs.now starts.now count regions
-        marks.old counts.old →
-        Collapsed C count removed.new }
+        Collapses C records.now context.entry.boundaries.now context.entry.tallies.now context.entry.pairs.now context.entry.starts.now
+        context.entry.count regions marks.old counts.old →
+        Collapsed C context.entry.count removed.new }
 {
-    let mut owners = [0u32; 256];
+    let mut owners = [Owner::None; 256];
     let mut found = [None; 256];
-    find_interiors(
-        boundaries,
-        tallies,
-        pairs,
-        starts,
-        count,
-        regions,
-        marks,
-        counts,
-        &mut owners,
-        &mut found,
-    );
-    judge_interiors(
-        records, boundaries, pairs, starts, counts, &owners, &found, count, removed,
-    );
+    find_interiors(context, regions, marks, counts, &mut owners, &mut found);
+    judge_interiors(records, context, counts, &owners, &found, removed);
 }

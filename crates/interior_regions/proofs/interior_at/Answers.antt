@@ -8,13 +8,16 @@ use borrow.Author.Rules.{rules}
 use Rattle.std.specs.Prelude.{Option, None, Some}
 use Rattle.definitions.specs.Limits.{max_entries}
 use Rattle.interior_proposals.specs.declared.ports.Ports.{Ports}
+use mathlib.Core.Logic.{⊎_elim}
+use Rattle.interior_proposals.specs.declared.owners.Owner.{Owner}
+use Rattle.interior_proposals.specs.Owners.{is_one}
 use Rattle.interior_regions.specs.Marks.{SomeInteriors, EndOf}
 use Rattle.interior_regions.proofs.PlaceLaws.{starts_fit}
-use Rattle.interior_regions.proofs.Stretches.{stretched_none, ports-below, stretched_two}
+use Rattle.interior_regions.proofs.Stretches.{stretched_none, stretched_other, ports-below, stretched_two}
 use Rattle.interior_regions.proofs.interior_at.Goals as goal
 
 -- what the bounds need, over plain variables
-module _ {pairs starts owners : List ℕ} {found : List (Option Ports)} {count i : ℕ} (pre : SomeInteriors pairs starts owners found count) (l : i < count) where
+module _ {pairs starts : List ℕ} {owners : List Owner} {found : List (Option Ports)} {count i : ℕ} (pre : SomeInteriors pairs starts owners found count) (l : i < count) where
   few : count ≤ max_entries
   few = let I = pre.1.1.1.1 in omega (arith, I.owning.counted, I.owning.given.paired.few)
 
@@ -25,7 +28,7 @@ module _ {pairs starts owners : List ℕ} {found : List (Option Ports)} {count i
     after : max p.first p.second < count
     after = let I = pre.1.1.1.1 in omega (arith, ports-below I i (omega (arith, I.owning.counted)) e)
 
-    high : {n : ℕ} → EndOf owners count (get_or owners i 0) n → max n (max p.first p.second + 1) ≤ count
+    high : {name n : ℕ} → EndOf owners count name n → max n (max p.first p.second + 1) ≤ count
     high E = omega (arith, after, E.upto)
 
 pub returns-in_err-ports : goal.returns-in_err-ports
@@ -38,24 +41,27 @@ overflow_add-max c =
 
 pub overflow_mul-result : goal.overflow_mul-result
 overflow_mul-result c =
-    let low : c.min-low.result ≤ c.args.count = omega (arith, c.min-low.ensures, c.requires.i_within) in
+    let low : c.min-low.result ≤ c.args.context.count = omega (arith, c.min-low.ensures, c.requires.i_within) in
     search (rules, short c.requires.interiors c.requires.i_within c.min-low.result low)
 
-pub offset_bounds-starts-high : goal.offset_bounds-starts-high
-offset_bounds-starts-high c =
-    omega (arith, c.max.ensures, c.max-high.ensures, high c.requires.interiors c.requires.i_within c.in_ok-ports.was c.end_of.ensures, few c.requires.interiors c.requires.i_within)
+pub offset_bounds-context-high : goal.offset_bounds-context-high
+offset_bounds-context-high c =
+    omega (arith, c.max.ensures, c.max-high.ensures, high c.requires.interiors c.requires.i_within c.in_ok-ports.was c.end_of-end.ensures, few c.requires.interiors c.requires.i_within)
 
-pub bounds-starts-high : goal.bounds-starts-high
-bounds-starts-high c =
-    omega (arith, c.max.ensures, c.max-high.ensures, high c.requires.interiors c.requires.i_within c.in_ok-ports.was c.end_of.ensures, few c.requires.interiors c.requires.i_within)
+pub bounds-context-high : goal.bounds-context-high
+bounds-context-high c =
+    omega (arith, c.max.ensures, c.max-high.ensures, high c.requires.interiors c.requires.i_within c.in_ok-ports.was c.end_of-end.ensures, few c.requires.interiors c.requires.i_within)
 
-pub overflow_mul-result-2 : goal.overflow_mul-result-2
-overflow_mul-result-2 c =
-    let upto : c.max-high.result ≤ c.args.count = omega (arith, c.max.ensures, c.max-high.ensures, high c.requires.interiors c.requires.i_within c.in_ok-ports.was c.end_of.ensures) in
+pub overflow_mul-result-in-One : goal.overflow_mul-result-in-One
+overflow_mul-result-in-One c =
+    let upto : c.max-high.result ≤ c.args.context.count = omega (arith, c.max.ensures, c.max-high.ensures, high c.requires.interiors c.requires.i_within c.in_ok-ports.was c.end_of-end.ensures) in
     search (rules, short c.requires.interiors c.requires.i_within c.max-high.result upto)
 
-pub returns : goal.returns
-returns c =
+pub returns-in-None : goal.returns-in-None
+returns-in-None c = λ C bs t ns I. stretched_other I _ (omega (arith, I.owning.counted, c.requires.i_within)) (⊎_elim (λ e. ap is_one e) (λ e. ap is_one e) c.in-None.is)
+
+pub returns-in-One : goal.returns-in-One
+returns-in-One c =
     λ C bs t ns I.
-    stretched_two I c.args.i (omega (arith, I.owning.counted, c.requires.i_within)) c.in_ok-ports.was c.end_of.ensures
-    (c.min-low.ensures ∙ ap (min c.args.i) c.min.ensures) (c.max-high.ensures ∙ ap (λ m. max c.end_of.result (m + 1)) c.max.ensures)
+    stretched_two I c.args.i (omega (arith, I.owning.counted, c.requires.i_within)) c.in_ok-ports.was c.in-One.is c.end_of-end.ensures
+    (c.min-low.ensures ∙ ap (min c.args.i) c.min.ensures) (c.max-high.ensures ∙ ap (λ m. max c.end_of-end.result (m + 1)) c.max.ensures)

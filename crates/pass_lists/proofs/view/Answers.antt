@@ -17,7 +17,7 @@ pair_starts-requires c =
 pub full_pairs-requires : goal.full_pairs-requires
 full_pairs-requires c =
     let pre = c.requires.partitioned in
-    record { sizes = (count-few pre.0 pre.1, tallies_long_lem pre.0 pre.1); room = (c.requires.room.1, c.requires.room.2); stretches = stretches pre.0 pre.1 (c.pair_starts.ensures _ pre.1.paired) }
+    record { sizes = (count-few pre.0 pre.1, tallies_long_lem pre.0 pre.1); room = c.requires.room.1; stretches = stretches pre.0 pre.1 (c.pair_starts.ensures _ pre.1.paired) }
 
 pub mark_anchored-requires : goal.mark_anchored-requires
 mark_anchored-requires c =

@@ -1,8 +1,7 @@
--- `records::lesser_edge` meets its contract: each way out rewrites with the tests that led there. Assumes nothing.
+-- `records::lesser_edge` meets its contract: `fmin` is the choice between the two edges. Assumes nothing.
+use Rattle.definitions.specs.RampGeometry.{fmin}
 use Rattle.context.proofs.records.lesser_edge.Goals as goal
 
-pub returns-then-new-old : goal.returns-then-new-old
-returns-then-new-old c = simp (c.if-first.false, c.if-new-old.true)
-
-pub returns-else-new-old : goal.returns-else-new-old
-returns-else-new-old c = simp (c.if-first.false, c.if-new-old.false)
+pub returns-else-first : goal.returns-else-first
+unfolding fmin
+returns-else-first c = simp (c.if-first.false, c.fmin.ensures)

@@ -8,7 +8,7 @@ use Rattle.interior_proposals.specs.Given.{Given, alone, links_of}
 use Rattle.interior_proposals.proofs.components.join_cuts.Given as goal
 
 abbrev pub invariant-loop-i : goal.invariant-loop-i
-invariant-loop-i l = (l.i ≤ l.count) × ((C : Context) → Given C l.boundaries l.tallies l.pairs l.starts → C.count ≡ l.count → Parented (alone C) l.initial.parents → Merged (alone C) l.initial.parents (gather l.i (links_of C)) l.parents)
+invariant-loop-i l = (l.i ≤ l.context.count) × ((C : Context) → Given C l.context.boundaries.now l.context.tallies.now l.context.pairs.now l.context.starts.now → C.count ≡ l.context.count → Parented (alone C) l.initial.parents → Merged (alone C) l.initial.parents (gather l.i (links_of C)) l.parents)
 
 abbrev pub decreases-loop-i : goal.decreases-loop-i
-decreases-loop-i l = l.count - l.i
+decreases-loop-i l = l.context.count - l.i

@@ -6,6 +6,7 @@ use Rattle.definitions.specs.Partition.{merge_all}
 use Rattle.context.specs.Shown.{pairs_between}
 use Rattle.interior_proposals.specs.Forest.{Merged}
 use Rattle.interior_proposals.proofs.Forests.{rows_start, row-placed, rows_more, rows_end}
+use Rattle.interior_proposals.proofs.Walks.{row_low, row_high}
 use Rattle.interior_proposals.proofs.components.join_pairs.Goals as goal
 
 pub loop-k-init : goal.loop-k-init
@@ -16,7 +17,7 @@ join-requires c =
     let names : List ℕ = c.requires.joinable.0 in
     let merged : Merged names c.args.parents.now (pairs_between c.args.pairs.now c.args.first c.loop-k.k) c.loop-k.parents = c.loop-k.invariant.2 names c.requires.joinable.1.0 c.requires.joinable.1.1 in
     let k = c.loop-k.k in
-    (merge_all names (pairs_between c.args.pairs.now c.args.first k), (merged.parented, row-placed _ _ _ _ k merged (c.requires.joinable.1.1 k c.loop-k.invariant.0 c.loop-k-test.true) c.smaller_at.ensures c.larger_at.ensures))
+    (merge_all names (pairs_between c.args.pairs.now c.args.first k), (merged.parented, row-placed _ _ _ _ k merged (c.requires.joinable.1.1 k c.loop-k.invariant.0 c.loop-k-test.true) (row_low c.args.pairs.now c.loop-k.k c.row_at.ensures) (row_high c.args.pairs.now c.loop-k.k c.row_at.ensures)))
 
 pub loop-k-preserved : goal.loop-k-preserved
 loop-k-preserved c =
@@ -25,8 +26,8 @@ loop-k-preserved c =
       search rules,
       λ cs P w.
           let m = c.loop-k.invariant.2 cs P w in
-          let d = c.smaller_at.ensures in
-          let e = c.larger_at.ensures in
+          let d = row_low c.args.pairs.now c.loop-k.k c.row_at.ensures in
+          let e = row_high c.args.pairs.now c.loop-k.k c.row_at.ensures in
           let p = w k c.loop-k.invariant.0 c.loop-k-test.true in
           rows_more _ _ _ _ k m p d e c.loop-k.invariant.0 (c.join.ensures _ m.parented (row-placed _ _ _ _ k m p d e)),
     )

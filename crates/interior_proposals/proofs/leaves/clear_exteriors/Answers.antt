@@ -3,7 +3,7 @@ use Prim.Native.Nat.{ℕ, ◌≤◌}
 use native.Mathlib.Omega.{arith}
 use mathlib.Core.Path.{◌≡◌, refl, ◌∙◌}
 use borrow.Author.Rules.{rules}
-use Rattle.interior_proposals.proofs.Walks.{row_in, low_in_lem, high_in}
+use Rattle.interior_proposals.proofs.Walks.{row_low, row_high, row_in, low_in_lem, high_in}
 use Rattle.interior_proposals.proofs.ExteriorLaws.{clearing-start, clearing_more, clearing-end}
 use Rattle.interior_proposals.proofs.leaves.clear_exteriors.Goals as goal
 
@@ -13,20 +13,16 @@ marks_in h l = (h.0, omega (arith, h.1))
 pub loop-k-init : goal.loop-k-init
 loop-k-init c = (search rules, c.requires.rising, refl, λ C rs w M. clearing-start C _ _ _ _ w M)
 
-pub smaller_at-requires : goal.smaller_at-requires
-smaller_at-requires c = row_in c.requires c.loop-k.invariant.0 c.loop-k-test.true
+pub row_at-pair-requires : goal.row_at-pair-requires
+row_at-pair-requires c = row_in c.requires c.loop-k.invariant.0 c.loop-k-test.true
 
 pub clear_exterior-requires : goal.clear_exterior-requires
 clear_exterior-requires c =
-    marks_in (low_in_lem c.requires c.loop-k.invariant.0 c.loop-k-test.true c.smaller_at.ensures) c.loop-k.invariant.2
-
-pub larger_at-requires : goal.larger_at-requires
-larger_at-requires c =
-    row_in c.requires c.loop-k.invariant.0 c.loop-k-test.true
+    marks_in (low_in_lem c.requires c.loop-k.invariant.0 c.loop-k-test.true (row_low c.args.pairs.now c.loop-k.k c.row_at-pair.ensures)) c.loop-k.invariant.2
 
 pub clear_exterior-requires-in-loop-k : goal.clear_exterior-requires-in-loop-k
 clear_exterior-requires-in-loop-k c =
-    marks_in (high_in c.requires c.loop-k.invariant.0 c.loop-k-test.true c.larger_at.ensures) (c.clear_exterior.ensures.marks_length ∙ c.loop-k.invariant.2)
+    marks_in (high_in c.requires c.loop-k.invariant.0 c.loop-k-test.true (row_high c.args.pairs.now c.loop-k.k c.row_at-pair.ensures)) (c.clear_exterior.ensures.marks_length ∙ c.loop-k.invariant.2)
 
 pub loop-k-preserved : goal.loop-k-preserved
 loop-k-preserved c = (
@@ -34,7 +30,7 @@ loop-k-preserved c = (
   omega (arith, c.loop-k-test.true),
   c.clear_exterior-in-loop-k.ensures.marks_length ∙ c.clear_exterior.ensures.marks_length ∙ c.loop-k.invariant.2,
   λ C rs w M.
-      clearing_more C _ _ _ _ w c.loop-k.k c.loop-k.invariant.0 c.loop-k-test.true c.smaller_at.ensures c.larger_at.ensures (c.loop-k.invariant.3 C rs w M) c.clear_exterior.ensures.marks c.clear_exterior-in-loop-k.ensures.marks,
+      clearing_more C _ _ _ _ w c.loop-k.k c.loop-k.invariant.0 c.loop-k-test.true (row_low c.args.pairs.now c.loop-k.k c.row_at-pair.ensures) (row_high c.args.pairs.now c.loop-k.k c.row_at-pair.ensures) (c.loop-k.invariant.3 C rs w M) c.clear_exterior.ensures.marks c.clear_exterior-in-loop-k.ensures.marks,
 )
 
 pub shape_of-marks : goal.shape_of-marks

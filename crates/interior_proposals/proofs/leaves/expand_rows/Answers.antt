@@ -4,7 +4,7 @@ use native.Mathlib.Omega.{arith}
 use mathlib.Core.Path.{refl, ◌∙◌}
 use lib.ListN.{length}
 use borrow.Author.Rules.{rules}
-use Rattle.interior_proposals.proofs.Walks.{row_in, low_in_lem, high_in}
+use Rattle.interior_proposals.proofs.Walks.{row_low, row_high, row_in, low_in_lem, high_in}
 use Rattle.interior_proposals.proofs.LeafLaws.{up_to, held_start, row_of, held_more, held-end}
 use Rattle.interior_proposals.proofs.leaves.expand_rows.Goals as goal
 
@@ -14,19 +14,16 @@ both_in h k l = (h.0, (omega (arith, h.1), omega (arith, h.1)))
 pub loop-k-init : goal.loop-k-init
 loop-k-init c = (search rules, c.requires.1.0.rising, refl, λ C i rs es v P I M. held_start C i _ rs es v _ _ _ P I)
 
-pub smaller_at-lo-requires : goal.smaller_at-lo-requires
-smaller_at-lo-requires c = row_in c.requires.1.0 c.loop-k.invariant.0 c.loop-k-test.true
-
-pub larger_at-hi-requires : goal.larger_at-hi-requires
-larger_at-hi-requires c = row_in c.requires.1.0 c.loop-k.invariant.0 c.loop-k-test.true
+pub row_at-requires : goal.row_at-requires
+row_at-requires c = row_in c.requires.1.0 c.loop-k.invariant.0 c.loop-k-test.true
 
 pub expand_row-ok-requires : goal.expand_row-ok-requires
 expand_row-ok-requires c =
     let w = c.requires.1 in
     let named : c.requires.0 ≤ length c.loop-k.names = omega (arith, c.loop-k.invariant.2, w.1.0) in
     record {
-      lo_named = both_in (low_in_lem w.0 c.loop-k.invariant.0 c.loop-k-test.true c.smaller_at-lo.ensures) named w.1.1;
-      hi_named = both_in (high_in w.0 c.loop-k.invariant.0 c.loop-k-test.true c.larger_at-hi.ensures) named w.1.1;
+      lo_named = both_in (low_in_lem w.0 c.loop-k.invariant.0 c.loop-k-test.true (row_low c.args.pairs.now c.loop-k.k c.row_at.ensures)) named w.1.1;
+      hi_named = both_in (high_in w.0 c.loop-k.invariant.0 c.loop-k-test.true (row_high c.args.pairs.now c.loop-k.k c.row_at.ensures)) named w.1.1;
     }
 
 pub loop-k-preserved : goal.loop-k-preserved
@@ -39,8 +36,8 @@ loop-k-preserved c =
       λ C i rs es v P I M.
           let H = c.loop-k.invariant.3 C i rs es v P I M in
           let s = up_to C i c.args.r rs es v c.args.pairs.now c.args.first c.args.end P k in
-          held_more C i _ rs es v _ _ _ P k u c.loop-k-test.true c.smaller_at-lo.ensures c.larger_at-hi.ensures H
-          (c.expand_row-ok.ensures.expanded C i s.regions es s.valid (row_of C i c.args.r rs es v _ _ _ P k u c.loop-k-test.true c.smaller_at-lo.ensures c.larger_at-hi.ensures) H.inside M),
+          held_more C i _ rs es v _ _ _ P k u c.loop-k-test.true (row_low c.args.pairs.now c.loop-k.k c.row_at.ensures) (row_high c.args.pairs.now c.loop-k.k c.row_at.ensures) H
+          (c.expand_row-ok.ensures.expanded C i s.regions es s.valid (row_of C i c.args.r rs es v _ _ _ P k u c.loop-k-test.true (row_low c.args.pairs.now c.loop-k.k c.row_at.ensures) (row_high c.args.pairs.now c.loop-k.k c.row_at.ensures)) H.inside M),
     )
 
 pub shape_of-names : goal.shape_of-names

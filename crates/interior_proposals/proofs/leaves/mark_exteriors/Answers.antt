@@ -4,7 +4,7 @@ use native.Mathlib.Omega.{arith}
 use mathlib.Core.Path.{refl, ◌∙◌}
 use borrow.Author.Rules.{rules}
 use Rattle.interior_proposals.specs.Owners.{Walkable}
-use Rattle.interior_proposals.proofs.Walks.{row_in, low_in_lem, high_in}
+use Rattle.interior_proposals.proofs.Walks.{row_low, row_high, row_in, low_in_lem, high_in}
 use Rattle.interior_proposals.proofs.ExteriorLaws.{marking-start, marking_more, marking-end}
 use Rattle.interior_proposals.proofs.leaves.mark_exteriors.Goals as goal
 
@@ -14,15 +14,8 @@ longer h l = (h.0, omega (arith, h.1))
 pub loop-k-init : goal.loop-k-init
 loop-k-init c = (search rules, c.requires.1.0.rising, refl, λ C rs w I M. marking-start C rs _ _ _ _ _ I w M)
 
-pub smaller_at-lo-requires : goal.smaller_at-lo-requires
-smaller_at-lo-requires c =
-    let walk : Walkable c.args.pairs.now c.args.first c.args.end c.requires.0 = c.requires.1.0 in
-    let up : c.args.first ≤ c.loop-k.k = c.loop-k.invariant.0 in
-    let in_rows : c.loop-k.k < c.args.end = c.loop-k-test.true in
-    row_in walk up in_rows
-
-pub larger_at-hi-requires : goal.larger_at-hi-requires
-larger_at-hi-requires c =
+pub row_at-pair-requires : goal.row_at-pair-requires
+row_at-pair-requires c =
     let walk : Walkable c.args.pairs.now c.args.first c.args.end c.requires.0 = c.requires.1.0 in
     let up : c.args.first ≤ c.loop-k.k = c.loop-k.invariant.0 in
     let in_rows : c.loop-k.k < c.args.end = c.loop-k-test.true in
@@ -33,28 +26,28 @@ parent_of-requires c =
     let walk : Walkable c.args.pairs.now c.args.first c.args.end c.requires.0 = c.requires.1.0 in
     let up : c.args.first ≤ c.loop-k.k = c.loop-k.invariant.0 in
     let in_rows : c.loop-k.k < c.args.end = c.loop-k-test.true in
-    longer (low_in_lem walk up in_rows c.smaller_at-lo.ensures) c.requires.1.1.0
+    longer (low_in_lem walk up in_rows (row_low c.args.pairs.now c.loop-k.k c.row_at-pair.ensures)) c.requires.1.1.0
 
 pub parent_of-requires-in-loop-k : goal.parent_of-requires-in-loop-k
 parent_of-requires-in-loop-k c =
     let walk : Walkable c.args.pairs.now c.args.first c.args.end c.requires.0 = c.requires.1.0 in
     let up : c.args.first ≤ c.loop-k.k = c.loop-k.invariant.0 in
     let in_rows : c.loop-k.k < c.args.end = c.loop-k-test.true in
-    longer (high_in walk up in_rows c.larger_at-hi.ensures) c.requires.1.1.0
+    longer (high_in walk up in_rows (row_high c.args.pairs.now c.loop-k.k c.row_at-pair.ensures)) c.requires.1.1.0
 
 pub mark_exterior-requires : goal.mark_exterior-requires
 mark_exterior-requires c =
     let walk : Walkable c.args.pairs.now c.args.first c.args.end c.requires.0 = c.requires.1.0 in
     let up : c.args.first ≤ c.loop-k.k = c.loop-k.invariant.0 in
     let in_rows : c.loop-k.k < c.args.end = c.loop-k-test.true in
-    longer (high_in walk up in_rows c.larger_at-hi.ensures) (omega (arith, c.loop-k.invariant.2, c.requires.1.1.1))
+    longer (high_in walk up in_rows (row_high c.args.pairs.now c.loop-k.k c.row_at-pair.ensures)) (omega (arith, c.loop-k.invariant.2, c.requires.1.1.1))
 
 pub mark_exterior-requires-in-loop-k : goal.mark_exterior-requires-in-loop-k
 mark_exterior-requires-in-loop-k c =
     let walk : Walkable c.args.pairs.now c.args.first c.args.end c.requires.0 = c.requires.1.0 in
     let up : c.args.first ≤ c.loop-k.k = c.loop-k.invariant.0 in
     let in_rows : c.loop-k.k < c.args.end = c.loop-k-test.true in
-    longer (low_in_lem walk up in_rows c.smaller_at-lo.ensures) (omega (arith, c.mark_exterior.ensures.marks_length, c.loop-k.invariant.2, c.requires.1.1.1))
+    longer (low_in_lem walk up in_rows (row_low c.args.pairs.now c.loop-k.k c.row_at-pair.ensures)) (omega (arith, c.mark_exterior.ensures.marks_length, c.loop-k.invariant.2, c.requires.1.1.1))
 
 pub loop-k-preserved : goal.loop-k-preserved
 loop-k-preserved c =
@@ -64,7 +57,7 @@ loop-k-preserved c =
       omega (arith, in_rows),
       c.mark_exterior-in-loop-k.ensures.marks_length ∙ c.mark_exterior.ensures.marks_length ∙ c.loop-k.invariant.2,
       λ C rs w I M.
-          marking_more C rs _ _ _ _ _ I w c.loop-k.k up in_rows c.smaller_at-lo.ensures c.larger_at-hi.ensures c.parent_of.ensures c.parent_of-in-loop-k.ensures (c.loop-k.invariant.3 C rs w I M) c.mark_exterior.ensures.marks c.mark_exterior-in-loop-k.ensures.marks,
+          marking_more C rs _ _ _ _ _ I w c.loop-k.k up in_rows (row_low c.args.pairs.now c.loop-k.k c.row_at-pair.ensures) (row_high c.args.pairs.now c.loop-k.k c.row_at-pair.ensures) c.parent_of.ensures c.parent_of-in-loop-k.ensures (c.loop-k.invariant.3 C rs w I M) c.mark_exterior.ensures.marks c.mark_exterior-in-loop-k.ensures.marks,
     )
 
 pub shape_of-marks : goal.shape_of-marks

@@ -1,60 +1,44 @@
--- `owners::common_name` meets its contract. The invariant: the rows passed have the name of the first. Assumes nothing.
-use Rattle.interior_proposals.proofs.Walks.{row_in, low_in_lem}
-use Prim.Native.Nat.{◌-◌, ◌<◌}
-use native.Mathlib.Omega.{arith}
-use mathlib.Core.Path.{◌≡◌, sym, ap, ap₂, ◌∙◌}
-use mathlib.Core.Bool.{true, ◌&&◌}
-use lib.ListN.{get_or}
+-- `owners::common_name` meets its contract, by what `all` gives. Assumes nothing.
+use Rattle.std.proofs.Common.{rules, tests, arith, sym, ap, ◌≡◌, ◌∙◌, ◌-◌, ◌<◌, true, false, get_or}
 use lib.Arith.{lt_of_le-ne}
-use borrow.Author.Tests.{eq-eqb}
+use Rattle.laws.specs.ListLaws.Chains.{all_from_range}
 use Rattle.context.specs.Shown.{pair_at, pairs_between}
-use Rattle.interior_proposals.specs.Owners.{low_named, none, one, several_names}
-use Rattle.interior_proposals.proofs.RowScans.{between_none, all-rows_none, all-rows_next, all-rows_end, any-rows_at}
+use Rattle.interior_proposals.specs.Owners.{low_named, none}
+use Rattle.interior_proposals.proofs.Walks.{row_low, row_in, low_in_lem}
+use Rattle.interior_proposals.proofs.RowScans.{between_none}
+use Rattle.interior_proposals.proofs.Commons.{common_one, common-several}
 use Rattle.interior_proposals.proofs.owners.common_name.Goals as goal
 
 pub returns-then-first-end : goal.returns-then-first-end
 returns-then-first-end c =
     none (sym (ap (pairs_between c.args.pairs.now c.args.first) c.if-first-end.true) ∙ between_none c.args.pairs.now c.args.first)
 
-pub smaller_at-requires : goal.smaller_at-requires
-smaller_at-requires c =
+pub row_at-requires : goal.row_at-requires
+row_at-requires c =
     let some_row : c.args.first < c.args.end = lt_of_le-ne c.requires.rising c.if-first-end.false in
     row_in c.requires (omega arith) some_row
 
 pub parent_of-name-requires : goal.parent_of-name-requires
 parent_of-name-requires c =
     let some_row : c.args.first < c.args.end = lt_of_le-ne c.requires.rising c.if-first-end.false in
-    low_in_lem c.requires (omega arith) some_row c.smaller_at.ensures
+    low_in_lem c.requires (omega arith) some_row (row_low c.args.pairs.now c.args.first c.row_at.ensures)
 
-pub loop-k-init : goal.loop-k-init
-loop-k-init c =
-    let first_named : low_named c.args.names.now c.parent_of-name.result (pair_at c.args.pairs.now c.args.first) ≡ true = eq-eqb _ _ (sym (c.parent_of-name.ensures ∙ ap (λ x. get_or c.args.names.now (x - 1) 0) c.smaller_at.ensures)) in
+pub returns-then-all : goal.returns-then-all
+returns-then-all c =
     let some_row : c.args.first < c.args.end = lt_of_le-ne c.requires.rising c.if-first-end.false in
-    (omega arith, omega (arith, some_row), all-rows_next _ _ _ _ (omega arith) ∙ ap₂ ◌&&◌ (all-rows_none _ _ _) first_named)
+    let name = c.parent_of-name.result in
+    let rows = c.args.pairs.now in
+    let names = c.args.names.now in
+    common_one names rows c.args.first c.args.end some_row (c.parent_of-name.ensures ∙ ap (λ x. get_or names (x - 1) 0) (row_low c.args.pairs.now c.args.first c.row_at.ensures)) _
+    (all_from_range _ _ _ c.all.result (λ k. low_named names name (pair_at rows k) ≡ true) (λ k. low_named names name (pair_at rows k) ≡ false)
+    c.all.ensures.ran (λ x q k. search (rules, tests)) (λ x q k. search (rules, tests))) c.if-all.true
 
-pub smaller_at-requires-in-loop-k : goal.smaller_at-requires-in-loop-k
-smaller_at-requires-in-loop-k c = row_in c.requires (omega (arith, c.loop-k.invariant.0)) c.loop-k-test.true
-
-pub parent_of-requires : goal.parent_of-requires
-parent_of-requires c = low_in_lem c.requires (omega (arith, c.loop-k.invariant.0)) c.loop-k-test.true c.smaller_at-in-loop-k.ensures
-
-pub returns-then-parent_of-name : goal.returns-then-parent_of-name
-returns-then-parent_of-name c =
-    let first_named : low_named c.args.names.now c.parent_of-name.result (pair_at c.args.pairs.now c.args.first) ≡ true = eq-eqb _ _ (sym (c.parent_of-name.ensures ∙ ap (λ x. get_or c.args.names.now (x - 1) 0) c.smaller_at.ensures)) in
+pub returns-else-all : goal.returns-else-all
+returns-else-all c =
     let some_row : c.args.first < c.args.end = lt_of_le-ne c.requires.rising c.if-first-end.false in
-    let row-name : c.parent_of.result ≡ get_or c.args.names.now ((pair_at c.args.pairs.now c.loop-k.k).lo - 1) 0 = c.parent_of.ensures ∙ ap (λ x. get_or c.args.names.now (x - 1) 0) c.smaller_at-in-loop-k.ensures in
-    several_names c.parent_of-name.result c.parent_of.result (λ e. c.if-parent_of-name.true (sym e))
-    (any-rows_at _ _ _ _ _ (omega arith) some_row first_named)
-    (any-rows_at _ _ _ _ _ (omega (arith, c.loop-k.invariant.0)) c.loop-k-test.true (eq-eqb _ _ (sym row-name)))
-
-pub loop-k-preserved : goal.loop-k-preserved
-loop-k-preserved c =
-    let row-name : c.parent_of.result ≡ get_or c.args.names.now ((pair_at c.args.pairs.now c.loop-k.k).lo - 1) 0 = c.parent_of.ensures ∙ ap (λ x. get_or c.args.names.now (x - 1) 0) c.smaller_at-in-loop-k.ensures in
-    (omega (arith, c.loop-k.invariant.0), omega (arith, c.loop-k-test.true), all-rows_next _ _ _ _ (omega (arith, c.loop-k.invariant.0)) ∙ ap₂ ◌&&◌ c.loop-k.invariant.2 (eq-eqb _ _ (sym row-name ∙ c.if-parent_of-name.false)))
-
-pub returns : goal.returns
-returns c =
-    let first_named : low_named c.args.names.now c.parent_of-name.result (pair_at c.args.pairs.now c.args.first) ≡ true = eq-eqb _ _ (sym (c.parent_of-name.ensures ∙ ap (λ x. get_or c.args.names.now (x - 1) 0) c.smaller_at.ensures)) in
-    let some_row : c.args.first < c.args.end = lt_of_le-ne c.requires.rising c.if-first-end.false in
-    one c.parent_of-name.result (sym (all-rows_end _ _ _ c.loop-k.invariant.1 c.loop-k-test.false) ∙ c.loop-k.invariant.2)
-    (any-rows_at _ _ _ _ _ (omega arith) some_row first_named)
+    let name = c.parent_of-name.result in
+    let rows = c.args.pairs.now in
+    let names = c.args.names.now in
+    common-several names rows c.args.first c.args.end some_row (c.parent_of-name.ensures ∙ ap (λ x. get_or names (x - 1) 0) (row_low c.args.pairs.now c.args.first c.row_at.ensures)) _
+    (all_from_range _ _ _ c.all.result (λ k. low_named names name (pair_at rows k) ≡ true) (λ k. low_named names name (pair_at rows k) ≡ false)
+    c.all.ensures.ran (λ x q k. search (rules, tests)) (λ x q k. search (rules, tests))) c.if-all.false

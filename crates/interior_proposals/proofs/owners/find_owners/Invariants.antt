@@ -5,12 +5,12 @@ use lib.ListN.{length}
 use Rattle.definitions.specs.Limits.{max_entries}
 use Rattle.definitions.specs.Context.{Context}
 use Rattle.interior_proposals.specs.Given.{Kept}
-use Rattle.interior_proposals.specs.Owners.{Owned}
+use Rattle.interior_proposals.specs.Owners.{nobody, Owned}
 use Rattle.interior_proposals.proofs.Stored.{Filled}
 use Rattle.interior_proposals.proofs.owners.find_owners.Given as goal
 
 abbrev pub invariant-loop-i : goal.invariant-loop-i
-invariant-loop-i l = (l.i ≤ l.count) × (length l.owners ≡ max_entries) × ((C : Context) → Kept C l.boundaries l.tallies l.pairs l.starts l.names → C.count ≡ l.count → Filled (Owned C) 0 l.owners l.i)
+invariant-loop-i l = (l.i ≤ l.context.count) × (length l.owners ≡ max_entries) × ((C : Context) → Kept C l.context.boundaries.now l.context.tallies.now l.context.pairs.now l.context.starts.now l.names → C.count ≡ l.context.count → Filled (Owned C) nobody l.owners l.i)
 
 abbrev pub decreases-loop-i : goal.decreases-loop-i
-decreases-loop-i l = l.count - l.i
+decreases-loop-i l = l.context.count - l.i

@@ -13,7 +13,7 @@ common_name-requires c =
 pub returns-then-is_ordinary : goal.returns-then-is_ordinary
 returns-then-is_ordinary c =
     λ C K l.
-    owned C _ K.named (components-size C) K.given.paired l (sym (c.is_ordinary.ensures C K.given.bounds K.given.tallied l) ∙ c.if-is_ordinary.true) K.few c.common_name.ensures
+    owned C _ K.named (components-size C) K.given.paired l (sym (c.is_ordinary.ensures C K.given.bounds K.given.tallied l) ∙ c.if-is_ordinary.true) c.common_name.ensures
 
 pub returns-else-is_ordinary : goal.returns-else-is_ordinary
 returns-else-is_ordinary c =

@@ -30,7 +30,7 @@ ports_fit-requires c =
     let F = c.requires.1 in
     let h = sym (c.if-not-is_candidate.ensures c.requires.0 F.mapped F.counted F.owned) in
     let l = ports-below F h (c.in_ok-ports.ensures c.requires.0 F.mapped F.counted F.owned h) in
-    (facing-listed F _ l.0, facing-listed F _ l.1)
+    record { first_listed = facing-listed F _ l.0; second_listed = facing-listed F _ l.1 }
 
 pub returns-then-not-ports_fit : goal.returns-then-not-ports_fit
 returns-then-not-ports_fit c = record {
@@ -47,7 +47,7 @@ expand_ports-requires c =
     let F = c.requires.1 in
     let h = sym (c.if-not-is_candidate.ensures c.requires.0 F.mapped F.counted F.owned) in
     let l = ports-below F h (c.in_ok-ports.ensures c.requires.0 F.mapped F.counted F.owned h) in
-    (facing-reachable F _ l.0, facing-reachable F _ l.1)
+    record { first_reachable = facing-reachable F _ l.0; second_reachable = facing-reachable F _ l.1 }
 
 pub returns-then-expand_ports : goal.returns-then-expand_ports
 returns-then-expand_ports c = record {

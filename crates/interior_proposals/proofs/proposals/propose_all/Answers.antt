@@ -13,8 +13,8 @@ pub loop-i-init : goal.loop-i-init
 loop-i-init c =
     (search rules, refl, refl, c.requires.room, λ C was wasMarks W P. (P, λ j l. absurd (omega arith)))
 
-pub propose_at-ports-requires : goal.propose_at-ports-requires
-propose_at-ports-requires c =
+pub propose_at-requires : goal.propose_at-requires
+propose_at-requires c =
     let w = c.requires.progress in
     record {
       i_within = c.loop-i-test.true;
@@ -30,12 +30,12 @@ loop-i-preserved c =
     let inv = c.loop-i.invariant in
     let i = c.loop-i.i in (
       omega (arith, c.loop-i-test.true),
-      c.propose_at-ports.ensures.lengths.0 ∙ inv.1,
-      c.propose_at-ports.ensures.lengths.1 ∙ inv.2,
+      c.propose_at.ensures.lengths.0 ∙ inv.1,
+      c.propose_at.ensures.lengths.1 ∙ inv.2,
       simp length-set inv.3,
       λ C was wasMarks W P.
           let w = inv.4 C was wasMarks W P in
-          let n = c.propose_at-ports.ensures.proposed C was wasMarks W w.0 in
+          let n = c.propose_at.ensures.proposed C was wasMarks W w.0 in
           (n.0, found_more C _ c.loop-i.found i w.1 (omega (arith, few, inv.3)) n.1),
     )
 

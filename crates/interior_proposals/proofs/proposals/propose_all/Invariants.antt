@@ -10,8 +10,8 @@ use Rattle.interior_proposals.proofs.proposals.propose_all.Given as goal
 
 abbrev pub invariant-loop-i : goal.invariant-loop-i
 invariant-loop-i l =
-    (l.i ≤ l.count) × (length l.names ≡ length l.initial.names) × (length l.marks ≡ length l.initial.marks) × (length l.found ≡ max_entries)
-    × ((C : Context) (was wasMarks : List ℕ) → Owning C l.boundaries l.tallies l.pairs l.starts l.owners l.count → Progress C l.owners was l.initial.names wasMarks l.initial.marks 0 → Progress C l.owners was l.names wasMarks l.marks l.i × FoundAll C l.owners l.found l.i)
+    (l.i ≤ l.context.count) × (length l.names ≡ length l.initial.names) × (length l.marks ≡ length l.initial.marks) × (length l.found ≡ max_entries)
+    × ((C : Context) (was wasMarks : List ℕ) → Owning C l.context.boundaries.now l.context.tallies.now l.context.pairs.now l.context.starts.now l.owners l.context.count → Progress C l.owners was l.initial.names wasMarks l.initial.marks 0 → Progress C l.owners was l.names wasMarks l.marks l.i × FoundAll C l.owners l.found l.i)
 
 abbrev pub decreases-loop-i : goal.decreases-loop-i
-decreases-loop-i l = l.count - l.i
+decreases-loop-i l = l.context.count - l.i

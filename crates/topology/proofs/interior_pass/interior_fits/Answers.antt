@@ -19,7 +19,7 @@ use Rattle.topology.proofs.interior_pass.interior_fits.Goals as goal
 
 -- what is asked, over plain variables
 module _ {records : List Region} {boundaries pairs names : List ℕ} {x : Interior} (pre : (C : Context) × Asks C records boundaries pairs names x) where
-  reach-asked : Placed boundaries x.first × Placed boundaries x.second
+  reach-asked : Placed boundaries x.ports.first × Placed boundaries x.ports.second
   reach-asked = (asks_placed pre.1 _ pre.1.first, asks_placed pre.1 _ pre.1.second)
 
   start : (x.begin ≤ x.end) × ((C : Context) → Asks C records boundaries pairs names x → Looking C pairs names x true false x.begin)
@@ -27,7 +27,7 @@ module _ {records : List Region} {boundaries pairs names : List ℕ} {x : Interi
 
   module _ {fits ramp : Bool} {k : ℕ} (inv : (k ≤ x.end) × ((C : Context) → Asks C records boundaries pairs names x → Looking C pairs names x fits ramp k)) where
     done : x.end ≤ k → (C : Context) → Asks C records boundaries pairs names x
-        → (fits && ramp) ≡ interior_fits_lem C pairs names x.name x.begin x.first x.second x.end
+        → (fits && ramp) ≡ interior_fits_lem C pairs names x.name x.begin x.ports.first x.ports.second x.end
     done f C A = looking_ends C _ _ _ (inv.1 C A) (omega (arith, f, inv.0))
 
     module _ (below : k < x.end) where
@@ -49,7 +49,7 @@ module _ {records : List Region} {boundaries pairs names : List ℕ} {x : Interi
           in_records = place_in pre.1.held at (here pre.1).from (here pre.1).upto
 
           again : {reach : Reach}
-              → ((C : Context) → ShownBoundaries C boundaries → x.first < C.count → x.second < C.count → Aimed C x.first x.second reach)
+              → ((C : Context) → ShownBoundaries C boundaries → x.ports.first < C.count → x.ports.second < C.count → Aimed C x.ports.first x.ports.second reach)
               → {s : Region} → ((d : Region) → s ≡ get_or records p d)
               → {f : Bool} → ((C : Context) (a b q : ℕ) → Aimed C a b reach → record_of s ≡ C.region q → PassInRange C → f ≡ region_fits C a b q)
               → (k + 1 ≤ x.end) × ((C : Context) → Asks C records boundaries pairs names x → Looking C pairs names x (fits && f) (ramp || has_ramp (record_of s)) (k + 1))

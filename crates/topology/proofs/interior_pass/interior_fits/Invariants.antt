@@ -6,4 +6,4 @@ use Rattle.topology.proofs.InteriorLoops.{Looking}
 use Rattle.topology.proofs.interior_pass.interior_fits.Given as goal
 
 abbrev pub invariant-loop-k : goal.invariant-loop-k
-invariant-loop-k l = (l.k ≤ l.interior.end) × ((C : Context) → Asks C l.records l.boundaries l.pairs l.names l.interior → Looking C l.pairs l.names l.interior l.fits l.ramp l.k)
+invariant-loop-k l = (l.k ≤ l.interior.end) × ((C : Context) → Asks C l.records l.context.boundaries.now l.context.pairs.now l.names l.interior → Looking C l.context.pairs.now l.names l.interior l.fits l.ramp l.k)

@@ -1,9 +1,11 @@
 -- The interior that `interior_at` finds at a boundary fits or does not, and `mark_edges` marks the edges of one that fits (`InteriorLoops`).
-use Rattle.std.proofs.Common.{◌≡◌, ℕ, ◌+◌, ◌≤◌, ◌<◌, Bool, false, ◌&&◌, ◌||◌, eqb, List, length, get_or, arith}
+use Rattle.std.proofs.Common.{◌≡◌, ℕ, ◌+◌, ◌≤◌, ◌<◌, Bool, false, ◌&&◌, ◌||◌, List, length, get_or, arith}
 use Rattle.std.specs.Prelude.{Option}
 use Rattle.definitions.specs.Limits.{max_entries}
 use Rattle.definitions.specs.Context.{Context}
 use Rattle.context.specs.declared.Region.{Region}
+use Rattle.interior_proposals.specs.declared.owners.Owner.{Owner}
+use Rattle.interior_proposals.specs.Owners.{owned_by, owner_at}
 use Rattle.interior_proposals.specs.declared.ports.Ports.{Ports}
 use Rattle.interior_regions.specs.declared.Interior.{Interior}
 use Rattle.interior_regions.specs.Places.{interior_fits_lem}
@@ -13,13 +15,13 @@ use Rattle.topology.specs.Proposals.{Unmarked}
 use Rattle.topology.proofs.InteriorLoops.{judges_asks, Judging, judging_start, judging_past, judging_more, judging_ends}
 use Rattle.topology.proofs.interior_pass.judge_interiors.Goals as goal
 
-abbrev Inv : (records : List Region) (boundaries pairs starts names owners : List ℕ) (found : List (Option Ports)) (count : ℕ) (removed : List Bool) (i : ℕ) → Type 0
+abbrev Inv : (records : List Region) (boundaries pairs starts names : List ℕ) (owners : List Owner) (found : List (Option Ports)) (count : ℕ) (removed : List Bool) (i : ℕ) → Type 0
 Inv records boundaries pairs starts names owners found count removed i =
     (i ≤ count) × (length removed ≡ max_entries)
     × ((C : Context) → Judges C records boundaries pairs starts names owners found count → Judging C owners removed count i)
 
 -- what is asked, over plain variables
-module _ {records : List Region} {boundaries pairs starts names owners : List ℕ} {found : List (Option Ports)} {count : ℕ} {removed : List Bool} where
+module _ {records : List Region} {boundaries pairs starts names : List ℕ} {owners : List Owner} {found : List (Option Ports)} {count : ℕ} {removed : List Bool} where
   start : (length removed ≡ max_entries) × Unmarked removed count → Inv records boundaries pairs starts names owners found count removed 0
   start p = (omega arith, p.0, λ C J. judging_start C _ p.1)
 
@@ -49,9 +51,9 @@ module _ {records : List Region} {boundaries pairs starts names owners : List �
         fits-asked = (_, judges_asks pre.1 (stands _ _ _ _ pre.1.interiors))
 
         again : {f : Bool}
-            → ((C : Context) → Asks C records boundaries pairs names x → f ≡ interior_fits_lem C pairs names x.name x.begin x.first x.second x.end)
+            → ((C : Context) → Asks C records boundaries pairs names x → f ≡ interior_fits_lem C pairs names x.name x.begin x.ports.first x.ports.second x.end)
             → (next : List Bool)
-            → ((j : ℕ) → j < count → get_or next j false ≡ (get_or removed j false || (f && eqb (get_or owners j 0) x.name))) → length next ≡ max_entries
+            → ((j : ℕ) → j < count → get_or next j false ≡ (get_or removed j false || (f && owned_by x.name (owner_at owners j)))) → length next ≡ max_entries
             → Inv records boundaries pairs starts names owners found count next (i + 1)
         again judged next m long = (
           omega (arith, below),
@@ -78,8 +80,8 @@ loop-i-preserved c =
     let m = c.mark_edges.ensures in
     again c.requires.interiors_found c.loop-i.invariant c.loop-i-test.true c.in-Some.ensures c.interior_fits-fits.ensures _ m.removed m.removed_length
 
-pub loop-i-preserved-in-None : goal.loop-i-preserved-in-None
-loop-i-preserved-in-None c = past c.requires.interiors_found c.loop-i.invariant c.loop-i-test.true c.in-None.ensures
+pub loop-i-preserved-in_default : goal.loop-i-preserved-in_default
+loop-i-preserved-in_default c = past c.requires.interiors_found c.loop-i.invariant c.loop-i-test.true c.in_default.ensures
 
 pub returns : goal.returns
 returns c = done c.requires.interiors_found c.loop-i.invariant c.loop-i-test.false

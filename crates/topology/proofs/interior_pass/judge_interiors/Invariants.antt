@@ -8,9 +8,9 @@ use Rattle.topology.proofs.interior_pass.judge_interiors.Given as goal
 
 abbrev pub invariant-loop-i : goal.invariant-loop-i
 invariant-loop-i l =
-    (l.i ≤ l.count) × (length l.removed ≡ max_entries)
-    × ((C : Context) → Judges C l.records l.boundaries l.pairs l.starts l.names l.owners l.found l.count
-    → Judging C l.owners l.removed l.count l.i)
+    (l.i ≤ l.context.count) × (length l.removed ≡ max_entries)
+    × ((C : Context) → Judges C l.records l.context.boundaries.now l.context.pairs.now l.context.starts.now l.names l.owners l.found l.context.count
+    → Judging C l.owners l.removed l.context.count l.i)
 
 abbrev pub decreases-loop-i : goal.decreases-loop-i
-decreases-loop-i l = l.count - l.i
+decreases-loop-i l = l.context.count - l.i
