@@ -75,7 +75,9 @@ fn inner_fit(pairs: &[u32], regions: RegionMarks, first: usize, end: usize, side
         first ≤ k →
         k < end →
         NamedRow pairs.now (length regions.counts.now) k × NamedRow pairs.now (length regions.marks.now) k }
-    ensures { result ≡ all (inner_fits regions.entry.marks.now regions.entry.counts.now sides.outer sides.approach) (regions_of (pairs_between pairs.now first end)) }
+    ensures { result
+        ≡ all (inner_fits regions.entry.marks.now regions.entry.counts.now sides.outer sides.approach)
+        (regions_of (pairs_between pairs.now first end)) }
 {
     (first..end).all(|k| {
         let p = row_at(pairs, k);
