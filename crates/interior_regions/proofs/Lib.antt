@@ -1,5 +1,4 @@
 mod Backwards
-mod Marking
 mod Starting
 mod Stretches
 pub mod PlaceLaws

@@ -42,6 +42,7 @@ pub fn find_incidents(
     ensures { Listed full.now count (pair_form union) incidents.new result }
 {
     let mut n = 0;
+    // Kept: without a heap nothing can be collected, so the lent list is filled.
     for j in 0..count {
         if names_region(full[j], union.lo) | names_region(full[j], union.hi) {
             incidents[n] = j as u8;

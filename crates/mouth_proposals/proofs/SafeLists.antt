@@ -16,7 +16,7 @@ use Rattle.definitions.specs.Context.{Context, no_ramp}
 use Rattle.context.specs.Shown.{ShownBoundaries, ShownPairs}
 use Rattle.context.specs.Rows.{Stretch, NamedRow}
 use Rattle.context.proofs.ShownLaws.{shown-stretch, shown-rows}
-use Rattle.mouth_proposals.specs.Lent.{Placed, Shown}
+use Rattle.mouth_proposals.specs.Lent.{Shown}
 use Rattle.mouth_proposals.specs.Rows.{rows_of}
 use Rattle.mouth_proposals.specs.Candidates.{approach_of, Within}
 use Rattle.mouth_proposals.specs.declared.approaches.Approach.{Approach}
@@ -26,9 +26,6 @@ pub below : {i n k : ℕ} → n ≡ k → i < k → i < n
 below {i} e h = subst (λ n. i < n) (sym e) h
 
 module _ {boundaries tallies pairs starts counts marks : List ℕ} {count : ℕ} (L : Shown boundaries tallies pairs starts counts marks count) where
-  pub placed_at : {i : ℕ} → i < count → Placed boundaries i
-  placed_at {i} h = L.shows.placed i h
-
   pub stretch_at : {i : ℕ} → i < count → Stretch pairs starts i
   stretch_at {i} h = shown-stretch L.shows.rows i (below L.shows.counted h)
 

@@ -18,8 +18,8 @@ use crate::regions::RegionMarks;
 use context::PartitionContext;
 use geometry::boundaries::kind_at;
 
-// What a mouth proposes to a ramp (`MouthProposal` of ramp_boundaries.rs): the boundaries of both, the region outside, if there is one, and the kind. Its inner regions
-// are the others that the mouth's rows name.
+// What a mouth proposes to a ramp (`MouthProposal` of ramp_boundaries.rs): the boundaries of both, the region outside, if there is one, and the kind. Its inner
+// regions are the others that the mouth's rows name.
 #[derive(Clone, Copy, PartialEq, Eq)]
 pub struct MouthProposal {
     pub mouth: usize,
@@ -145,6 +145,7 @@ fn push_mouths(
         (collect context.entry.count (mouth_candidate C ramp.boundary)) }
 {
     let mut n = 0;
+    // Kept: a fold would carry n beside the list that its closure fills, and says no more than these lines.
     for m in 0..context.count {
         n = push_mouth(context, regions, &mut *entries, n, m, ramp);
     }

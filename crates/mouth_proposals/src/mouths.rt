@@ -75,7 +75,9 @@ fn inner_fit(pairs: &[u32], regions: RegionMarks, first: usize, end: usize, side
         first ≤ k →
         k < end →
         NamedRow pairs.now (length regions.counts.now) k × NamedRow pairs.now (length regions.marks.now) k }
-    ensures { result ≡ all (inner_fits regions.entry.marks.now regions.entry.counts.now sides.outer sides.approach) (regions_of (pairs_between pairs.now first end)) }
+    ensures { result
+        ≡ all (inner_fits regions.entry.marks.now regions.entry.counts.now sides.outer sides.approach)
+        (regions_of (pairs_between pairs.now first end)) }
 {
     (first..end).all(|k| {
         let p = row_at(pairs, k);
@@ -102,7 +104,8 @@ fn single_mouth(
 {
     let overlay = measures.overlay_only();
     let two = regions.incident_count(sides.approach) == 2;
-    let kept_out = overlay & (regions.is_anchored(sides.outer) | !two);
+    let outer_anchored = regions.is_anchored(sides.outer);
+    let kept_out = overlay & (outer_anchored | !two);
     let fits = !regions.is_anchored(sides.approach) & (!kept_out & !blocked);
     fits.then_some(Mouth {
         outer: Some(sides.outer),

@@ -130,7 +130,8 @@ fn all_named(mouth: Edges, ramp: Edges) -> bool
 // Whether just one of the mouth's rows is one of the ramp's.
 fn one_edge(mouth: Edges, ramp: Edges) -> bool
     ensures { result
-        ≡ eqb (length (filter (λ e. any (pair_eq e) (pair_form ramp.first ∷ pair_form ramp.second ∷ [])) (pair_form mouth.first ∷ pair_form mouth.second ∷ []))) 1 }
+        ≡ eqb (length (filter (λ e. any (pair_eq e) (pair_form ramp.first ∷ pair_form ramp.second ∷ []))
+        (pair_form mouth.first ∷ pair_form mouth.second ∷ []))) 1 }
 {
     let first = ramp.have(mouth.first);
     let second = ramp.have(mouth.second);

@@ -1,7 +1,7 @@
 -- What the bests of the ramps say of all proposals: the least of them, if it is left, is the least of all that is left; and what is known of a ramp stays known when one
 -- more is taken. Assumes nothing.
 use Rattle.mouth_proposals.specs.declared.candidates.Candidate.{Candidate}
-use Prim.Native.Nat.{ℕ, ◌<◌}
+use Prim.Native.Nat.{ℕ}
 use mathlib.Core.Path.{◌≡◌, sym, ap, ◌∙◌, subst}
 use mathlib.Core.Bool.{Bool, true, false, not, ◌||◌, false≢true}
 use Rattle.std.specs.Prelude.{Option, None, Some}

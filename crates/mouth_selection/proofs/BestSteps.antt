@@ -21,7 +21,7 @@ use Rattle.context.specs.Shown.{ShownPairs, ShownAnchored}
 use Rattle.mouth_selection.specs.Held.{is_refused, TakenState}
 use Rattle.mouth_selection.specs.Entries.{proposed}
 use Rattle.mouth_selection.specs.Rounds.{Under, same, least_among}
-use Rattle.mouth_selection.specs.Selecting.{Ended, row_of, ForRamp, BestOf, Bests, Progress, Renewed, is_stale, weight}
+use Rattle.mouth_selection.specs.Selecting.{Ended, row_of, ForRamp, BestOf, Progress, Renewed, is_stale, weight}
 use Rattle.mouth_selection.proofs.SelectionLaws.{one_round, round_last}
 use Rattle.mouth_selection.proofs.BestLaws.{under_stays}
 use Rattle.mouth_selection.proofs.GoneMouths.{used_none}

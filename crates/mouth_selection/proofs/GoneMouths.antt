@@ -6,10 +6,10 @@ use mathlib.Core.Path.{◌≡◌, refl, sym, ap, ap₂, ◌∙◌, subst}
 use mathlib.Core.Logic.{⊎_elim}
 use mathlib.Core.Bool.{Bool, true, false, not, ◌&&◌, ◌||◌, cond, or-false}
 use Rattle.std.specs.Prelude.{Option, None, Some}
-use mathlib.Core.List.{List, [], ◌∷◌, map}
+use mathlib.Core.List.{List, map}
 use lib.ListN.{get_or}
 use lib.Dec.{eqb, leb}
-use borrow.Author.Tests.{ne_eqb, eq-eqb, leb-true, le-leb}
+use borrow.Author.Tests.{eq-eqb, leb-true, le-leb}
 use Rattle.definitions.specs.Scan.{any, filter, member, collect, to_list}
 use Rattle.definitions.specs.Grid.{contains}
 use Rattle.definitions.specs.MouthShapes.{distinct_regions, mouth_shape}

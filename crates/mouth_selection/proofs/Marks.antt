@@ -10,8 +10,8 @@ use mathlib.Core.Logic.{⊎_elim}
 use mathlib.Core.List.{List, [], ◌∷◌, ◌++◌}
 use lib.ListN.{length, get_or, set, length-set}
 use lib.Seq.{get_or-set_same, get_or-set_other}
-use lib.Dec.{eqb, leb}
-use borrow.Author.Tests.{eqb-false, le-leb, lt-leb}
+use lib.Dec.{leb}
+use borrow.Author.Tests.{le-leb, lt-leb}
 use Rattle.definitions.specs.Scan.{any, filter, add_all, to_list}
 use Rattle.definitions.specs.Grid.{Pair}
 use Rattle.definitions.specs.MouthShapes.{regions_of, distinct_regions}

@@ -2,7 +2,7 @@
 -- Assumes nothing.
 use Rattle.mouth_proposals.specs.Listed.{proposal_in, entry_at, Filled}
 use Rattle.mouth_proposals.specs.declared.candidates.Candidate.{Candidate}
-use Prim.Native.Nat.{ℕ, ◌+◌, ◌<◌}
+use Prim.Native.Nat.{ℕ, ◌+◌}
 use native.Mathlib.Omega.{arith}
 use mathlib.Core.Path.{◌≡◌, refl, sym, ap, ◌∙◌}
 use mathlib.Core.Bool.{Bool, true, false, not, ◌&&◌, cond}
@@ -11,7 +11,7 @@ use mathlib.Core.List.{List, [], ◌∷◌, ◌++◌, append-nil}
 use Rattle.definitions.specs.Scan.{filter, collect}
 use Rattle.definitions.specs.Context.{Context}
 use Rattle.definitions.specs.RampMouths.{MouthProposal, corners_near_lem, ranks_before}
-use Rattle.laws.specs.ListLaws.Lists.{All, all_filter, filter-append}
+use Rattle.laws.specs.ListLaws.Lists.{all_filter, filter-append}
 use Rattle.laws.specs.ListLaws.Options.{OnO, absent, present}
 use Rattle.laws.specs.ListLaws.ScanSteps.{collect_next}
 use Rattle.context.specs.Shown.{ShownPairs}

@@ -1,7 +1,7 @@
 -- What is known between two proposals that are taken: what is taken, and the bests of the ramps. Definitions only; assumes nothing.
 use Rattle.mouth_proposals.specs.Listed.{proposal_in, proposal_form}
 use Rattle.mouth_proposals.specs.declared.candidates.Candidate.{Candidate}
-use Rattle.std.specs.Prelude.{ℕ, ◌+◌, ◌*◌, ◌≤◌, ◌<◌, ◌≡◌, Bool, true, false, not, cond, List, [], length, get_or, Option, None, Some}
+use Rattle.std.specs.Prelude.{ℕ, ◌+◌, ◌*◌, ◌<◌, ◌≡◌, Bool, true, false, not, cond, List, [], get_or, Option, None, Some}
 use Rattle.definitions.specs.Scan.{collect, member, count_below}
 use Rattle.definitions.specs.Sort.{sort, select}
 use Rattle.definitions.specs.Context.{Context}

@@ -38,6 +38,7 @@ fn least_best(
     ensures { result ≡ least_of boundaries.now bests.now count }
 {
     let mut least = None;
+    // Kept: tried as a `fold` over the slice; its proof did not close, since the step is asked to be callable with any best so far (`fold-requires-clause-callable`).
     for a in 0..count {
         least = better_of(boundaries, least, bests[a]);
     }

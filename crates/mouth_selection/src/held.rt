@@ -4,7 +4,7 @@ ghost use Rattle.std.specs.Prelude.{◌≡◌, [], ◌∷◌, ℕ, ◌+◌, ◌�
 ghost use Rattle.definitions.specs.MouthShapes.{regions_of};
 ghost use Rattle.context.specs.Shown.{pair_at, pairs_between};
 ghost use Rattle.context.specs.Rows.{NamedRow};
-ghost use Rattle.mouth_proposals.specs.Rows.{is_outer, rows_of};
+ghost use Rattle.mouth_proposals.specs.Rows.{rows_of};
 ghost use Rattle.mouth_proposals.specs.Candidates.{Numbered};
 ghost use Rattle.mouth_selection.specs.Entries.{SafeMouth};
 ghost use Rattle.mouth_selection.specs.Held.{hold_at_lem, outer_hold, outer_held, inner_held, row_held, held_at, mark_held, mark_outer, mark_inner};
@@ -72,10 +72,19 @@ pub fn proposal_held(context: PartitionContext, marks: &[u16], proposal: MouthPr
     requires { SafeMouth context.pairs.now context.starts.now marks.now proposal.mouth proposal.outer }
     ensures { result ≡ held_at context.entry.pairs.now context.entry.starts.now marks.now proposal.mouth proposal.outer proposal.kind }
 {
-    let MouthProposal { mouth, outer, kind, .. } = proposal;
+    let MouthProposal {
+        mouth,
+        outer,
+        kind,
+        ..
+    } = proposal;
     outer_held(marks, outer, outer_hold(kind))
-        || (context.starts[mouth]..context.starts[mouth + 1])
-            .any(|k| row_held(context.pairs, marks, k, outer))
+        || (context.starts[mouth]..context.starts[mouth + 1]).any(|k| row_held(
+            context.pairs,
+            marks,
+            k,
+            outer,
+        ))
 }
 
 fn hold_region(marks: &mut [u16], r: u32, hold: u16)
@@ -131,7 +140,12 @@ pub fn hold_proposal(context: PartitionContext, marks: &mut [u16], proposal: Mou
         (mark_outer (outer_hold proposal.kind) proposal.outer marks.old)
         (regions_of (rows_of context.entry.pairs.now context.entry.starts.now proposal.mouth)) }
 {
-    let MouthProposal { mouth, outer, kind, .. } = proposal;
+    let MouthProposal {
+        mouth,
+        outer,
+        kind,
+        ..
+    } = proposal;
     hold_outer(&mut *marks, outer, kind);
     hold_inner(
         context.pairs,

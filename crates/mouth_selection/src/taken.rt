@@ -5,7 +5,7 @@ ghost use Rattle.definitions.specs.Context.{Context};
 ghost use Rattle.definitions.specs.RampMouths.{proposals};
 ghost use Rattle.definitions.specs.RampMouths as definition;
 ghost use Rattle.context.specs.Shown.{ShownBoundaries, ShownPairs};
-ghost use Rattle.context.specs.Rows.{Stretch, NamedRow, NamedRows};
+ghost use Rattle.context.specs.Rows.{NamedRows};
 ghost use Rattle.mouth_proposals.specs.Candidates.{Numbered};
 ghost use Rattle.mouth_proposals.specs.Listed.{proposal_as};
 ghost use Rattle.mouth_selection.specs.Entries.{SafeMouth};

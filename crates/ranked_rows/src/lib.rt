@@ -2,7 +2,7 @@
 
 #![tactic(auto)]
 
-ghost use Rattle.std.specs.Prelude.{◌≡◌, ◌&&◌, [], ◌∷◌, ◌+◌, ◌*◌, ◌≤◌, ◌<◌, length, get_or, IfSome};
+ghost use Rattle.std.specs.Prelude.{◌≡◌, ◌&&◌, ◌+◌, ◌*◌, ◌≤◌, ◌<◌, length, get_or, IfSome};
 ghost use Rattle.std.proofs.lemmas.List.Edits.{sets};
 ghost use Rattle.definitions.specs.Scan.{any_below_lem};
 ghost use Rattle.definitions.specs.Lists.{overwrite};
@@ -64,28 +64,6 @@ fn refused_by(found: &FoundRows, order: &[u32], listed: &[u32], k: usize, p: usi
     (0..k).find(|&r| blocks(found, order, listed, r, p))
 }
 
-// Six numbers, from a place on.
-fn put_row(
-    listed: &mut [u32],
-    at: usize,
-    kind: u32,
-    index: u32,
-    first: u32,
-    second: u32,
-    taken: u32,
-    by: u32,
-)
-    requires { at + 5 < length listed.old }
-    ensures { listed.new ≡ sets listed.old at (kind ∷ index ∷ first ∷ second ∷ taken ∷ by ∷ []) }
-{
-    listed[at] = kind;
-    listed[at + 1] = index;
-    listed[at + 2] = first;
-    listed[at + 3] = second;
-    listed[at + 4] = taken;
-    listed[at + 5] = by;
-}
-
 // Writes row p as that of rank k; it was refused by the rank that there may be, and else was taken.
 fn put_ranked(rows: &[Candidate], listed: &mut [u32], k: usize, p: usize, by: Option<usize>)
     requires room { (p < length rows.now) × (numbers_per_ranked * k + 5 < length listed.old) }
@@ -94,18 +72,16 @@ fn put_ranked(rows: &[Candidate], listed: &mut [u32], k: usize, p: usize, by: Op
     ensures { listed.new ≡ sets listed.old (numbers_per_ranked * k) (ranked_row (row_at rows.now p) by) }
 {
     let row = rows[p];
-    let taken = u32::from(by.is_none());
-    let rank = by.unwrap_or(0) as u32;
-    put_row(
-        listed,
-        NUMBERS_PER_RANKED * k,
+    let numbers = [
         row.kind.number(),
         row.index as u32,
         row.first,
         row.second,
-        taken,
-        rank,
-    );
+        u32::from(by.is_none()),
+        by.unwrap_or(0) as u32,
+    ];
+    let place = NUMBERS_PER_RANKED * k;
+    listed[place..place + NUMBERS_PER_RANKED].copy_from_slice(&numbers);
 }
 
 // Judges row p, of rank k, and writes it.

@@ -24,7 +24,6 @@ use Rattle.context.specs.Rows.{NamedRow}
 use Rattle.context.proofs.ShownLaws.{shown-rows}
 use Rattle.mouth_regions.specs.Inner.{places_of, region_at, inner_at, passes}
 use Rattle.mouth_regions.specs.Near.{region_near}
-use Rattle.mouth_proposals.specs.Lent.{Shows}
 use Rattle.mouth_selection.specs.Entries.{SafeMouth, Known, proposed}
 use Rattle.mouth_selection.specs.Held.{is_refused, TakenState}
 use Rattle.mouth_selection.specs.Keys.{is_better}

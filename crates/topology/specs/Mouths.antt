@@ -1,4 +1,4 @@
--- The words of the contracts of the modules' functions for pass 1, `mouth_pass`. Definitions only; assumes nothing.
+-- The words of the contracts of `mouth_pass`: what its functions are lent and give, and what the pass marks. Definitions only; assumes nothing.
 use Rattle.mouth_proposals.specs.Listed.{blank, max_candidates, proposal_in}
 use Rattle.mouth_proposals.specs.declared.candidates.Candidate.{Candidate}
 use Rattle.mouth_proposals.specs.declared.candidates.MouthProposal as declared

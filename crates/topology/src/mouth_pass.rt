@@ -11,7 +11,6 @@ ghost use Rattle.mouth_selection.specs.Held.{TakenState};
 ghost use Rattle.mouth_selection.specs.Selecting.{BestOf, Progress, is_stale};
 ghost use Rattle.topology.specs.Mouths.{near_at, BetterNear, NearBest, NoMarks, Replaced, PassLocates, PassEntryAsked, PassNearAsked, PassRampAsked, PassReplaces};
 
-use crate::entries::candidate_at;
 use crate::slice::record_at;
 use context::{PartitionContext, Region};
 use mouth_proposals::candidates::{Candidate, MouthProposal, push_ramp};
@@ -99,8 +98,9 @@ fn best_near(
     ensures left { is_stale context.entry.pairs.now context.entry.starts.now taken.now.marks.now taken.now.removed taken.now.ramp_ends result ≡ false }
 {
     let mut best = None;
+    // Kept: no `fold`, as in `least_best` of mouth_selection: its step would be asked to be callable with any best so far.
     for k in 0..n {
-        best = better_near(records, context, taken, best, candidate_at(entries, k));
+        best = better_near(records, context, taken, best, entries[k]);
     }
     best
 }

@@ -1,13 +1,12 @@
 -- `ranked_rows::blocks` meets its contract: a row that was not taken blocks nothing. Assumes nothing.
 use Prim.Native.Nat.{ℕ, ◌+◌, ◌*◌}
-use mathlib.Core.Path.{sym, ap, ◌∙◌, subst}
+use mathlib.Core.Path.{sym, ap, ◌∙◌}
 use mathlib.Core.Bool.{Bool, ◌&&◌}
 use lib.ListN.{get_or}
 use borrow.Author.Tests.{eq-eqb, ne_eqb}
 use Rattle.junction_proposals.specs.Rows.{row_at}
 use Rattle.junction_selection.specs.Ranks.{conflict_at}
 use Rattle.ranked_list.specs.RankedList.{numbers_per_ranked}
-use Rattle.ranked_rows.specs.Contract.{TwoRows}
 use Rattle.ranked_rows.proofs.blocks.Goals as goal
 
 pub returns-then-listed-r-ne1 : goal.returns-then-listed-r-ne1

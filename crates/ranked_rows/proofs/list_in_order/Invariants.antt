@@ -1,5 +1,4 @@
 -- `ranked_rows::list_in_order` meets its contract. The loop's invariant: the rows of the first k ranks are written (`ListedTo`). Assumes nothing.
-use Prim.Native.Nat.{◌-◌}
 use Rattle.ranked_rows.proofs.Following.{ListedTo}
 use Rattle.ranked_rows.proofs.list_in_order.Given as goal
 

@@ -1,5 +1,5 @@
 -- `components::flatten` meets its contract. The invariant: the parents of the regions up to k are their names, and the others still lead to theirs. Assumes nothing.
-use Prim.Native.Nat.{ℕ, suc, ◌-◌, ◌≤◌}
+use Prim.Native.Nat.{ℕ, suc, ◌≤◌}
 use mathlib.Core.Path.{◌≡◌}
 use mathlib.Core.List.{List}
 use lib.ListN.{length}
@@ -10,6 +10,3 @@ use Rattle.interior_proposals.proofs.components.flatten.Given as goal
 
 abbrev pub invariant-loop-k : goal.invariant-loop-k
 invariant-loop-k l = (l.k ≤ l.regions) × Beyond l.regions l.initial.parents l.parents × ((cs : List ℕ) → Parented cs l.initial.parents → length cs ≡ suc l.regions → Flat cs l.parents l.k)
-
-abbrev pub decreases-loop-k : goal.decreases-loop-k
-decreases-loop-k l = l.regions - l.k

@@ -1,5 +1,5 @@
 -- `components::join_cuts` meets its contract. The invariant: the links of the boundaries passed are merged. Assumes nothing.
-use Prim.Native.Nat.{◌-◌, ◌≤◌}
+use Prim.Native.Nat.{◌≤◌}
 use mathlib.Core.Path.{◌≡◌}
 use Rattle.definitions.specs.Scan.{gather}
 use Rattle.definitions.specs.Context.{Context}
@@ -9,6 +9,3 @@ use Rattle.interior_proposals.proofs.components.join_cuts.Given as goal
 
 abbrev pub invariant-loop-i : goal.invariant-loop-i
 invariant-loop-i l = (l.i ≤ l.context.count) × ((C : Context) → Given C l.context.boundaries.now l.context.tallies.now l.context.pairs.now l.context.starts.now → C.count ≡ l.context.count → Parented (alone C) l.initial.parents → Merged (alone C) l.initial.parents (gather l.i (links_of C)) l.parents)
-
-abbrev pub decreases-loop-i : goal.decreases-loop-i
-decreases-loop-i l = l.context.count - l.i

@@ -1,5 +1,5 @@
 -- `components::join_pairs` meets its contract. The invariant: the rows passed are merged. Assumes nothing.
-use Prim.Native.Nat.{ℕ, ◌-◌, ◌≤◌}
+use Prim.Native.Nat.{ℕ, ◌≤◌}
 use mathlib.Core.List.{List}
 use lib.ListN.{length}
 use Rattle.context.specs.Shown.{pairs_between}
@@ -8,6 +8,3 @@ use Rattle.interior_proposals.proofs.components.join_pairs.Given as goal
 
 abbrev pub invariant-loop-k : goal.invariant-loop-k
 invariant-loop-k l = (l.first ≤ l.k) × (l.k ≤ l.end) × ((cs : List ℕ) → Parented cs l.initial.parents → Rows (length cs) l.pairs l.first l.end → Merged cs l.initial.parents (pairs_between l.pairs l.first l.k) l.parents)
-
-abbrev pub decreases-loop-k : goal.decreases-loop-k
-decreases-loop-k l = l.end - l.k

@@ -1,5 +1,5 @@
 -- `leaves::clear_exteriors` meets its contract. The invariant: what the rows passed name is no more marked. Assumes nothing.
-use Prim.Native.Nat.{ℕ, ◌-◌, ◌≤◌}
+use Prim.Native.Nat.{ℕ, ◌≤◌}
 use mathlib.Core.Path.{◌≡◌}
 use mathlib.Core.List.{List}
 use lib.ListN.{length}
@@ -16,6 +16,3 @@ abbrev pub invariant-loop-k : goal.invariant-loop-k
 invariant-loop-k l =
     (l.first ≤ l.k) × (l.k ≤ l.end) × (length l.marks ≡ length l.initial.marks)
     × ((C : Context) (rs : List ℕ) (w : Walkable l.pairs l.first l.end C.regions) → Marked C (λ y. member y (exteriors rs (pairs_between l.pairs l.first l.end))) l.initial.marks → Clearing C (λ x. member x (exteriors rs (pairs_between l.pairs l.first l.end))) l.pairs l.first l.end w l.initial.marks l.k l.marks)
-
-abbrev pub decreases-loop-k : goal.decreases-loop-k
-decreases-loop-k l = l.end - l.k

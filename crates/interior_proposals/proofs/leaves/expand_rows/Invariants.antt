@@ -1,5 +1,5 @@
 -- `leaves::expand_rows` meets its contract. The invariant: the names hold what the rows passed expand the regions to. Assumes nothing.
-use Prim.Native.Nat.{ℕ, ◌-◌, ◌≤◌}
+use Prim.Native.Nat.{ℕ, ◌≤◌}
 use mathlib.Core.Path.{◌≡◌}
 use mathlib.Core.Bool.{Bool}
 use mathlib.Core.List.{List}
@@ -16,6 +16,3 @@ abbrev pub invariant-loop-k : goal.invariant-loop-k
 invariant-loop-k l =
     (l.first ≤ l.k) × (l.k ≤ l.end) × (length l.names ≡ length l.initial.names)
     × ((C : Context) (i : ℕ) (rs es : List ℕ) (v : Bool) → Ported C l.pairs l.first l.end i → Inside C l.r rs l.initial.names → Marked C (λ y. member y es) l.marks → Held C i l.r (expand_pairs C i es (from rs v) (pairs_between l.pairs l.first l.k)) v l.initial.names l.names l.fit)
-
-abbrev pub decreases-loop-k : goal.decreases-loop-k
-decreases-loop-k l = l.end - l.k

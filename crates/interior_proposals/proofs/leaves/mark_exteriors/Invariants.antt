@@ -1,5 +1,5 @@
 -- `leaves::mark_exteriors` meets its contract. The invariant: the exteriors of the rows passed are marked. Assumes nothing.
-use Prim.Native.Nat.{ℕ, ◌-◌, ◌≤◌}
+use Prim.Native.Nat.{ℕ, ◌≤◌}
 use mathlib.Core.Path.{◌≡◌}
 use mathlib.Core.Bool.{false}
 use mathlib.Core.List.{List}
@@ -15,6 +15,3 @@ abbrev pub invariant-loop-k : goal.invariant-loop-k
 invariant-loop-k l =
     (l.first ≤ l.k) × (l.k ≤ l.end) × (length l.marks ≡ length l.initial.marks)
     × ((C : Context) (rs : List ℕ) → Walkable l.pairs l.first l.end C.regions → Inside C l.r rs l.names → Marked C (λ y. false) l.initial.marks → Exteriored C rs (pairs_between l.pairs l.first l.k) l.initial.marks l.marks l.fit)
-
-abbrev pub decreases-loop-k : goal.decreases-loop-k
-decreases-loop-k l = l.end - l.k

@@ -1,5 +1,5 @@
 -- `owners::find_owners` meets its contract. The invariant: the owners of the boundaries passed are stored. Assumes nothing.
-use Prim.Native.Nat.{◌-◌, ◌≤◌}
+use Prim.Native.Nat.{◌≤◌}
 use mathlib.Core.Path.{◌≡◌}
 use lib.ListN.{length}
 use Rattle.definitions.specs.Limits.{max_entries}
@@ -11,6 +11,3 @@ use Rattle.interior_proposals.proofs.owners.find_owners.Given as goal
 
 abbrev pub invariant-loop-i : goal.invariant-loop-i
 invariant-loop-i l = (l.i ≤ l.context.count) × (length l.owners ≡ max_entries) × ((C : Context) → Kept C l.context.boundaries.now l.context.tallies.now l.context.pairs.now l.context.starts.now l.names → C.count ≡ l.context.count → Filled (Owned C) nobody l.owners l.i)
-
-abbrev pub decreases-loop-i : goal.decreases-loop-i
-decreases-loop-i l = l.context.count - l.i

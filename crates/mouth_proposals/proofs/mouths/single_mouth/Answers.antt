@@ -12,6 +12,6 @@ returns c =
     let o = c.overlay_only-overlay.ensures C m a M in
     let two = two_shown A I s.sides.approach c.requires.approach_named.0 n.1 c.incident_count-two.ensures in
     ap (candidate_form C m a) c.then_some.ensures
-    ∙ single_by C m a s.sides.outer s.sides.approach (anchored-shown A s.sides.approach c.requires.approach_named.0 n.1 c.is_anchored-2.ensures)
-    (λ i. sym o i && (anchored-shown A s.sides.outer c.requires.outer_named.0 n.0 c.is_anchored.ensures i || not (two i))) (sym b) (λ i. (sym M.broad i || sym o i) && two i)
+    ∙ single_by C m a s.sides.outer s.sides.approach (anchored-shown A s.sides.approach c.requires.approach_named.0 n.1 c.is_anchored.ensures)
+    (λ i. sym o i && (anchored-shown A s.sides.outer c.requires.outer_named.0 n.0 c.is_anchored-outer_anchored.ensures i || not (two i))) (sym b) (λ i. (sym M.broad i || sym o i) && two i)
     c.of_approach.ensures

@@ -15,8 +15,8 @@ use lib.ListN.{length, get_or}
 use borrow.Author.Tests.{not-true}
 use Rattle.definitions.specs.Scan.{count_below}
 use Rattle.definitions.specs.Context.{Context}
-use Rattle.definitions.specs.RampMouths.{MouthProposal, proposals}
-use Rattle.laws.specs.ListLaws.Options.{OnO, absent, present, on_map_lem}
+use Rattle.definitions.specs.RampMouths.{proposals}
+use Rattle.laws.specs.ListLaws.Options.{absent, present, on_map_lem}
 use Rattle.mouth_selection.specs.Entries.{SafeMouth, Known}
 use Rattle.context.specs.Shown.{ShownBoundaries, ShownPairs}
 use Rattle.mouth_selection.specs.Held.{is_refused, left_at, TakenState}

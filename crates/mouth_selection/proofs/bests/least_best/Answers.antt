@@ -1,6 +1,5 @@
 -- `bests::least_best` meets its contract. The invariant: `least` is the least of the bests passed. Assumes nothing.
 use native.Mathlib.Omega.{arith}
-use native.Mathlib.Nat.{le_antisymm}
 use mathlib.Core.Path.{sym, ap, ◌∙◌, subst}
 use Rattle.std.specs.Prelude.{None}
 use lib.ListN.{get_or}
@@ -17,8 +16,7 @@ pub better_of-least-requires : goal.better_of-least-requires
 better_of-least-requires c =
     let s = c.args in
     let at = c.loop-a in
-    let few = c.loop-a-test.true in
-    (
+    let few = c.loop-a-test.true in (
       subst (OnO (SafeKey s.boundaries.now)) (sym at.invariant.1) (least_keeps s.boundaries.now s.bests.now at.a (λ a l. c.requires.safe a (omega (arith, l, few)))),
       c.requires.safe at.a few,
     )
@@ -26,8 +24,7 @@ better_of-least-requires c =
 pub loop-a-preserved : goal.loop-a-preserved
 loop-a-preserved c =
     let s = c.args in
-    let at = c.loop-a in
-    (
+    let at = c.loop-a in (
       search rules,
       c.better_of-least.ensures ∙ ap (λ o. better_of s.boundaries.now o (get_or s.bests.now at.a None)) at.invariant.1 ∙ sym (least_more s.boundaries.now s.bests.now at.a),
     )

@@ -1,5 +1,5 @@
 -- `held::proposal_held` meets its contract: the region outside, then the rows of the mouth. Assumes nothing.
-use Rattle.std.proofs.Common.{rules, tests, refl, ◌≡◌, sym, ap, ap₂, ◌∙◌, Bool, ◌||◌}
+use Rattle.std.proofs.Common.{rules, tests, refl, sym, ap, ◌∙◌, Bool, ◌||◌}
 use Rattle.std.proofs.lemmas.Iterator.{YieldsList-from_range}
 use Rattle.std.proofs.lemmas.Iterator.Search.{any_from_yields_List}
 use Rattle.definitions.specs.Scan.{any}
@@ -7,7 +7,7 @@ use Rattle.definitions.specs.Grid.{Pair}
 use Rattle.context.specs.Shown.{pair_at}
 use Rattle.context.proofs.RowChains.{any_in_rows}
 use Rattle.mouth_proposals.specs.Rows.{rows_of}
-use Rattle.mouth_selection.specs.Held.{outer_hold, outer_held, row_held, held_at}
+use Rattle.mouth_selection.specs.Held.{outer_held, row_held, held_at}
 use Rattle.mouth_selection.proofs.held.proposal_held.Goals as goal
 
 pub returns-then-outer_held : goal.returns-then-outer_held

@@ -1,5 +1,4 @@
 -- `taken::use_end` meets its contract. The invariant: the boundaries passed are marked where they are the end. Assumes nothing.
-use native.Mathlib.Omega.{arith}
 use native.Mathlib.Nat.{le_antisymm}
 use mathlib.Core.Path.{ap, ◌∙◌}
 use Rattle.mouth_selection.specs.Held.{end_mark}

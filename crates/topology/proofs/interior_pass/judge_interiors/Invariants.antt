@@ -11,6 +11,3 @@ invariant-loop-i l =
     (l.i ≤ l.context.count) × (length l.removed ≡ max_entries)
     × ((C : Context) → Judges C l.records l.context.boundaries.now l.context.pairs.now l.context.starts.now l.names l.owners l.found l.context.count
     → Judging C l.owners l.removed l.context.count l.i)
-
-abbrev pub decreases-loop-i : goal.decreases-loop-i
-decreases-loop-i l = l.context.count - l.i

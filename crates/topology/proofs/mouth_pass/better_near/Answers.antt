@@ -1,5 +1,5 @@
 -- `mouth_pass::better_near` meets its contract, by its tests. Assumes nothing.
-use mathlib.Core.Path.{sym, ap, ◌∙◌}
+use mathlib.Core.Path.{sym, ◌∙◌}
 use Rattle.laws.specs.ListLaws.Options.{on_map_lem}
 use Rattle.mouth_selection.proofs.RoundLaws.{safe-key}
 use Rattle.topology.proofs.MouthLoops.{proposal-safe, found-left, found-near, entry-better, far-stays, refused-stays, behind-stays}

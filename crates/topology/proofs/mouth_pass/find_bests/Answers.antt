@@ -18,15 +18,14 @@ best_of_ramp-requires c =
 pub loop-a-preserved : goal.loop-a-preserved
 loop-a-preserved c =
     let below = c.loop-a-test.true in
-    let at = c.loop-a in
-    (
+    let at = c.loop-a in (
       search rules,
       (
         length-set at.bests at.a c.best_of_ramp.result ∙ at.invariant.1.0,
         λ C m R P₀.
             let P = at.invariant.1.1 C m R P₀ in
             best_put P (c.best_of_ramp.ensures.best C P.chosen (pass-ramp R P.anchored below) P.state) (omega (arith, at.invariant.1.0, below, R.shows.counted, R.shows.bounds.few))
-                (λ i h d. omega (arith, h, d)),
+            (λ i h d. omega (arith, h, d)),
       ),
     )
 

@@ -51,8 +51,7 @@ loop-a-preserved c =
     let inv = c.loop-a.invariant in
     let E = c.advance.ensures in
     let below = (of_some c.in-Some.is E.stale).0 in
-    let long : length c.advance.new.bests ≡ 256 = search rules in
-    (
+    let long : length c.advance.new.bests ≡ 256 = search rules in (
       E.same_marks ∙ inv.0,
       (
         E.long ∙ inv.1.0,

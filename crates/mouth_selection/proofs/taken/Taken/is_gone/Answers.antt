@@ -1,6 +1,5 @@
 -- `taken::Taken::is_gone` meets its contract, by its tests. Assumes nothing.
 use Prim.Native.Nat.{◌+◌, ◌<◌}
-use native.Mathlib.Omega.{arith}
 use mathlib.Core.Path.{sym, ap, ◌∙◌}
 use mathlib.Core.Logic.{⊎_elim}
 use mathlib.Core.Bool.{false, not, ◌||◌}
