@@ -1,21 +1,13 @@
 -- Anchors one by one: their cells' numbers fit, and each marks one label more. Assumes nothing.
-use Prim.Native.Nat.{ℕ, ◌+◌, ◌*◌, ◌≤◌, ◌<◌}
+use Prim.Native.Nat.{ℕ, ◌+◌}
 use native.Mathlib.Omega.{arith}
-use native.Mathlib.Nat.{mul-le-mul}
 use native.Mathlib.Numerals.{add-one}
 use mathlib.Core.Path.{◌≡◌, refl, sym, ap, ◌∙◌}
 use mathlib.Core.List.{List, [], ◌∷◌, ◌++◌, map}
-use lib.ListN.{length, get_or}
-use Rattle.definitions.specs.Limits.{max_side}
+use lib.ListN.{get_or}
 use Rattle.definitions.specs.Scan.{run}
 use Rattle.laws.specs.ListLaws.Lists.{map-append, run_last}
-use Rattle.context.proofs.AnchorLaws.{marks-length}
 use Rattle.context.specs.Anchors.{anchor_cell, anchor_cells, mark_label, mark_cells}
-
-pub row_small : {y w : ℕ} (v : ℕ) → y ≡ v → v < max_side → w ≤ max_side → y * w ≤ max_side * max_side
-row_small {y} {w} v e h k =
-    let l : y ≤ max_side = omega (arith, e) in
-    mul-le-mul l k
 
 module _ (ls : List ℕ) where
   cells_last : (marks cs : List ℕ) (c : ℕ) → mark_cells ls marks (cs ++ (c ∷ [])) ≡ mark_label (mark_cells ls marks cs) (get_or ls c 0)
@@ -42,6 +34,3 @@ module _ (ls : List ℕ) where
     mark_more i {l} e h k f =
         f ∙ ap (mark_label l) (k ∙ ap (λ c. get_or ls c 0) h) ∙ ap (λ l. mark_label l (get_or ls (anchor_cell w anchors i) 0)) e
         ∙ sym (cells_last marks (anchor_cells w anchors i) (anchor_cell w anchors i)) ∙ ap (mark_cells ls marks) (sym (anchors_more i))
-
-    pub mark-length : (i : ℕ) {l : List ℕ} → l ≡ mark_cells ls marks (anchor_cells w anchors i) → length l ≡ length marks
-    mark-length i e = ap length e ∙ marks-length ls marks (anchor_cells w anchors i)

@@ -2,7 +2,7 @@
 use Prim.Native.Nat.{ℕ, zero, suc, ◌+◌, ◌-◌, ◌*◌, ◌/◌, ◌%◌, ◌≤◌, ◌<◌, zero-le}
 use native.Mathlib.Omega.{arith}
 use native.Mathlib.Numerals.{add-one}
-use mathlib.Core.Path.{◌≡◌, refl, sym, ap, ap₂, ◌∙◌, subst}
+use mathlib.Core.Path.{◌≡◌, refl, sym, ap, ◌∙◌, subst}
 use mathlib.Core.Bool.{Bool, true, false, ◌||◌, cond, or-true}
 use mathlib.Core.Logic.{⊎_elim}
 use mathlib.Core.List.{List, [], ◌∷◌, ◌++◌, map}
@@ -56,13 +56,6 @@ between-any f rows first k (suc end) h l e =
     ∙ ⊎_elim (λ s. ap (λ b. any f (pairs_between rows first end) || (b || false)) (sym (ap (λ k. f (pair_at rows k)) s) ∙ e) ∙ or-true (any f (pairs_between rows first end)))
     (λ b. ap (λ b. b || (f (pair_at rows end) || false)) (between-any f rows first k end h b e)) (last_or k end l)
 
--- one more that does not
-pub none_more : (f : Pair → Bool) (rows : List ℕ) (first k : ℕ) → first ≤ k → any f (pairs_between rows first k) ≡ false → f (pair_at rows k) ≡ false
-    → any f (pairs_between rows first (k + 1)) ≡ false
-unfolding any
-none_more f rows first k h n e =
-    ap (any f) (between_more rows first k h) ∙ any_append f (pairs_between rows first k) (pair_at rows k ∷ []) ∙ ap₂ (λ a b. a || (b || false)) n e
-
 pub incident_is : {C : Context} {rows starts : List ℕ} → ShownPairs C rows starts → (i r : ℕ) → i < C.count
     → is_incident C i r ≡ any (contains r) (pairs_between rows (get_or starts i 0) (get_or starts (i + 1) 0))
 unfolding is_incident
@@ -81,13 +74,6 @@ entry-small span v l h = go (eqb (v % pack_unit) (span + 1)) refl
     go false e =
         let low : v / pack_unit ≤ span = omega (arith, subst (λ b. v / pack_unit ≤ span + bit b) e h) in
         rw (eq-eqb (((v / pack_unit + 1) * pack_unit + (span + 1)) % pack_unit) (span + 1) (omega arith)) (omega arith)
-
-pub packed-small : (span v : ℕ) → span < max_entries → v / pack_unit ≤ span + bit (eqb (v % pack_unit) (span + 1)) → v / pack_unit ≤ max_entries
-packed-small span v l h = go (eqb (v % pack_unit) (span + 1)) h
-  where
-    go : (b : Bool) → v / pack_unit ≤ span + bit b → v / pack_unit ≤ max_entries
-    go true h = omega arith
-    go false h = omega arith
 
 module _ (span : ℕ) (few : span < max_entries) where
   pub packed-region : (counts : List ℕ) (r : ℕ) → Packed span counts → Packed span (count_region span counts r)
@@ -166,9 +152,6 @@ module _ (span : ℕ) (rows counts : List ℕ) (first : ℕ) where
   rows_more k h e f =
       f ∙ ap (λ l. count_pair span l (pair_at rows k)) e ∙ sym (pairs_last span counts (pairs_between rows first k) (pair_at rows k))
       ∙ ap (count_pairs span counts) (sym (between_more rows first k h))
-
-  pub rows-length : (k : ℕ) {l : List ℕ} → l ≡ count_pairs span counts (pairs_between rows first k) → length l ≡ length counts
-  rows-length k e = ap length e ∙ pairs-length span counts (pairs_between rows first k)
 
   pub rows-packed : (k : ℕ) {l : List ℕ} → span < max_entries → l ≡ count_pairs span counts (pairs_between rows first k) → Packed span counts → Packed span l
   rows-packed k few e h = subst (Packed span) (sym e) (packed-pairs span few counts (pairs_between rows first k) h)

@@ -1,20 +1,16 @@
 -- Full cuts and full pairs, read off the tallies and the rows of a span. Assumes nothing.
 use Prim.Native.Nat.{ℕ, ◌+◌, ◌-◌, ◌*◌, ◌<◌}
-use native.Mathlib.Omega.{arith}
 use mathlib.Core.Path.{◌≡◌, refl, sym, ap, ap₂, ◌∙◌}
 use mathlib.Core.Bool.{Bool, true, false, ◌&&◌}
-use mathlib.Core.Logic.{⊎_elim}
 use Rattle.std.specs.Prelude.{Option, None, Some}
 use mathlib.Core.List.{List, [], ◌∷◌, map}
-use lib.ListN.{length, get_or, set, length-map}
-use lib.Seq.{get_or-set_same, get_or-set_other}
+use lib.ListN.{length, get_or, length-map}
 use lib.Dec.{eqb, ltb}
 use Rattle.definitions.specs.Limits.{tallies_per_span}
 use Rattle.definitions.specs.Scan.{run}
 use Rattle.definitions.specs.Grid.{Pair}
 use Rattle.definitions.specs.Context.{Context, only_pair, full_cut, full_pair}
 use Rattle.laws.specs.ListLaws.Lists.{length_run}
-use Rattle.laws.specs.NumberLaws.Comparisons.{last_or}
 use Rattle.context.specs.declared.pairs.Pair as declared
 use Rattle.context.specs.Shown.{pair_at, pairs_between, ShownTallies, ShownPairs}
 use Rattle.context.specs.Rows.{full_pair_of}
@@ -61,13 +57,3 @@ module _ (C : Context) {rows starts : List ℕ} {i : ℕ} (P : ShownPairs C rows
 
 abbrev pub Stored : Context → List (Option declared.Pair) → ℕ → Type 0
 Stored C full i = (j : ℕ) → j < i → full_pair_of (get_or full j None) ≡ full_pair C j
-
-pub stored_more : (C : Context) (full : List (Option declared.Pair)) (i : ℕ) (r : Option declared.Pair) → i < length full → Stored C full i
-    → full_pair_of r ≡ full_pair C i → Stored C (set full i r) (i + 1)
-stored_more C full i r l h e j m = ⊎_elim here there (last_or j i (omega arith))
-  where
-    here : j ≡ i → full_pair_of (get_or (set full i r) j None) ≡ full_pair C j
-    here k = rw k (ap full_pair_of (get_or-set_same full i r None l) ∙ e)
-
-    there : j < i → full_pair_of (get_or (set full i r) j None) ≡ full_pair C j
-    there b = ap full_pair_of (get_or-set_other full i j r None (λ k. omega (arith, k))) ∙ h j b

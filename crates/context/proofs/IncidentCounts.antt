@@ -2,15 +2,13 @@
 -- names the region, in which case it is the entry's last span. Assumes nothing.
 use Prim.Native.Nat.{ℕ, zero, suc, ◌+◌, ◌-◌, ◌/◌, ◌%◌, ◌≤◌, ◌<◌}
 use native.Mathlib.Omega.{arith}
-use native.Mathlib.Nat.{le_refl}
 use native.Mathlib.Numerals.{add-one}
 use mathlib.Core.Path.{◌≡◌, refl, sym, ap, ap₂, ◌∙◌, subst}
 use mathlib.Core.Bool.{Bool, true, false, ◌||◌, or-false, or-true, or_assoc}
 use mathlib.Core.Logic.{⊎_elim}
 use mathlib.Core.List.{List, [], ◌∷◌, ◌++◌, map}
-use lib.ListN.{length, get_or, set, length-set, length-map, length-append, get_or-map, get_or-append}
-use lib.Arith.{lt_of_le-ne}
-use lib.Seq.{get_or-set_same, get_or-set_other, ext_get_or}
+use lib.ListN.{length, get_or, set, length-map, length-append, get_or-map, get_or-append}
+use lib.Seq.{get_or-set_same, get_or-set_other}
 use lib.Dec.{eqb}
 use borrow.Author.Tests.{eq-eqb, ne_eqb, eqb-true}
 use Rattle.definitions.specs.Limits.{max_entries}
@@ -171,25 +169,3 @@ pub record Unpacking (packed : List ℕ) (k : ℕ) (counts : List ℕ) : Type 0 
   pub long : length counts ≡ length packed
   pub done : (j : ℕ) → j < k → get_or counts j 0 ≡ unpacked (get_or packed j 0)
   pub rest : (j : ℕ) → k ≤ j → get_or counts j 0 ≡ get_or packed j 0
-
-pub unpack_none : (packed : List ℕ) → Unpacking packed 0 packed
-unpack_none packed = record { long = refl; done = λ j h. absurd (omega arith); rest = λ j h. refl }
-
-pub unpack_more : (packed : List ℕ) (k : ℕ) (counts : List ℕ) → k < length counts → Unpacking packed k counts → Unpacking packed (k + 1) (set counts k (unpacked (get_or counts k 0)))
-unpack_more packed k counts l U =
-    record {
-      long = length-set counts k (unpacked (get_or counts k 0)) ∙ U.long;
-      done = λ j h. ⊎_elim (here j) (λ e. other j e ∙ U.done j (lt_of_le-ne (omega arith) e)) (same_or j k);
-      rest = λ j h. other j (λ e. omega (arith, e)) ∙ U.rest j (omega arith);
-    }
-  where
-    here : (j : ℕ) → j ≡ k → get_or (set counts k (unpacked (get_or counts k 0))) j 0 ≡ unpacked (get_or packed j 0)
-    here j e = rw e (get_or-set_same counts k (unpacked (get_or counts k 0)) 0 l ∙ ap unpacked (U.rest k (le_refl k)))
-
-    other : (j : ℕ) → (j ≡ k → ⊥) → get_or (set counts k (unpacked (get_or counts k 0))) j 0 ≡ get_or counts j 0
-    other j e = get_or-set_other counts k j (unpacked (get_or counts k 0)) 0 e
-
-pub unpack_all : (packed : List ℕ) (k : ℕ) (counts : List ℕ) → length counts ≤ k → Unpacking packed k counts → counts ≡ map unpacked packed
-unpack_all packed k counts h U =
-    ext_get_or 0 counts (map unpacked packed) (U.long ∙ sym (length-map packed unpacked))
-    (λ j l. U.done j (omega arith) ∙ sym (get_or-map unpacked packed j 0))

@@ -6,7 +6,6 @@ pub mod IncidentCounts
 pub mod IncidentWhole
 pub mod Ones
 pub mod PairStarts
-pub mod Rows
 pub mod RecordLaws
 pub mod RecordCounts
 pub mod AnchorLaws

@@ -24,47 +24,46 @@ use Rattle.laws.specs.ListLaws.ScanSteps.{count_same, all_intro}
 use Rattle.laws.specs.SetLaws.Sets.{numbers_below, all_below_lem}
 use Rattle.laws.specs.RustJunctions.FormedProposals.{full-all}
 use Rattle.junction_proposals.specs.Lent.{Shows}
-use Rattle.junction_proposals.specs.Ports.{names}
+use Rattle.junction_proposals.specs.Ports.{pair_of, names}
 use Rattle.junction_proposals.specs.Unions.{no_ramp_at, is_near, mark_at}
 use Rattle.junction_proposals.specs.Bridges.{beyond_at, is_twice_at, is_shared_at, near_at, pick_at, is_pocket_port, bridge_of_three, bridge_of_list, is_bridge_at}
 use Rattle.junction_proposals.specs.Rows.{bridge_region, is_allowed}
 use Rattle.junction_proposals.proofs.PortLaws.{full_incident, named_incident, names_is}
-use Rattle.junction_proposals.proofs.ShapeLaws.{pair_is, no_ramp_is, near_is, anchored_is}
+use Rattle.junction_proposals.proofs.ShapeLaws.{no_ramp_is, near_is, anchored_is}
 use Rattle.junction_proposals.proofs.BridgeTests.{beyond-within}
-use Rattle.junction_proposals.proofs.BridgeWalk.{other-count, is_anchored, by_list, other_length}
+use Rattle.junction_proposals.proofs.BridgeWalk.{some_pair, other-count, is_anchored, by_list, other_length}
 use Rattle.junction_proposals.proofs.FirstFound.{found}
 use Rattle.junction_proposals.proofs.UnionRows.{filter_only, of_some}
+use Rattle.context.specs.declared.pairs.Pair as declared
 
-module _ (boundaries smaller larger counts marks : List ℕ) (C : Context) (S : Shows boundaries smaller larger counts marks C.count C.regions C) (r : ℕ) (low : 1 ≤ r) (high : r ≤ C.regions) where
-  abbrev pair : ℕ → Pair
-  pair j = record { lo = get_or smaller j 0; hi = get_or larger j 0 }
-
+module _ (boundaries : List ℕ) (full : List (Option declared.Pair)) (counts marks : List ℕ) (C : Context) (S : Shows boundaries full counts marks C.count C.regions C) (r : ℕ) (low : 1 ≤ r) (high : r ≤ C.regions) where
   abbrev allowed : Proposal → Bool
   allowed = is_allowed C
 
   -- a port that is a full pair
   pub record Port (j : ℕ) : Type 0 where
     pub below : j < C.count
-    pub full : full_pair C j ≡ Some (pair j)
+    pub pair : Pair
+    pub is : full_pair C j ≡ Some pair
 
   -- ---- the tests of ports
 
-  exterior_is : {j : ℕ} → Port j → port_exterior C r j ≡ beyond_at smaller larger r j
+  exterior_is : {j : ℕ} → Port j → port_exterior C r j ≡ beyond_at full r j
   unfolding port_exterior
-  exterior_is h = ap (beyond r) h.full
+  exterior_is {j} h = ap (beyond r) (sym (S.pairs.at j h.below))
 
-  exterior_in : {j : ℕ} → Port j → (1 ≤ beyond_at smaller larger r j) × (beyond_at smaller larger r j ≤ C.regions)
+  exterior_in : {j : ℕ} → Port j → (1 ≤ beyond_at full r j) × (beyond_at full r j ≤ C.regions)
   exterior_in {j} h =
-      let ordered = of_some (full-all C (λ q. q.lo < q.hi) j (S.sound.ordered j)) h.full in
-      let named = of_some (full-all C (λ q. (1 ≤ q.lo) × (q.hi ≤ C.regions)) j (S.sound.labelled j)) h.full in
-      beyond-within r C.regions (pair j) refl named.0 ordered named.1
+      let ordered = of_some (full-all C (λ q. q.lo < q.hi) j (S.sound.ordered j)) h.is in
+      let named = of_some (full-all C (λ q. (1 ≤ q.lo) × (q.hi ≤ C.regions)) j (S.sound.labelled j)) h.is in
+      beyond-within r C.regions h.pair (ap (beyond r) (S.pairs.at j h.below ∙ h.is)) named.0 ordered named.1
 
-  shared_is : {i k t : ℕ} → Port i → Port k → Port t → is_shared_at smaller larger r marks i k t ≡ is_shared C r i k t
+  shared_is : {i k t : ℕ} → Port i → Port k → Port t → is_shared_at full r marks i k t ≡ is_shared C r i k t
   unfolding is_shared_at is_shared
   shared_is {t} a b c =
       let in_range_lem = exterior_in c in
       λ x. eqb (sym (exterior_is a) x) (sym (exterior_is b) x) && not (eqb (sym (exterior_is c) x) (sym (exterior_is a) x))
-      && (sym (anchored_is boundaries smaller larger counts marks C S (beyond_at smaller larger r t) in_range_lem.0 in_range_lem.1) ∙ ap C.anchored (sym (exterior_is c))) x
+      && (sym (anchored_is boundaries full counts marks C S (beyond_at full r t) in_range_lem.0 in_range_lem.1) ∙ ap C.anchored (sym (exterior_is c))) x
 
   twice_is : {i k : ℕ} → Port i → Port k → is_twice_at boundaries i k ≡ is_twice_as_wide C i k
   unfolding is_twice_at is_twice_as_wide width
@@ -72,11 +71,11 @@ module _ (boundaries smaller larger counts marks : List ℕ) (C : Context) (S : 
 
   -- ---- the proposals of three ports
 
-  near-row : {i k t : ℕ} → Port i → Port k → Port t → filter allowed (to_list (near_at smaller larger r boundaries i k t)) ≡ to_list (bridge_at C r i k t)
+  near-row : {i k t : ℕ} → Port i → Port k → Port t → filter allowed (to_list (near_at full r boundaries i k t)) ≡ to_list (bridge_at C r i k t)
   unfolding near_at bridge_at bridge_fits is_allowed bridge_region
   near-row {i} {k} {t} a b c =
-      filter_only allowed (is_near boundaries i i && is_near boundaries i k && is_near boundaries i t) (record { index = i; kind = 1; first = r; second = beyond_at smaller larger r i })
-      ∙ (λ x. to_list (only_if ((sym (near_is boundaries smaller larger counts marks C S i i a.below a.below) x && sym (near_is boundaries smaller larger counts marks C S i k a.below b.below) x && sym (near_is boundaries smaller larger counts marks C S i t a.below c.below) x)
+      filter_only allowed (is_near boundaries i i && is_near boundaries i k && is_near boundaries i t) (record { index = i; kind = 1; first = r; second = beyond_at full r i })
+      ∙ (λ x. to_list (only_if ((sym (near_is boundaries full counts marks C S i i a.below a.below) x && sym (near_is boundaries full counts marks C S i k a.below b.below) x && sym (near_is boundaries full counts marks C S i t a.below c.below) x)
       && (not (has_ramp (C.region r)) && (within_radius (C.region r) (center (C.boundary i).endpoints) && strictly_flat (C.region r) (C.region r)))) (record { index = i; kind = 1; first = r; second = sym (exterior_is a) x })))
       ∙ ap (λ b. to_list (only_if b (record { index = i; kind = 1; first = r; second = port_exterior C r i }))) (regroup (is_near_port C i i && is_near_port C i k && is_near_port C i t) (not (has_ramp (C.region r))) (within_radius (C.region r) (center (C.boundary i).endpoints)) (strictly_flat (C.region r) (C.region r)))
     where
@@ -97,15 +96,15 @@ module _ (boundaries smaller larger counts marks : List ℕ) (C : Context) (S : 
   unfolding filter
   nothing = refl
 
-  pick-row : {i k t : ℕ} → Port i → Port k → Port t → filter allowed (to_list (pick_at smaller larger r boundaries i k t)) ≡ to_list (pick_bridge C r i k t)
+  pick-row : {i k t : ℕ} → Port i → Port k → Port t → filter allowed (to_list (pick_at full r boundaries i k t)) ≡ to_list (pick_bridge C r i k t)
   unfolding pick_at pick_bridge
   pick-row a b c = chosen _ _ _ _ (twice_is a b) (near-row a b c) (chosen _ _ _ _ (twice_is b a) (near-row b a c) nothing)
 
-  three-row : {i j k : ℕ} → Port i → Port j → Port k → filter allowed (to_list (bridge_of_three boundaries smaller larger marks r i j k)) ≡ to_list (bridge_of_ports C r (i ∷ j ∷ k ∷ []))
+  three-row : {i j k : ℕ} → Port i → Port j → Port k → filter allowed (to_list (bridge_of_three boundaries full marks r i j k)) ≡ to_list (bridge_of_ports C r (i ∷ j ∷ k ∷ []))
   unfolding bridge_of_three bridge_of_ports
   three-row a b c = chosen _ _ _ _ (shared_is a b c) (pick-row a b c) (chosen _ _ _ _ (shared_is a c b) (pick-row a c b) (chosen _ _ _ _ (shared_is b c a) (pick-row b c a) nothing))
 
-  list-row : {l : List ℕ} → All Port l → filter allowed (to_list (bridge_of_list boundaries smaller larger marks r l)) ≡ to_list (bridge_of_ports C r l)
+  list-row : {l : List ℕ} → All Port l → filter allowed (to_list (bridge_of_list boundaries full marks r l)) ≡ to_list (bridge_of_ports C r l)
   unfolding bridge_of_list bridge_of_ports filter
   list-row done = refl
   list-row (more a done) = refl
@@ -116,7 +115,7 @@ module _ (boundaries smaller larger counts marks : List ℕ) (C : Context) (S : 
   -- ---- the ports of the pocket
 
   abbrev pocket : ℕ → Bool
-  pocket = is_pocket_port smaller larger r boundaries
+  pocket = is_pocket_port full r boundaries
 
   -- what the definition asks of a port
   abbrev test : ℕ → Bool
@@ -124,24 +123,26 @@ module _ (boundaries smaller larger counts marks : List ℕ) (C : Context) (S : 
 
   pocket-names : (j : ℕ) → j < C.count → pocket j ≡ true → holds (full_pair C j) (contains r) ≡ true
   unfolding is_pocket_port
-  pocket-names j l h = sym (names_is C smaller larger counts S.pairs S.incidents r j l) ∙ (both (names smaller larger r j) (no_ramp_at boundaries j) h).0
+  pocket-names j l h = sym (names_is C full counts S.pairs S.incidents r j l) ∙ (both (names full r j) (no_ramp_at boundaries j) h).0
 
   pocket-port : (j : ℕ) → j < C.count → pocket j ≡ true → Port j
   unfolding is_pocket_port names
-  pocket-port j l h = record { below = l; full = pair_is boundaries smaller larger counts marks C S (contains r) j l (both (names smaller larger r j) (no_ramp_at boundaries j) h).0 }
+  pocket-port j l h =
+      let q = some_pair (pair_of full j) (contains r) (both (names full r j) (no_ramp_at boundaries j) h).0 in
+      record { below = l; pair = q.0; is = sym (S.pairs.at j l) ∙ q.1 }
 
   pocket_incident : (j : ℕ) → j < C.count → pocket j ≡ true → is_incident C j r ≡ true
   pocket_incident j l h = named_incident C j r (pocket-names j l h)
 
   pocket-test : (j : ℕ) → j < C.count → pocket j ≡ true → test j ≡ true
   unfolding is_pocket_port
-  pocket-test j l h = ap₂ ◌&&◌ (no_ramp_is boundaries smaller larger counts marks C S j l ∙ (both (names smaller larger r j) (no_ramp_at boundaries j) h).1) (ap is_some (pocket-port j l h).full)
+  pocket-test j l h = ap₂ ◌&&◌ (no_ramp_is boundaries full counts marks C S j l ∙ (both (names full r j) (no_ramp_at boundaries j) h).1) (ap is_some (pocket-port j l h).is)
 
   incident_pocket : (j : ℕ) → j < C.count → is_incident C j r ≡ true → test j ≡ true → pocket j ≡ true
   unfolding is_pocket_port
   incident_pocket j l h t =
       let tests = both (no_ramp C j) (is_some (full_pair C j)) t in
-      ap₂ ◌&&◌ (names_is C smaller larger counts S.pairs S.incidents r j l ∙ sym (full_incident C j r tests.1) ∙ h) (sym (no_ramp_is boundaries smaller larger counts marks C S j l) ∙ tests.0)
+      ap₂ ◌&&◌ (names_is C full counts S.pairs S.incidents r j l ∙ sym (full_incident C j r tests.1) ∙ h) (sym (no_ramp_is boundaries full counts marks C S j l) ∙ tests.0)
 
   all_tested : all test (ports_of C r) ≡ all_below C.count (λ j. not (is_incident C j r) || test j)
   unfolding ports_of numbers_below
@@ -188,7 +189,7 @@ module _ (boundaries smaller larger counts marks : List ℕ) (C : Context) (S : 
   -- ---- the bridge
 
   abbrev whole : Option Proposal
-  whole = is_bridge_at boundaries smaller larger marks r counts C.count
+  whole = is_bridge_at boundaries full marks r counts C.count
 
   none_row : None ≡ whole → bridge_proposal C r ≡ None → filter allowed (to_list whole) ≡ to_list (bridge_proposal C r)
   none_row e f = ap (λ o. filter allowed (to_list o)) (sym e) ∙ nothing ∙ ap to_list (sym f)
@@ -198,20 +199,20 @@ module _ (boundaries smaller larger counts marks : List ℕ) (C : Context) (S : 
   proposal_is e f = λ x. cond (not (e x) && f x) (bridge_of_ports C r (ports_of C r)) None
 
   marked : {b : Bool} → C.anchored r ≡ b → mark_at marks r ≡ b
-  marked e = sym (anchored_is boundaries smaller larger counts marks C S r low high) ∙ e
+  marked e = sym (anchored_is boundaries full counts marks C S r low high) ∙ e
 
   pub bridge-row : filter allowed (to_list whole) ≡ to_list (bridge_proposal C r)
   bridge-row = go (C.anchored r) refl (all test (ports_of C r)) refl (eqb (get_or counts (r - 1) 0) 3) refl
     where
       go : (a : Bool) → C.anchored r ≡ a → (b : Bool) → all test (ports_of C r) ≡ b → (c : Bool) → eqb (get_or counts (r - 1) 0) 3 ≡ c → filter allowed (to_list whole) ≡ to_list (bridge_proposal C r)
-      go true d b e c f = none_row (is_anchored boundaries smaller larger marks counts r C.count (marked d)) (proposal_is d e)
+      go true d b e c f = none_row (is_anchored boundaries full marks counts r C.count (marked d)) (proposal_is d e)
       go false d true e true f =
-          ap (λ o. filter allowed (to_list o)) (sym (by_list boundaries smaller larger marks counts r C.count (eqb-true (get_or counts (r - 1) 0) 3 f) (marked d)))
+          ap (λ o. filter allowed (to_list o)) (sym (by_list boundaries full marks counts r C.count (eqb-true (get_or counts (r - 1) 0) 3 f) (marked d)))
           ∙ list-row ports-all ∙ ap (λ l. to_list (bridge_of_ports C r l)) (same_ports e) ∙ ap to_list (sym (proposal_is d e))
       go false d true e false f =
-          none_row (other-count boundaries smaller larger marks counts r C.count (eqb-false (get_or counts (r - 1) 0) 3 f))
+          none_row (other-count boundaries full marks counts r C.count (eqb-false (get_or counts (r - 1) 0) 3 f))
           (proposal_is d e ∙ other-ports (ports_of C r) (λ h. eqb-false (get_or counts (r - 1) 0) 3 f (sym counted ∙ h)))
       go false d false e true f =
           let three = eqb-true (get_or counts (r - 1) 0) 3 f in
-          none_row (other_length boundaries smaller larger marks counts r C.count three (marked d) (λ h. true≢false (sym (three-tested three h) ∙ e))) (proposal_is d e)
-      go false d false e false f = none_row (other-count boundaries smaller larger marks counts r C.count (eqb-false (get_or counts (r - 1) 0) 3 f)) (proposal_is d e)
+          none_row (other_length boundaries full marks counts r C.count three (marked d) (λ h. true≢false (sym (three-tested three h) ∙ e))) (proposal_is d e)
+      go false d false e false f = none_row (other-count boundaries full marks counts r C.count (eqb-false (get_or counts (r - 1) 0) 3 f)) (proposal_is d e)

@@ -20,6 +20,7 @@ use Rattle.junction_proposals.specs.Ports.{pair_of, names}
 use Rattle.junction_proposals.specs.Unions.{no_ramp_at}
 use Rattle.junction_proposals.specs.Bridges.{is_pocket_port, is_bridge_at}
 use Rattle.junction_proposals.proofs.BridgeWalk.{bridge-ports}
+use Rattle.context.specs.declared.pairs.Pair as declared
 
 -- ---- pairs counted in both orders
 
@@ -105,21 +106,21 @@ collect-present g (suc m) = length-append (collect m g) (to_list (g m)) ∙ ap�
     go None = refl
     go (Some p) = refl
 
-module _ (boundaries smaller larger marks counts : List ℕ) (count : ℕ) where
+module _ (boundaries : List ℕ) (full : List (Option declared.Pair)) (marks counts : List ℕ) (count : ℕ) where
   abbrev pub bridges : ℕ → Option Proposal
-  bridges k = is_bridge_at boundaries smaller larger marks (suc k) counts count
+  bridges k = is_bridge_at boundaries full marks (suc k) counts count
 
-  three-named : (k : ℕ) → present (bridges k) ≡ true → 3 ≤ count_below count (names smaller larger (suc k))
+  three-named : (k : ℕ) → present (bridges k) ≡ true → 3 ≤ count_below count (names full (suc k))
   unfolding is_pocket_port
   three-named k h = go (bridges k) refl h
     where
-      port : (j : ℕ) → j < count → is_pocket_port smaller larger (suc k) boundaries j ≡ true → names smaller larger (suc k) j ≡ true
-      port j l e = (both (names smaller larger (suc k) j) (no_ramp_at boundaries j) e).0
+      port : (j : ℕ) → j < count → is_pocket_port full (suc k) boundaries j ≡ true → names full (suc k) j ≡ true
+      port j l e = (both (names full (suc k) j) (no_ramp_at boundaries j) e).0
 
-      go : (o : Option Proposal) → bridges k ≡ o → present o ≡ true → 3 ≤ count_below count (names smaller larger (suc k))
+      go : (o : Option Proposal) → bridges k ≡ o → present o ≡ true → 3 ≤ count_below count (names full (suc k))
       go None e p = absurd (true≢false (sym p))
       go (Some q) e p =
-          omega (arith, bridge-ports boundaries smaller larger marks counts (suc k) count e, picked-length (is_pocket_port smaller larger (suc k) boundaries) (λ j. j) count, count_mono (is_pocket_port smaller larger (suc k) boundaries) (names smaller larger (suc k)) count port)
+          omega (arith, bridge-ports boundaries full marks counts (suc k) count e, picked-length (is_pocket_port full (suc k) boundaries) (λ j. j) count, count_mono (is_pocket_port full (suc k) boundaries) (names full (suc k)) count port)
 
   pub bridges-few : (m : ℕ) → 3 * length (collect m bridges) ≤ 2 * count
   unfolding names
@@ -127,6 +128,6 @@ module _ (boundaries smaller larger marks counts : List ℕ) (count : ℕ) where
       omega (
         arith,
         collect-present bridges m,
-        rows (λ k j. names smaller larger (suc k) j) (λ k. present (bridges k)) m count three-named,
-        columns (λ k j. names smaller larger (suc k) j) m count (λ j. named-twice (pair_of smaller larger j) m),
+        rows (λ k j. names full (suc k) j) (λ k. present (bridges k)) m count three-named,
+        columns (λ k j. names full (suc k) j) m count (λ j. named-twice (pair_of full j) m),
       )

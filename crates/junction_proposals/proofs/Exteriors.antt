@@ -1,180 +1,170 @@
--- One exterior more among those found, by the tests that `Exteriors::with` makes; and what is found of the exteriors of the ports below j: the count of those that
--- lead anew, as long as it is below three, and which they are. Assumes nothing.
-use Prim.Native.Nat.{ℕ, ◌+◌, ◌≤◌, ◌<◌}
+-- What is found of the exteriors of a union's ports: one exterior more among those found, and what is found of the ports below j: the count of those that lead anew, as long
+-- as it is below three, and which they are; so the list of incidents, looked at one after the other, says whether there are three. Assumes nothing.
+use Prim.Native.Nat.{ℕ, zero, suc, ◌+◌, ◌≤◌, ◌<◌}
 use native.Mathlib.Omega.{arith}
-use mathlib.Core.Path.{◌≡◌, refl, sym, ap, ap₂, ◌∙◌, subst}
-use mathlib.Core.Bool.{Bool, true, false, not, ◌&&◌, ◌||◌, true≢false, false≢true, or-false, or-true, and-false}
+use mathlib.Core.Path.{◌≡◌, refl, sym, ap, ap₂, ◌∙◌}
+use mathlib.Core.Bool.{Bool, true, false, not, ◌&&◌, ◌||◌, cond, true≢false, false≢true, or-false, or-true}
 use mathlib.Core.List.{List}
+use Rattle.std.specs.Prelude.{Option, None, Some}
+use Rattle.std.specs.List.{fold}
+use Rattle.std.proofs.lemmas.List.Sums.{fold-append}
 use lib.Dec.{eqb, ltb, leb}
-use borrow.Author.Tests.{eq-eqb, ne_eqb, eqb-true, le-leb, ltb-true, ltb-false}
-use Rattle.definitions.specs.Scan.{any_below_lem, count_below}
+use borrow.Author.Tests.{eqb-true, le-leb, ltb-true, ltb-false}
+use Rattle.definitions.specs.Scan.{any_below_lem, count_below, collect, to_list, only_if, bit}
 use Rattle.definitions.specs.Grid.{Pair}
-use Rattle.laws.specs.ListLaws.ScanSteps.{any_next, count_in, count-out}
-use Rattle.junction_proposals.specs.Ports.{names_either, is_port}
-use Rattle.junction_proposals.specs.Unions.{is_found, Found, exterior_at, leads_to, leads_anew}
+use Rattle.definitions.specs.Context.{holds}
+use Rattle.definitions.specs.Junctions.{exterior_of}
+use Rattle.context.specs.declared.pairs.Pair as declared
+use Rattle.junction_proposals.specs.Ports.{pair_of, names, names_either, is_port, incidents_of}
+use Rattle.junction_proposals.specs.Unions.{with_exterior, with_pair, with_incident, leads_to, leads_anew}
 use Rattle.junction_proposals.specs.declared.unions.Exteriors.{Exteriors}
+use Rattle.junction_proposals.specs.declared.unions.Exteriors.TheVariants as found
 use Rattle.junction_proposals.proofs.Incidents.{no_port_lem}
 
 -- ---- one exterior more
 
-module _ (s : Exteriors) where
-  -- by how many are found
-  found_at : (n x : ℕ) → s.found ≡ n → is_found s x ≡ (leb 1 n && eqb s.first x || leb 2 n && eqb s.second x)
-  found_at n x h = ap (λ k. leb 1 k && eqb s.first x || leb 2 k && eqb s.second x) h
+-- how many are found, and which: from the third on any
+abbrev pub size : Exteriors → ℕ
+size found.None = 0
+size (found.One a) = 1
+size (found.Two a b) = 2
+size found.Many = 3
 
-  pub is_first_lem : (e : ℕ) → (s.found ≡ 0 → ⊥) → s.first ≡ e → is_found s e ≡ true
-  is_first_lem e h k = ap₂ (λ a b. a && b || leb 2 s.found && eqb s.second e) (le-leb 1 s.found (some h)) (eq-eqb s.first e k)
-    where
-      some : (s.found ≡ 0 → ⊥) → 1 ≤ s.found
-      some n = omega arith
+pub not-three : (s : Exteriors) → (s ≡ found.Many → ⊥) → false ≡ leb 3 (size s)
+not-three found.None h = refl
+not-three (found.One a) h = refl
+not-three (found.Two a b) h = refl
+not-three found.Many h = absurd (h refl)
 
-  pub is_second : (e : ℕ) → 2 ≤ s.found → s.second ≡ e → is_found s e ≡ true
-  is_second e h k = ap₂ (λ a b. leb 1 s.found && eqb s.first e || a && b) (le-leb 2 s.found h) (eq-eqb s.second e k) ∙ or-true (leb 1 s.found && eqb s.first e)
+abbrev is_found : Exteriors → ℕ → Bool
+is_found found.None e = false
+is_found (found.One a) e = eqb a e
+is_found (found.Two a b) e = eqb a e || eqb b e
+is_found found.Many e = true
 
-  is_neither : (e : ℕ) → (s.first ≡ e → ⊥) → (s.second ≡ e → ⊥) → is_found s e ≡ false
-  is_neither e h k =
-      ap₂ (λ a b. leb 1 s.found && a || leb 2 s.found && b) (ne_eqb s.first e h) (ne_eqb s.second e k)
-      ∙ ap₂ ◌||◌ (and-false (leb 1 s.found)) (and-false (leb 2 s.found))
+with-old : (s : Exteriors) (e : ℕ) → is_found s e ≡ true → with_exterior s e ≡ s
+with-old found.None e h = absurd (false≢true h)
+with-old (found.One a) e h = ap (λ b. cond b (found.One a) (found.Two a e)) h
+with-old (found.Two a b) e h = ap (λ t. cond t (found.Two a b) found.Many) h
+with-old found.Many e h = refl
 
-  -- one that is found already
-  pub found-old : (e : ℕ) → s.found ≤ 3 → is_found s e ≡ true → Found s e s
-  found-old e h k =
-      record {
-        few = h;
-        old = λ l t. refl;
-        new = λ l t. absurd (true≢false (sym k ∙ t));
-        more = λ l t. absurd (true≢false (sym k ∙ t));
-        full = λ l. l;
-      }
+with-new : (s : Exteriors) (e : ℕ) → is_found s e ≡ false → size (with_exterior s e) ≡ size s + 1
+with-new found.None e h = refl
+with-new (found.One a) e h = ap (λ b. size (cond b (found.One a) (found.Two a e))) h
+with-new (found.Two a b) e h = ap (λ t. size (cond t (found.Two a b) found.Many)) h
+with-new found.Many e h = absurd (true≢false h)
 
-  pub found_none : (e : ℕ) → s.found ≡ 0 → Found s e (record { found = 1; first = e; second = 0 })
-  found_none e h =
-      record {
-        few = omega arith;
-        old = λ l t. absurd (false≢true (sym (found_at 0 e h) ∙ t));
-        new = λ l t. omega arith;
-        more = λ l t m x. or-false (eqb e x) ∙ sym (ap (λ b. b || eqb e x) (found_at 0 x h));
-        full = λ l. absurd (omega arith);
-      }
-
-  pub found_one : (e : ℕ) → s.found ≡ 1 → (s.first ≡ e → ⊥) → Found s e (record { found = 2; first = s.first; second = e })
-  found_one e h k =
-      record {
-        few = omega arith;
-        old = λ l t. absurd (false≢true (sym (found_at 1 e h ∙ or-false (eqb s.first e) ∙ ne_eqb s.first e k) ∙ t));
-        new = λ l t. omega arith;
-        more = λ l t m x. sym (ap (λ b. b || eqb e x) (found_at 1 x h ∙ or-false (eqb s.first x)));
-        full = λ l. absurd (omega arith);
-      }
-
-  pub found_two : (e : ℕ) → 2 ≤ s.found → (s.first ≡ e → ⊥) → (s.second ≡ e → ⊥) → Found s e (record { found = 3; first = s.first; second = s.second })
-  found_two e h k m =
-      record {
-        few = omega arith;
-        old = λ l t. absurd (false≢true (sym (is_neither e k m) ∙ t));
-        new = λ l t. omega arith;
-        more = λ l t n. absurd (omega arith);
-        full = λ l. omega arith;
-      }
+with-more : (s : Exteriors) (e : ℕ) → is_found s e ≡ false → size s < 2 → (x : ℕ) → is_found (with_exterior s e) x ≡ (is_found s x || eqb e x)
+with-more found.None e h l x = refl
+with-more (found.One a) e h l x = ap (λ b. is_found (cond b (found.One a) (found.Two a e)) x) h
+with-more (found.Two a b) e h l x = absurd (omega arith)
+with-more found.Many e h l x = absurd (omega arith)
 
 -- ---- the exteriors of the ports below j
 
-module _ (smaller larger : List ℕ) (i : ℕ) (p : Pair) where
-  abbrev exterior : ℕ → ℕ
-  exterior = exterior_at smaller larger i p
+module _ (full : List (Option declared.Pair)) (i : ℕ) (p : Pair) where
+  abbrev anew : ℕ → Bool
+  anew = leads_anew full i p
 
   pub record Surveyed (j : ℕ) (s : Exteriors) : Type 0 where
-    pub few : s.found ≤ 3
-    pub many : s.found < 3 → count_below j (leads_anew smaller larger i p) ≡ s.found
-    pub which : s.found < 3 → (e : ℕ) → any_below_lem j (leads_to smaller larger i p e) ≡ is_found s e
-    pub full : 3 ≤ s.found → 3 ≤ count_below j (leads_anew smaller larger i p)
+    pub many : size s < 3 → count_below j anew ≡ size s
+    pub which : size s < 3 → (e : ℕ) → any_below_lem j (leads_to full i p e) ≡ is_found s e
+    pub all : 3 ≤ size s → 3 ≤ count_below j anew
 
-  pub survey_start : Surveyed 0 (record { found = 0; first = 0; second = 0 })
+  survey_start : Surveyed 0 found.None
   unfolding count_below any_below_lem
-  survey_start = record { few = omega arith; many = λ l. refl; which = λ l e. refl; full = λ l. absurd (omega arith) }
+  survey_start = record { many = λ l. refl; which = λ l e. refl; all = λ l. absurd (omega arith) }
 
   -- a boundary that is no port
-  pub survey_other : {j : ℕ} {s t : Exteriors} → Surveyed j s → is_port smaller larger i p j ≡ false → t ≡ s → Surveyed (j + 1) t
-  unfolding leads_to leads_anew
-  survey_other {j} {s} v h q =
-      rw q
+  survey_other : {j : ℕ} {s : Exteriors} → Surveyed j s → is_port full i p j ≡ false → Surveyed (suc j) s
+  unfolding leads_to leads_anew count_below any_below_lem
+  survey_other {j} {s} v h =
       record {
-        few = v.few;
-        many = λ l. count-out (leads_anew smaller larger i p) j (ap (λ b. b && not (any_below_lem j (leads_to smaller larger i p (exterior j)))) h) ∙ v.many l;
-        which = λ l e. any_next (leads_to smaller larger i p e) j ∙ ap₂ (λ a b. a || (b && eqb (exterior j) e)) (v.which l e) h ∙ or-false (is_found s e);
-        full = λ l. omega (arith, v.full l, count-out (leads_anew smaller larger i p) j (ap (λ b. b && not (any_below_lem j (leads_to smaller larger i p (exterior j)))) h));
+        many = λ l. omega (arith, v.many l, ap bit out);
+        which = λ l e. ap₂ (λ a b. a || (b && holds (pair_of full j) (λ q. eqb (exterior_of p q) e))) (v.which l e) h ∙ or-false (is_found s e);
+        all = λ l. omega (arith, v.all l, ap bit out);
       }
+    where
+      out : anew j ≡ false
+      out = ap (λ b. b && holds (pair_of full j) (λ q. not (any_below_lem j (leads_to full i p (exterior_of p q))))) h
 
-  -- one that names neither region of the union
-  pub survey_skip : {s : Exteriors} (j : ℕ) → names_either smaller larger p j ≡ false → Surveyed j s → Surveyed (j + 1) s
-  survey_skip j h v = survey_other v (no_port_lem smaller larger p i j h) refl
-
-  -- a port
-  module _ {j : ℕ} {s t : Exteriors} (v : Surveyed j s) (h : is_port smaller larger i p j ≡ true) (f : Found s (exterior j) t) where
-    grows : count_below j (leads_anew smaller larger i p) ≤ count_below (j + 1) (leads_anew smaller larger i p)
-    grows = go (leads_anew smaller larger i p j) refl
-      where
-        go : (b : Bool) → leads_anew smaller larger i p j ≡ b → count_below j (leads_anew smaller larger i p) ≤ count_below (j + 1) (leads_anew smaller larger i p)
-        go true e = omega (arith, count_in (leads_anew smaller larger i p) j e)
-        go false e = omega (arith, count-out (leads_anew smaller larger i p) j e)
-
-    next : (e : ℕ) → s.found < 3 → any_below_lem (j + 1) (leads_to smaller larger i p e) ≡ (is_found s e || eqb (exterior j) e)
-    unfolding leads_to
-    next e l = any_next (leads_to smaller larger i p e) j ∙ ap₂ (λ a b. a || (b && eqb (exterior j) e)) (v.which l e) h
-
-    anew : s.found < 3 → leads_anew smaller larger i p j ≡ not (is_found s (exterior j))
-    unfolding leads_anew
-    anew l = ap₂ (λ a b. a && not b) h (v.which l (exterior j))
-
+  -- a port, which leads to region e
+  module _ {j : ℕ} (e : ℕ) {s : Exteriors} (v : Surveyed j s) (anew_is : size s < 3 → anew j ≡ not (is_found s e)) (next : size s < 3 → (x : ℕ) → any_below_lem (suc j) (leads_to full i p x) ≡ (is_found s x || eqb e x)) where
     -- to a region that is found already
-    known : s.found < 3 → is_found s (exterior j) ≡ true → Surveyed (j + 1) t
+    known : size s < 3 → is_found s e ≡ true → Surveyed (suc j) s
+    unfolding count_below
     known l k =
-        rw (f.old l k)
         record {
-          few = v.few;
-          many = λ m. count-out (leads_anew smaller larger i p) j (anew l ∙ ap not k) ∙ v.many l;
-          which = λ m e. next e l ∙ level e (eqb (exterior j) e) refl;
-          full = λ m. absurd (omega arith);
+          many = λ m. omega (arith, ap bit (anew_is l ∙ ap not k), v.many l);
+          which = λ m x. next l x ∙ level x (eqb e x) refl;
+          all = λ m. absurd (omega arith);
         }
       where
-        level : (e : ℕ) (b : Bool) → eqb (exterior j) e ≡ b → (is_found s e || b) ≡ is_found s e
-        level e true q = or-true (is_found s e) ∙ sym (ap (is_found s) (sym (eqb-true (exterior j) e q)) ∙ k)
-        level e false q = or-false (is_found s e)
+        level : (x : ℕ) (b : Bool) → eqb e x ≡ b → (is_found s x || b) ≡ is_found s x
+        level x true q = or-true (is_found s x) ∙ sym (ap (is_found s) (sym (eqb-true e x q)) ∙ k)
+        level x false q = or-false (is_found s x)
 
-    fresh : s.found < 3 → is_found s (exterior j) ≡ false → Surveyed (j + 1) t
+    fresh : size s < 3 → is_found s e ≡ false → Surveyed (suc j) (with_exterior s e)
+    unfolding count_below
     fresh l k =
         record {
-          few = f.few;
-          many = λ m. one ∙ sym (f.new l k);
-          which = λ m e. next e l ∙ sym (f.more l k m e);
-          full = λ m. omega (arith, one, f.new l k);
+          many = λ m. omega (arith, one, with-new s e k);
+          which = λ m x. next l x ∙ sym (with-more s e k (omega (arith, m, with-new s e k)) x);
+          all = λ m. omega (arith, one, with-new s e k);
         }
       where
-        one : count_below (j + 1) (leads_anew smaller larger i p) ≡ s.found + 1
-        one = count_in (leads_anew smaller larger i p) j (anew l ∙ ap not k) ∙ ap (λ n. n + 1) (v.many l)
+        one : count_below (suc j) anew ≡ size s + 1
+        one = omega (arith, ap bit (anew_is l ∙ ap not k), v.many l)
 
-    survey_port : Surveyed (j + 1) t
-    survey_port = go (ltb s.found 3) refl (is_found s (exterior j)) refl
+    survey_port : Surveyed (suc j) (with_exterior s e)
+    unfolding count_below
+    survey_port = go (ltb (size s) 3) refl (is_found s e) refl
       where
-        go : (b : Bool) → ltb s.found 3 ≡ b → (c : Bool) → is_found s (exterior j) ≡ c → Surveyed (j + 1) t
-        go true e true k = known (ltb-true s.found 3 e) k
-        go true e false k = fresh (ltb-true s.found 3 e) k
-        go false e c k =
-            let three = ltb-false s.found 3 e in
-            record {
-              few = f.few;
-              many = λ m. absurd (omega (arith, f.full three));
-              which = λ m. absurd (omega (arith, f.full three));
-              full = λ m. omega (arith, v.full three, grows);
-            }
+        go : (b : Bool) → ltb (size s) 3 ≡ b → (c : Bool) → is_found s e ≡ c → Surveyed (suc j) (with_exterior s e)
+        go true d true k = rw (with-old s e k) (known (ltb-true (size s) 3 d) k)
+        go true d false k = fresh (ltb-true (size s) 3 d) k
+        go false d c k = whole s (ltb-false (size s) 3 d) v
+          where
+            whole : (u : Exteriors) → 3 ≤ size u → Surveyed j u → Surveyed (suc j) (with_exterior u e)
+            whole found.None l w = absurd (omega arith)
+            whole (found.One a) l w = absurd (omega arith)
+            whole (found.Two a b) l w = absurd (omega arith)
+            whole found.Many l w = record { many = λ m. absurd (omega arith); which = λ m. absurd (omega arith); all = λ m. omega (arith, w.all l) }
 
-  -- e and u are what the two calls returned
-  pub survey_with : {j e : ℕ} {s t u : Exteriors} → Surveyed j s → is_port smaller larger i p j ≡ true → e ≡ exterior j → Found s e u → t ≡ u → Surveyed (j + 1) t
-  survey_with {j} {s} {u} v h q f d = rw d (survey_port v h (subst (λ (x : ℕ). Found s x u) q f))
+  -- ---- along the list
 
-  pub survey_end : {n : ℕ} {s : Exteriors} → Surveyed n s → leb 3 s.found ≡ leb 3 (count_below n (leads_anew smaller larger i p))
-  survey_end {n} {s} v = go (ltb s.found 3) refl
+  -- boundary j, whose full pair is o
+  survey_pair : {j : ℕ} {s : Exteriors} → Surveyed j s → names_either full p j ≡ true → (o : Option Pair) → pair_of full j ≡ o → Surveyed (suc j) (with_pair i p s j o)
+  unfolding names is_port leads_to leads_anew any_below_lem
+  survey_pair {j} {s} v h None own = absurd (false≢true (ap (λ o. holds o (λ q. eqb q.lo p.lo || eqb q.hi p.lo) || holds o (λ q. eqb q.lo p.hi || eqb q.hi p.hi)) (sym own) ∙ h))
+  survey_pair {j} {s} v h (Some q) own = go (eqb j i) refl
     where
-      go : (b : Bool) → ltb s.found 3 ≡ b → leb 3 s.found ≡ leb 3 (count_below n (leads_anew smaller larger i p))
-      go true e = ap (leb 3) (sym (v.many (ltb-true s.found 3 e)))
-      go false e = le-leb 3 s.found (ltb-false s.found 3 e) ∙ sym (le-leb 3 (count_below n (leads_anew smaller larger i p)) (v.full (ltb-false s.found 3 e)))
+      go : (b : Bool) → eqb j i ≡ b → Surveyed (suc j) (cond b s (with_exterior s (exterior_of p q)))
+      go true e = survey_other v (ap (λ b. not b && names_either full p j) e)
+      go false e =
+          survey_port (exterior_of p q) v
+          (λ l. ap₂ (λ b o. b && holds o (λ q. not (any_below_lem j (leads_to full i p (exterior_of p q))))) port own ∙ ap not (v.which l (exterior_of p q)))
+          (λ l x. ap₂ (λ a b. a || b) (v.which l x) (ap₂ (λ b o. b && holds o (λ q. eqb (exterior_of p q) x)) port own))
+        where
+          port : (not (eqb j i) && names_either full p j) ≡ true
+          port = ap₂ (λ a b. not a && b) e h
+
+  abbrev pub survey : ℕ → Exteriors
+  survey n = fold (with_incident full i p) found.None (incidents_of full n p)
+
+  surveyed : (n : ℕ) → Surveyed n (survey n)
+  unfolding incidents_of collect
+  surveyed zero = survey_start
+  surveyed (suc n) = rw (fold-append (with_incident full i p) found.None (incidents_of full n p) (to_list (only_if (names_either full p n) n))) (go (names_either full p n) refl (surveyed n))
+    where
+      go : (b : Bool) → names_either full p n ≡ b → Surveyed n (survey n) → Surveyed (suc n) (fold (with_incident full i p) (survey n) (to_list (only_if b n)))
+      go true e v = survey_pair v e (pair_of full n) refl
+      go false e v = survey_other v (no_port_lem full p i n e)
+
+  -- s is what was found at the end
+  pub three_found : (n : ℕ) {s : Exteriors} → s ≡ survey n → leb 3 (size s) ≡ leb 3 (count_below n anew)
+  three_found n {s} e = rw e (go (ltb (size (survey n)) 3) refl)
+    where
+      go : (b : Bool) → ltb (size (survey n)) 3 ≡ b → leb 3 (size (survey n)) ≡ leb 3 (count_below n anew)
+      go true d = ap (leb 3) (sym ((surveyed n).many (ltb-true (size (survey n)) 3 d)))
+      go false d = le-leb 3 (size (survey n)) (ltb-false (size (survey n)) 3 d) ∙ sym (le-leb 3 (count_below n anew) ((surveyed n).all (ltb-false (size (survey n)) 3 d)))

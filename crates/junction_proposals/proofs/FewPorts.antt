@@ -4,17 +4,19 @@ use Prim.Native.Nat.{ℕ, zero, suc, ◌+◌, ◌-◌, ◌≤◌, ◌<◌}
 use native.Mathlib.Omega.{arith}
 use mathlib.Core.Path.{◌≡◌, refl, sym, ap, ◌∙◌}
 use mathlib.Core.Bool.{Bool, true, false, not, ◌&&◌, ◌||◌, or-true}
+use Rattle.std.specs.Prelude.{Option, Some}
 use mathlib.Core.List.{List}
 use lib.ListN.{get_or}
 use lib.Dec.{eqb, ltb, leb}
-use borrow.Author.Tests.{eq-eqb, ne_eqb, eqb-true, lt-leb, ltb-true, ltb-false}
-use Rattle.definitions.specs.Scan.{any_below_lem, all_below, count_below, bit, only_if}
+use borrow.Author.Tests.{eq-eqb, eqb-true, lt-leb, ltb-true, ltb-false}
+use Rattle.definitions.specs.Scan.{any_below_lem, count_below, bit}
 use Rattle.definitions.specs.Grid.{Pair, contains}
 use Rattle.definitions.specs.Context.{holds}
 use Rattle.laws.specs.ListLaws.Tests.{both}
 use Rattle.laws.specs.ListLaws.ScanSteps.{count_mono}
-use Rattle.junction_proposals.specs.Ports.{names, is_unfit, region_fits, walk_fits, is_port}
-use Rattle.junction_proposals.specs.Unions.{exterior_at, leads_to, leads_anew}
+use Rattle.junction_proposals.specs.Ports.{pair_of, names, is_unfit, region_fits, walk_fits, is_port}
+use Rattle.junction_proposals.specs.Unions.{leads_anew}
+use Rattle.context.specs.declared.pairs.Pair as declared
 
 -- ---- counts
 
@@ -39,26 +41,23 @@ module _ (f g h : ℕ → Bool) (each : (j : ℕ) → bit (f j) ≤ bit (g j) + 
 
 -- ---- ports
 
-module _ (smaller larger counts : List ℕ) (count i : ℕ) (pair : get_or smaller i 0 ≡ 0 → ⊥) where
-  abbrev union : Pair
-  union = record { lo = get_or smaller i 0; hi = get_or larger i 0 }
-
+module _ (full : List (Option declared.Pair)) (counts : List ℕ) (count i : ℕ) (union : Pair) (own : pair_of full i ≡ Some union) where
   abbrev low : ℕ → Bool
-  low = names smaller larger union.lo
+  low = names full union.lo
 
   abbrev high : ℕ → Bool
-  high = names smaller larger union.hi
+  high = names full union.hi
 
   -- the boundary itself names both
-  names-own : (r : ℕ) → contains r union ≡ true → names smaller larger r i ≡ true
+  names-own : (r : ℕ) → contains r union ≡ true → names full r i ≡ true
   unfolding names
-  names-own r e = ap (λ b. holds (only_if (not b) union) (contains r)) (ne_eqb (get_or smaller i 0) 0 pair) ∙ e
+  names-own r e = ap (λ o. holds o (contains r)) own ∙ e
 
-  no_port_lem : is_port smaller larger i union i ≡ false
+  no_port_lem : is_port full i union i ≡ false
   unfolding is_port
   no_port_lem = ap (λ b. not b && (low i || high i)) (eq-eqb i i refl)
 
-  port-bit : (j : ℕ) → bit (is_port smaller larger i union j) ≤ bit (low j) + bit (high j)
+  port-bit : (j : ℕ) → bit (is_port full i union j) ≤ bit (low j) + bit (high j)
   unfolding is_port
   port-bit j = go (eqb j i) (low j) (high j)
     where
@@ -67,25 +66,25 @@ module _ (smaller larger counts : List ℕ) (count i : ℕ) (pair : get_or small
       go false true b = omega arith
       go false false b = omega arith
 
-  pub few-ports : i < count → walk_fits smaller larger counts count i union ≡ true → get_or counts (union.lo - 1) 0 + get_or counts (union.hi - 1) 0 < 5 → leb 3 (count_below count (leads_anew smaller larger i union)) ≡ false
-  unfolding walk_fits all_below region_fits leads_anew
-  few-ports l w s = lt-leb 3 (count_below count (leads_anew smaller larger i union)) (omega (arith, s, counted union.lo sides.0, counted union.hi sides.1, ports, less))
+  pub few-ports : i < count → walk_fits full counts count i union ≡ true → get_or counts (union.lo - 1) 0 + get_or counts (union.hi - 1) 0 < 5 → leb 3 (count_below count (leads_anew full i union)) ≡ false
+  unfolding walk_fits region_fits leads_anew
+  few-ports l w s = lt-leb 3 (count_below count (leads_anew full i union)) (omega (arith, s, counted union.lo sides.0, counted union.hi sides.1, ports, less))
     where
-      sides : (region_fits smaller larger counts count i union union.lo ≡ true) × (region_fits smaller larger counts count i union union.hi ≡ true)
-      sides = both (region_fits smaller larger counts count i union union.lo) (region_fits smaller larger counts count i union union.hi) w
+      sides : (region_fits full counts count i union union.lo ≡ true) × (region_fits full counts count i union union.hi ≡ true)
+      sides = both (region_fits full counts count i union union.lo) (region_fits full counts count i union union.hi) w
 
-      counted : (r : ℕ) → region_fits smaller larger counts count i union r ≡ true → count_below count (names smaller larger r) ≡ get_or counts (r - 1) 0
+      counted : (r : ℕ) → region_fits full counts count i union r ≡ true → count_below count (names full r) ≡ get_or counts (r - 1) 0
       counted r e =
-          eqb-true (count_below count (names smaller larger r)) (get_or counts (r - 1) 0)
-          (both (not (any_below_lem count (is_unfit smaller larger i union r))) (eqb (count_below count (names smaller larger r)) (get_or counts (r - 1) 0)) e).1
+          eqb-true (count_below count (names full r)) (get_or counts (r - 1) 0)
+          (both (not (any_below_lem count (is_unfit full i union r))) (eqb (count_below count (names full r)) (get_or counts (r - 1) 0)) e).1
 
-      ports : count_below count (leads_anew smaller larger i union) ≤ count_below count (is_port smaller larger i union)
+      ports : count_below count (leads_anew full i union) ≤ count_below count (is_port full i union)
       ports =
-          count_mono (leads_anew smaller larger i union) (is_port smaller larger i union) count
-          (λ j k e. (both (is_port smaller larger i union j) (not (any_below_lem j (leads_to smaller larger i union (exterior_at smaller larger i union j)))) e).0)
+          count_mono (leads_anew full i union) (is_port full i union) count
+          (λ j k e. (both (is_port full i union j) _ e).0)
 
-      less : count_below count (is_port smaller larger i union) + 2 ≤ count_below count low + count_below count high
+      less : count_below count (is_port full i union) + 2 ≤ count_below count low + count_below count high
       less =
-          count_less (is_port smaller larger i union) low high port-bit i no_port_lem
+          count_less (is_port full i union) low high port-bit i no_port_lem
           (names-own union.lo (ap (λ b. b || eqb union.hi union.lo) (eq-eqb union.lo union.lo refl)))
           (names-own union.hi (ap (λ b. eqb union.lo union.hi || b) (eq-eqb union.hi union.hi refl) ∙ or-true (eqb union.lo union.hi))) count l

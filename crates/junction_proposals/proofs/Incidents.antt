@@ -1,109 +1,109 @@
--- The list of the boundaries that name a region of a union: how it is filled, boundary by boundary; and a walk over it. What lies between two neighbouring
--- entries names neither region, so that a walk which leaves such boundaries out has passed every boundary once it has passed the list. Assumes nothing.
-use Prim.Native.Nat.{ℕ, zero, suc, ◌+◌, ◌≤◌, ◌<◌}
+-- The list of the boundaries that name a region of a union: how it is filled, boundary by boundary, and what a chain over it says of all boundaries. Assumes nothing.
+use Prim.Native.Nat.{ℕ, zero, suc, ◌+◌, ◌<◌}
 use native.Mathlib.Omega.{arith}
 use native.Mathlib.Numerals.{add-one}
-use native.Mathlib.Nat.{le_antisymm}
-use mathlib.Core.Path.{◌≡◌, refl, sym, ap, ◌∙◌}
-use mathlib.Core.Bool.{Bool, true, false, not, ◌&&◌, and-false}
+use mathlib.Core.Path.{◌≡◌, refl, sym, ap, ap₂, ◌∙◌}
+use mathlib.Core.Bool.{Bool, true, false, not, ◌&&◌, ◌||◌, and-false, and-true, or-false}
+use Rattle.std.specs.Prelude.{Option}
 use mathlib.Core.List.{List, ◌++◌, append-nil}
-use lib.ListN.{length, get_or, set, length-set}
-use lib.Seq.{length-take-le, take-suc-set, get_or-take}
-use lib.Dec.{eqb, ltb}
-use borrow.Author.Tests.{ltb-true, ltb-false}
-use Rattle.definitions.specs.Scan.{count_below, collect, to_list, only_if, bit}
+use lib.ListN.{length, get_or, set, length-set, length-append}
+use lib.Seq.{take-suc-set}
+use lib.Dec.{eqb}
+use Rattle.std.specs.List.{list_any, list_all, filter}
+use Rattle.std.proofs.lemmas.List.Folds.{list_any-append, list_all-append}
+use Rattle.std.proofs.lemmas.List.Elements.{filter-append}
+use Rattle.definitions.specs.Scan.{any_below_lem, all_below, count_below, collect, to_list, only_if, bit}
 use Rattle.definitions.specs.Grid.{Pair}
-use Rattle.laws.specs.OrderLaws.Ranks.{rank_mono}
-use Rattle.laws.specs.ListLaws.Below.{Ranked, rank-taken}
-use Rattle.laws.specs.ListLaws.ScanSteps.{collect_next, count_in}
+use Rattle.context.specs.declared.pairs.Pair as declared
+use Rattle.laws.specs.ListLaws.ScanSteps.{collect_next}
 use Rattle.laws.specs.ListLaws.Scans.{picked, picked-length, picked_at}
-use Rattle.junction_proposals.specs.Ports.{names_either, is_port, Listed}
+use Rattle.laws.specs.ListLaws.Below.{rank-taken}
+use Rattle.junction_proposals.specs.Ports.{names_either, is_port, incidents_of, Listed}
 
--- ---- a walk over the numbers that pass f
+-- ---- chains over the numbers that pass f
 
--- k of them are passed: P holds wherever k of them lie below, that is, from behind the last of the k up to the next
-pub record Passed (f : ℕ → Bool) (P : ℕ → Type 0) (k : ℕ) : Type 0 where
-  pub up_to : (j : ℕ) → count_below j f ≡ k → P j
+module _ (f t : ℕ → Bool) where
+  abbrev those : ℕ → List ℕ
+  those n = picked f (λ j. j) n
 
-module _ {f : ℕ → Bool} {P : ℕ → Type 0} (skip : (j : ℕ) → f j ≡ false → P j → P (j + 1)) where
-  -- what holds at j holds as far as no number passes f
-  hold : (j m : ℕ) → j ≤ m → count_below m f ≡ count_below j f → P j → P m
-  unfolding count_below
-  hold j zero l e h = rw (le_antisymm {n = 0} {m = j} (omega arith) l) h
-  hold j (suc m) l e h = go (ltb j (suc m)) refl (f m) refl (hold j m)
+  any_picked : (n : ℕ) → list_any t (those n) ≡ any_below_lem n (λ j. f j && t j)
+  unfolding any_below_lem collect
+  any_picked zero = refl
+  any_picked (suc n) = list_any-append t (those n) (to_list (only_if (f n) n)) ∙ ap₂ ◌||◌ (any_picked n) (go (f n))
     where
-      go : (a : Bool) → ltb j (suc m) ≡ a → (b : Bool) → f m ≡ b → (j ≤ m → count_below m f ≡ count_below j f → P j → P m) → P (suc m)
-      go true t true q ih = absurd (omega (arith, rank_mono f j m (omega (arith, ltb-true j (suc m) t)), ap bit q, e))
-      go true t false q ih = rw add-one at (skip m q (ih (omega (arith, ltb-true j (suc m) t)) (omega (arith, ap bit q, e)) h))
-      go false t b q ih = rw (le_antisymm {n = suc m} {m = j} (ltb-false j (suc m) t) l) h
+      go : (b : Bool) → list_any t (to_list (only_if b n)) ≡ (b && t n)
+      go true = or-false (t n)
+      go false = refl
 
-  pub passed_start : P 0 → Passed f P 0
-  unfolding count_below
-  passed_start h = record { up_to = λ m e. hold 0 m (omega arith) e h }
-
-  pub passed_next : {j k : ℕ} → f j ≡ true → count_below j f ≡ k → P (j + 1) → Passed f P (k + 1)
-  passed_next {j} {k} t e h = record { up_to = λ m q. hold (j + 1) m (later m q (ltb j m) refl) (omega (arith, count_in f j t)) h }
+  all_picked : (n : ℕ) → list_all t (those n) ≡ all_below n (λ j. not (f j) || t j)
+  unfolding all_below collect
+  all_picked zero = refl
+  all_picked (suc n) = list_all-append t (those n) (to_list (only_if (f n) n)) ∙ ap₂ ◌&&◌ (all_picked n) (go (f n))
     where
-      later : (m : ℕ) → count_below m f ≡ k + 1 → (b : Bool) → ltb j m ≡ b → j + 1 ≤ m
-      later m q true d = omega (arith, ltb-true j m d)
-      later m q false d = absurd (omega (arith, rank_mono f m j (ltb-false j m d)))
+      go : (b : Bool) → list_all t (to_list (only_if b n)) ≡ (not b || t n)
+      go true = and-true (t n)
+      go false = refl
 
-module _ (smaller larger : List ℕ) (p : Pair) where
+  count_picked : (n : ℕ) → length (filter t (those n)) ≡ count_below n (λ j. f j && t j)
+  unfolding count_below collect
+  count_picked zero = refl
+  count_picked (suc n) =
+      ap length (filter-append t (those n) (to_list (only_if (f n) n))) ∙ length-append (filter t (those n)) (filter t (to_list (only_if (f n) n)))
+      ∙ ap₂ ◌+◌ (count_picked n) (go (f n) (t n) refl)
+    where
+      go : (b c : Bool) → t n ≡ c → length (filter t (to_list (only_if b n))) ≡ bit (b && c)
+      go true true e = rw e refl
+      go true false e = rw e refl
+      go false c e = refl
+
+module _ (full : List (Option declared.Pair)) (p : Pair) where
   abbrev named : ℕ → Bool
-  named = names_either smaller larger p
+  named = names_either full p
 
   -- what names neither region is no port
-  pub no_port_lem : (i j : ℕ) → named j ≡ false → is_port smaller larger i p j ≡ false
+  pub no_port_lem : (i j : ℕ) → named j ≡ false → is_port full i p j ≡ false
   unfolding is_port
   no_port_lem i j h = ap (λ b. not (eqb j i) && b) h ∙ and-false (not (eqb j i))
 
+  -- ---- chains over the list
+
+  pub any_listed : (t : ℕ → Bool) (n : ℕ) → list_any t (incidents_of full n p) ≡ any_below_lem n (λ j. named j && t j)
+  unfolding incidents_of
+  any_listed t n = any_picked named t n
+
+  pub all_listed : (t : ℕ → Bool) (n : ℕ) → list_all t (incidents_of full n p) ≡ all_below n (λ j. not (named j) || t j)
+  unfolding incidents_of
+  all_listed t n = all_picked named t n
+
+  pub count_listed : (t : ℕ → Bool) (n : ℕ) → length (filter t (incidents_of full n p)) ≡ count_below n (λ j. named j && t j)
+  unfolding incidents_of
+  count_listed t n = count_picked named t n
+
+  -- what stands in the list
+  pub listed_below : (n k d : ℕ) {l : List ℕ} → l ≡ incidents_of full n p → k < length l → get_or l k d < n
+  unfolding incidents_of
+  listed_below n k d {l} e h =
+      let r = rank-taken named n k (omega (arith, ap length e, picked-length named (λ j. j) n)) in
+      omega (arith, ap (λ l. get_or l k d) e ∙ ap (λ i. get_or (picked named (λ j. j) n) i d) (sym r.rank_is) ∙ picked_at named (λ j. j) d n r.place r.below r.is_inside, r.below)
+
   -- ---- how the list is filled
 
-  abbrev listing : ℕ → List ℕ
-  listing = picked named (λ j. j)
-
-  pub listed_start : (incidents : List ℕ) → Listed smaller larger 0 p incidents 0
-  unfolding collect
+  pub listed_start : (incidents : List ℕ) → Listed full 0 p incidents 0
+  unfolding incidents_of collect
   listed_start incidents = record { few = omega arith; long = omega arith; each = refl }
 
-  listing_next : {b : Bool} (j : ℕ) → named j ≡ b → listing (j + 1) ≡ listing j ++ to_list (only_if b j)
-  listing_next j h = collect_next (λ i. only_if (named i) i) j ∙ ap (λ b. listing j ++ to_list (only_if b j)) h
+  pub listing_next : {b : Bool} (j : ℕ) → named j ≡ b → incidents_of full (j + 1) p ≡ incidents_of full j p ++ to_list (only_if b j)
+  unfolding incidents_of
+  listing_next j h = collect_next (λ i. only_if (named i) i) j ∙ ap (λ b. incidents_of full j p ++ to_list (only_if b j)) h
 
-  pub listed-other : {j n : ℕ} {incidents : List ℕ} → Listed smaller larger j p incidents n → named j ≡ false → Listed smaller larger (j + 1) p incidents n
+  pub listed-other : {j n : ℕ} {incidents : List ℕ} → Listed full j p incidents n → named j ≡ false → Listed full (j + 1) p incidents n
   listed-other {j} s h =
-      record { few = omega (arith, s.few); long = s.long; each = s.each ∙ sym (listing_next j h ∙ append-nil (listing j)) }
+      record { few = omega (arith, s.few); long = s.long; each = s.each ∙ sym (listing_next j h ∙ append-nil (incidents_of full j p)) }
 
-  pub listed-named : {j n : ℕ} {incidents : List ℕ} → Listed smaller larger j p incidents n → n < length incidents → named j ≡ true → Listed smaller larger (j + 1) p (set incidents n j) (n + 1)
+  pub listed-named : {j n : ℕ} {incidents : List ℕ} → Listed full j p incidents n → n < length incidents → named j ≡ true → Listed full (j + 1) p (set incidents n j) (n + 1)
   listed-named {j} {n} {incidents} s l h =
       record {
         few = omega (arith, s.few);
         long = omega (arith, length-set incidents n j);
         each = rw add-one (take-suc-set incidents n j l) ∙ ap (λ r. r ++ to_list (only_if true j)) s.each ∙ sym (listing_next j h);
       }
-
-  -- ---- what stands in the list
-
-  -- boundary j is entry k
-  pub record Entry (count k j : ℕ) : Type 0 where
-    pub below : j < count
-    pub is_named : named j ≡ true
-    pub rank_is : count_below j named ≡ k
-
-  module _ {count n : ℕ} {incidents : List ℕ} (s : Listed smaller larger count p incidents n) where
-    many : n ≡ count_below count named
-    many = sym (length-take-le n incidents s.long) ∙ ap length s.each ∙ picked-length named (λ j. j) count
-
-    pub entry_at_lem : {k j : ℕ} → k < n → j ≡ get_or incidents k 0 → Entry count k j
-    entry_at_lem {k} {j} l e = rw (e ∙ at) record { below = r.below; is_named = r.is_inside; rank_is = r.rank_is }
-      where
-        r : Ranked named count k
-        r = rank-taken named count k (omega (arith, many))
-
-        at : get_or incidents k 0 ≡ r.place
-        at =
-            sym (get_or-take n incidents k 0 l) ∙ ap (λ xs. get_or xs k 0) s.each ∙ ap (λ i. get_or (listing count) i 0) (sym r.rank_is)
-            ∙ picked_at named (λ i. i) 0 count r.place r.below r.is_inside
-
-    -- at the end of the list
-    pub passed-all : {P : ℕ → Type 0} {k : ℕ} → Passed named P k → k ≤ n → n ≤ k → P count
-    passed-all h a b = h.up_to count (omega (arith, many))

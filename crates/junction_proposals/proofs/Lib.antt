@@ -1,11 +1,10 @@
-pub mod Pairs
 pub mod Incidents
-pub mod Walk
+pub mod RegionPorts
 pub mod PortLaws
 pub mod Exteriors
 pub mod Near
 pub mod Literals
-pub mod Lists
+pub mod Placing
 pub mod FewPorts
 pub mod Shapes
 pub mod BridgeTests

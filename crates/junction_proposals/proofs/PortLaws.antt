@@ -20,6 +20,7 @@ use Rattle.laws.specs.ListLaws.ScansOfAll.{all_ext, all_and}
 use Rattle.laws.specs.ListLaws.ScanSteps.{count_same, all_intro, any-fails_at}
 use Rattle.context.specs.Shown.{ShownFullPairs, ShownIncidents}
 use Rattle.junction_proposals.specs.Ports.{names, is_fit, is_unfit, region_fits, walk_fits, is_port}
+use Rattle.context.specs.declared.pairs.Pair as declared
 
 -- ---- full pairs and incidents
 
@@ -47,14 +48,14 @@ module _ (C : Context) (j r : ℕ) where
 
 -- ---- the walk
 
-module _ (C : Context) (smaller larger counts : List ℕ) (pairs : ShownFullPairs C smaller larger) (incidents : ShownIncidents C counts) where
-  pub names_is : (r j : ℕ) → j < C.count → names smaller larger r j ≡ holds (full_pair C j) (contains r)
+module _ (C : Context) (full : List (Option declared.Pair)) (counts : List ℕ) (pairs : ShownFullPairs C full) (incidents : ShownIncidents C counts) where
+  pub names_is : (r j : ℕ) → j < C.count → names full r j ≡ holds (full_pair C j) (contains r)
   unfolding names
-  names_is r j l = ap (λ o. holds o (contains r)) (sym (pairs.at j l))
+  names_is r j l = ap (λ o. holds o (contains r)) (pairs.at j l)
 
-  fit_is : (p : Pair) (j : ℕ) → j < C.count → is_fit smaller larger p j ≡ holds (full_pair C j) (fits_union p)
+  fit_is : (p : Pair) (j : ℕ) → j < C.count → is_fit full p j ≡ holds (full_pair C j) (fits_union p)
   unfolding is_fit
-  fit_is p j l = ap (λ o. holds o (fits_union p)) (sym (pairs.at j l))
+  fit_is p j l = ap (λ o. holds o (fits_union p)) (pairs.at j l)
 
   module _ (i : ℕ) (p : Pair) where
     -- what the walk asks of an incident of r
@@ -62,7 +63,7 @@ module _ (C : Context) (smaller larger counts : List ℕ) (pairs : ShownFullPair
     passes r j = not (is_incident C j r) || (eqb j i || holds (full_pair C j) (fits_union p))
 
     abbrev fits : ℕ → Bool
-    fits r = region_fits smaller larger counts C.count i p r
+    fits r = region_fits full counts C.count i p r
 
     module _ (r : ℕ) (low : 1 ≤ r) (high : r ≤ C.regions) where
       counted : count_below C.count (λ j. is_incident C j r) ≡ get_or counts (r - 1) 0
@@ -70,19 +71,19 @@ module _ (C : Context) (smaller larger counts : List ℕ) (pairs : ShownFullPair
       counted = incidents.at r low high
 
       -- where the region fits, its incidents are the full pairs that name it
-      pub fits-names : fits r ≡ true → (j : ℕ) → j < C.count → is_incident C j r ≡ names smaller larger r j
+      pub fits-names : fits r ≡ true → (j : ℕ) → j < C.count → is_incident C j r ≡ names full r j
       unfolding region_fits
       fits-names h =
-          let tests = both (not (any_below_lem C.count (is_unfit smaller larger i p r))) (eqb (count_below C.count (names smaller larger r)) (get_or counts (r - 1) 0)) h in
-          count_same (names smaller larger r) (λ j. is_incident C j r) C.count (λ j l e. named_incident C j r (sym (names_is r j l) ∙ e))
-          (eqb-true (count_below C.count (names smaller larger r)) (get_or counts (r - 1) 0) tests.1 ∙ sym counted)
+          let tests = both (not (any_below_lem C.count (is_unfit full i p r))) (eqb (count_below C.count (names full r)) (get_or counts (r - 1) 0)) h in
+          count_same (names full r) (λ j. is_incident C j r) C.count (λ j l e. named_incident C j r (sym (names_is r j l) ∙ e))
+          (eqb-true (count_below C.count (names full r)) (get_or counts (r - 1) 0) tests.1 ∙ sym counted)
 
       fits-passes : fits r ≡ true → all_below C.count (passes r) ≡ true
       unfolding region_fits is_unfit
-      fits-passes h = all_intro (passes r) C.count (λ j l. at j l (names smaller larger r j) refl)
+      fits-passes h = all_intro (passes r) C.count (λ j l. at j l (names full r j) refl)
         where
-          none_unfit : any_below_lem C.count (is_unfit smaller larger i p r) ≡ false
-          none_unfit = negated (any_below_lem C.count (is_unfit smaller larger i p r)) (both (not (any_below_lem C.count (is_unfit smaller larger i p r))) (eqb (count_below C.count (names smaller larger r)) (get_or counts (r - 1) 0)) h).0
+          none_unfit : any_below_lem C.count (is_unfit full i p r) ≡ false
+          none_unfit = negated (any_below_lem C.count (is_unfit full i p r)) (both (not (any_below_lem C.count (is_unfit full i p r))) (eqb (count_below C.count (names full r)) (get_or counts (r - 1) 0)) h).0
             where
               negated : (b : Bool) → not b ≡ true → b ≡ false
               negated true e = absurd (false≢true e)
@@ -93,16 +94,16 @@ module _ (C : Context) (smaller larger counts : List ℕ) (pairs : ShownFullPair
           fit false true e = refl
           fit false false e = absurd (true≢false e)
 
-          at : (j : ℕ) → j < C.count → (n : Bool) → names smaller larger r j ≡ n → passes r j ≡ true
+          at : (j : ℕ) → j < C.count → (n : Bool) → names full r j ≡ n → passes r j ≡ true
           at j l true e =
               ap₂ (λ a b. not a || b) (fits-names h j l ∙ e)
               (fit (eqb j i) (holds (full_pair C j) (fits_union p))
-              (ap₂ (λ a b. a && (not (eqb j i) && not b)) (sym e) (sym (fit_is p j l)) ∙ any-fails_at (is_unfit smaller larger i p r) C.count none_unfit j l))
+              (ap₂ (λ a b. a && (not (eqb j i) && not b)) (sym e) (sym (fit_is p j l)) ∙ any-fails_at (is_unfit full i p r) C.count none_unfit j l))
           at j l false e = ap (λ a. not a || (eqb j i || holds (full_pair C j) (fits_union p))) (fits-names h j l ∙ e)
 
       module _ (own : full_pair C i ≡ Some p) (side : contains r p ≡ true) where
         -- where every incident passes, it is a full pair
-        passes-names : all_below C.count (passes r) ≡ true → (j : ℕ) → j < C.count → names smaller larger r j ≡ is_incident C j r
+        passes-names : all_below C.count (passes r) ≡ true → (j : ℕ) → j < C.count → names full r j ≡ is_incident C j r
         passes-names h j l = names_is r j l ∙ sym (go (is_incident C j r) refl (all_below_at C.count (passes r) h j l))
           where
             by_full : holds (full_pair C j) (fits_union p) ≡ true → is_incident C j r ≡ holds (full_pair C j) (contains r)
@@ -123,18 +124,18 @@ module _ (C : Context) (smaller larger counts : List ℕ) (pairs : ShownFullPair
         passes-fits : all_below C.count (passes r) ≡ true → fits r ≡ true
         unfolding region_fits is_unfit
         passes-fits h =
-            ap₂ (λ a b. not a && b) (below_none C.count (is_unfit smaller larger i p r) (λ j l. at j l (is_incident C j r) refl (all_below_at C.count (passes r) h j l)))
-            (eq-eqb (count_below C.count (names smaller larger r)) (get_or counts (r - 1) 0) (count_ext C.count (names smaller larger r) (λ j. is_incident C j r) (passes-names h) ∙ counted))
+            ap₂ (λ a b. not a && b) (below_none C.count (is_unfit full i p r) (λ j l. at j l (is_incident C j r) refl (all_below_at C.count (passes r) h j l)))
+            (eq-eqb (count_below C.count (names full r)) (get_or counts (r - 1) 0) (count_ext C.count (names full r) (λ j. is_incident C j r) (passes-names h) ∙ counted))
           where
             fit : (a b : Bool) → (a || b) ≡ true → (not a && not b) ≡ false
             fit true b e = refl
             fit false true e = refl
             fit false false e = absurd (false≢true e)
 
-            at : (j : ℕ) → j < C.count → (b : Bool) → is_incident C j r ≡ b → (not b || (eqb j i || holds (full_pair C j) (fits_union p))) ≡ true → is_unfit smaller larger i p r j ≡ false
+            at : (j : ℕ) → j < C.count → (b : Bool) → is_incident C j r ≡ b → (not b || (eqb j i || holds (full_pair C j) (fits_union p))) ≡ true → is_unfit full i p r j ≡ false
             at j l true d e =
                 ap₂ (λ a b. a && (not (eqb j i) && not b)) (passes-names h j l ∙ d) (fit_is p j l) ∙ fit (eqb j i) (holds (full_pair C j) (fits_union p)) e
-            at j l false d e = ap (λ a. a && (not (eqb j i) && not (is_fit smaller larger p j))) (passes-names h j l ∙ d)
+            at j l false d e = ap (λ a. a && (not (eqb j i) && not (is_fit full p j))) (passes-names h j l ∙ d)
 
         region_is : fits r ≡ all_below C.count (passes r)
         region_is = same_test fits-passes passes-fits
@@ -159,23 +160,23 @@ module _ (C : Context) (smaller larger counts : List ℕ) (pairs : ShownFullPair
             order false false true u = refl
             order false false false u = refl
 
-        pub walk_is : walk_fits smaller larger counts C.count i p ≡ ports_fit C i p
-        unfolding walk_fits ports_fit all_below
+        pub walk_is : walk_fits full counts C.count i p ≡ ports_fit C i p
+        unfolding walk_fits ports_fit
         walk_is =
             ap₂ ◌&&◌ (region_is p.lo low (omega arith) own (ap (λ b. b || eqb p.hi p.lo) (eq-eqb p.lo p.lo refl))) (region_is p.hi (omega arith) high own (ap (λ b. eqb p.lo p.hi || b) (eq-eqb p.hi p.hi refl) ∙ or-true (eqb p.lo p.hi)))
             ∙ all_and (passes p.lo) (passes p.hi) C.count
             ∙ all_ext (λ j. passes p.lo j && passes p.hi j) (λ j. not (is_union_port C i p j) || holds (full_pair C j) (fits_union p)) C.count (λ j l. asked j)
 
       -- where the walk goes through, the ports are full pairs that name a region of the union
-      pub port_is : walk_fits smaller larger counts C.count i p ≡ true → (j : ℕ) → j < C.count → is_union_port C i p j ≡ is_port smaller larger i p j
-      unfolding walk_fits all_below is_union_port is_port
+      pub port_is : walk_fits full counts C.count i p ≡ true → (j : ℕ) → j < C.count → is_union_port C i p j ≡ is_port full i p j
+      unfolding walk_fits is_union_port is_port
       port_is h j l =
           let tests = both (fits p.lo) (fits p.hi) h in
           ap₂ (λ a b. not (eqb j i) && (a || b)) (fits-names p.lo low (omega arith) tests.0 j l) (fits-names p.hi (omega arith) high tests.1 j l)
 
       -- and so for each of the two regions
-      pub region-ports : walk_fits smaller larger counts C.count i p ≡ true → (j : ℕ) → j < C.count → (is_incident C j p.lo ≡ names smaller larger p.lo j) × (is_incident C j p.hi ≡ names smaller larger p.hi j)
-      unfolding walk_fits all_below
+      pub region-ports : walk_fits full counts C.count i p ≡ true → (j : ℕ) → j < C.count → (is_incident C j p.lo ≡ names full p.lo j) × (is_incident C j p.hi ≡ names full p.hi j)
+      unfolding walk_fits
       region-ports h j l =
           let tests = both (fits p.lo) (fits p.hi) h in
           (fits-names p.lo low (omega arith) tests.0 j l, fits-names p.hi (omega arith) high tests.1 j l)

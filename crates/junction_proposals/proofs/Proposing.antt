@@ -2,28 +2,29 @@
 use Prim.Native.Nat.{ℕ, zero, suc, ◌≤◌, ◌<◌}
 use native.Mathlib.Omega.{arith}
 use mathlib.Core.Path.{◌≡◌, refl, sym, ap, ap₂, ◌∙◌}
-use mathlib.Core.Bool.{Bool, true, false, not}
-use Rattle.std.specs.Prelude.{Option, Some}
+use mathlib.Core.Bool.{Bool, true, false}
+use Rattle.std.specs.Prelude.{Option, None, Some, IfSome}
 use mathlib.Core.List.{List, ◌++◌}
-use lib.ListN.{get_or}
-use lib.Dec.{eqb, ltb}
-use borrow.Author.Tests.{ltb-true, ltb-false, eqb-false, ne_eqb, not-true}
-use Rattle.definitions.specs.Scan.{collect, filter, to_list, only_if}
+use lib.Dec.{ltb}
+use borrow.Author.Tests.{ltb-true, ltb-false}
+use Rattle.definitions.specs.Scan.{collect, filter, to_list}
 use Rattle.definitions.specs.Context.{Context, full_pair}
 use Rattle.definitions.specs.Junctions.{union_proposal, bridge_proposal, proposals}
 use Rattle.laws.specs.ListLaws.Lists.{All, done, more, all_append, all_split, filter-append}
 use Rattle.laws.specs.ListLaws.ScansOfAll.{collect-below}
-use Rattle.laws.specs.ListLaws.Options.{on_list}
-use Rattle.laws.specs.ListLaws.Tests.{both}
+use Rattle.laws.specs.ListLaws.Options.{on_list, on_only}
 use Rattle.laws.specs.RustJunctions.FormedProposals.{full-all}
 use Rattle.junction_proposals.specs.Lent.{LentPairs, Lent, Shows}
-use Rattle.junction_proposals.specs.Unions.{is_union_at, shape_at}
+use Rattle.definitions.specs.Grid.{Pair}
+use Rattle.junction_proposals.specs.Ports.{pair_of}
+use Rattle.junction_proposals.specs.Unions.{shape_at}
 use Rattle.junction_proposals.specs.Bridges.{is_bridge_at}
-use Rattle.junction_proposals.specs.Rows.{row_at, rows_of, union_at, is_allowed, RowFits}
+use Rattle.junction_proposals.specs.Rows.{row_at, rows_of, union_of, union_at, is_allowed, RowFits}
 use Rattle.junction_proposals.specs.declared.proposals.Candidate.{Candidate}
 use Rattle.junction_proposals.proofs.UnionRows.{of_some, union-row}
 use Rattle.junction_proposals.proofs.BridgeRows.{bridge-row}
 use Rattle.junction_proposals.proofs.BridgeIndex.{bridge_fits_lem}
+use Rattle.context.specs.declared.pairs.Pair as declared
 
 -- ---- what is collected
 
@@ -50,7 +51,7 @@ collected_at {A} {P} g (suc n) a k l = go (all_split (collect n (λ k. Some (g k
 -- ---- the rows
 
 -- the lists, at the context's own counts
-pub shows-own : {boundaries smaller larger counts marks : List ℕ} {count regions : ℕ} {C : Context} → Shows boundaries smaller larger counts marks count regions C → Shows boundaries smaller larger counts marks C.count C.regions C
+pub shows-own : {boundaries : List ℕ} {full : List (Option declared.Pair)} {counts marks : List ℕ} {count regions : ℕ} {C : Context} → Shows boundaries full counts marks count regions C → Shows boundaries full counts marks C.count C.regions C
 shows-own s =
     record {
       counted = refl;
@@ -64,38 +65,34 @@ shows-own s =
       pixels = s.pixels;
     }
 
-module _ (boundaries smaller larger counts marks : List ℕ) (rows : List Candidate) (count regions n : ℕ) (are : rows_of rows n ≡ collect count (union_at boundaries smaller larger counts marks count) ++ collect regions (λ k. is_bridge_at boundaries smaller larger marks (suc k) counts count)) where
-  pub rows-proposed : (C : Context) → Shows boundaries smaller larger counts marks count regions C → filter (is_allowed C) (rows_of rows n) ≡ proposals C
+module _ (boundaries : List ℕ) (full : List (Option declared.Pair)) (counts marks : List ℕ) (rows : List Candidate) (count regions n : ℕ) (are : rows_of rows n ≡ collect count (union_at boundaries full counts marks count) ++ collect regions (λ k. is_bridge_at boundaries full marks (suc k) counts count)) where
+  pub rows-proposed : (C : Context) → Shows boundaries full counts marks count regions C → filter (is_allowed C) (rows_of rows n) ≡ proposals C
   unfolding proposals
   rows-proposed C s =
-      ap (filter (is_allowed C)) (are ∙ (λ t. collect (sym s.counted t) (union_at boundaries smaller larger counts marks (sym s.counted t)) ++ collect (sym s.labelled t) (λ k. is_bridge_at boundaries smaller larger marks (suc k) counts (sym s.counted t))))
-      ∙ filter-append (is_allowed C) (collect C.count (union_at boundaries smaller larger counts marks C.count)) (collect C.regions (λ k. is_bridge_at boundaries smaller larger marks (suc k) counts C.count))
-      ∙ ap₂ ◌++◌ (collect-filter (is_allowed C) C.count _ (union_proposal C) (union-row boundaries smaller larger counts marks C (shows-own s)))
-      (collect-filter (is_allowed C) C.regions _ (λ k. bridge_proposal C (suc k)) (λ k l. bridge-row boundaries smaller larger counts marks C (shows-own s) (suc k) (omega arith) (omega arith)))
+      ap (filter (is_allowed C)) (are ∙ (λ t. collect (sym s.counted t) (union_at boundaries full counts marks (sym s.counted t)) ++ collect (sym s.labelled t) (λ k. is_bridge_at boundaries full marks (suc k) counts (sym s.counted t))))
+      ∙ filter-append (is_allowed C) (collect C.count (union_at boundaries full counts marks C.count)) (collect C.regions (λ k. is_bridge_at boundaries full marks (suc k) counts C.count))
+      ∙ ap₂ ◌++◌ (collect-filter (is_allowed C) C.count _ (union_proposal C) (union-row boundaries full counts marks C (shows-own s)))
+      (collect-filter (is_allowed C) C.regions _ (λ k. bridge_proposal C (suc k)) (λ k l. bridge-row boundaries full counts marks C (shows-own s) (suc k) (omega arith) (omega arith)))
 
-  union-fits : LentPairs smaller larger count regions → (i : ℕ) → i < count → All (RowFits count regions) (to_list (union_at boundaries smaller larger counts marks count i))
-  unfolding is_union_at
-  union-fits pairs i l = go (is_union_at boundaries smaller larger counts marks count i) refl
+  union-fits : LentPairs full count regions → (i : ℕ) → i < count → All (RowFits count regions) (to_list (union_at boundaries full counts marks count i))
+  unfolding union_at
+  union-fits pairs i l = go (pair_of full i) (pairs.named i l)
     where
-      go : (b : Bool) → is_union_at boundaries smaller larger counts marks count i ≡ b → All (RowFits count regions) (to_list (only_if b (record { index = i; kind = 0; first = get_or smaller i 0; second = get_or larger i 0 })))
-      go false e = done
-      go true e =
-          let full = eqb-false (get_or smaller i 0) 0 (not-true (eqb (get_or smaller i 0) 0) (both (not (eqb (get_or smaller i 0) 0)) (shape_at boundaries smaller larger count i (record { lo = get_or smaller i 0; hi = get_or larger i 0 }) counts marks) e).0) in
-          let low : 1 ≤ get_or smaller i 0 = omega (arith, full) in
-          let named = pairs.named i l low in
-          more {x = record { index = i; kind = 0; first = get_or smaller i 0; second = get_or larger i 0 }} (record { index_in = l; kind_in_lem = omega arith; first_from = low; first_to = omega (arith, named); second_from = omega (arith, named); second_to = named.1 }) done
+      go : (o : Option Pair) → IfSome o (λ p. (1 ≤ p.lo) × ((p.lo < p.hi) × (p.hi ≤ regions))) → All (RowFits count regions) (to_list (union_of boundaries full counts marks count i o))
+      go None h = done
+      go (Some p) h = on_list (on_only (shape_at boundaries full count i p counts marks) (record { index = i; kind = 0; first = p.lo; second = p.hi }) (record { index_in = l; kind_in_lem = omega arith; first_from = h.0; first_to = omega (arith, h); second_from = omega (arith, h); second_to = h.1.1 }))
 
-  pub rows_fit : LentPairs smaller larger count regions → (k : ℕ) → k < n → RowFits count regions (row_at rows k)
+  pub rows_fit : LentPairs full count regions → (k : ℕ) → k < n → RowFits count regions (row_at rows k)
   unfolding rows_of
   rows_fit pairs =
       collected_at {P = RowFits count regions} (row_at rows) n
-      (rw are (all_append (collect-below (RowFits count regions) (union_at boundaries smaller larger counts marks count) count (union-fits pairs))
-      (collect-below (RowFits count regions) (λ k. is_bridge_at boundaries smaller larger marks (suc k) counts count) regions (λ k l. on_list (bridge_fits_lem boundaries smaller larger marks (suc k) count regions pairs (omega arith) (omega arith) counts)))))
+      (rw are (all_append (collect-below (RowFits count regions) (union_at boundaries full counts marks count) count (union-fits pairs))
+      (collect-below (RowFits count regions) (λ k. is_bridge_at boundaries full marks (suc k) counts count) regions (λ k l. on_list (bridge_fits_lem boundaries full marks (suc k) count regions pairs (omega arith) (omega arith) counts)))))
 
 -- ---- what a caller has to show of the lists, from that they show a context
 
-pub shows-lent : {boundaries smaller larger counts marks : List ℕ} {count regions : ℕ} {C : Context} → Shows boundaries smaller larger counts marks count regions C → Lent boundaries smaller larger counts marks count regions
-shows-lent {boundaries} {smaller} {larger} {count} {regions} {C} S =
+pub shows-lent : {boundaries : List ℕ} {full : List (Option declared.Pair)} {counts marks : List ℕ} {count regions : ℕ} {C : Context} → Shows boundaries full counts marks count regions C → Lent boundaries full counts marks count regions
+shows-lent {boundaries} {full} {count} {regions} {C} S =
     record {
       bounds =
           record {
@@ -104,7 +101,7 @@ shows-lent {boundaries} {smaller} {larger} {count} {regions} {C} S =
             pixels = λ i l. rw (ap (λ b. b.endpoints) (S.bounds.at i (within i l))) at (S.pixels.ends i);
             finite = λ i l. omega (arith, ap (λ b. b.width_bits) (S.bounds.at i (within i l)), S.sound.finite i (within i l));
           };
-      pairs = record { named = λ i l h. named i (within i l) h };
+      pairs = record { named = λ i l. named i (within i l) (pair_of full i) refl };
       counts_long = omega (arith, S.incidents.long, S.labelled);
       marks_long = omega (arith, S.anchored.long, S.labelled);
       labels = S.labels;
@@ -113,9 +110,10 @@ shows-lent {boundaries} {smaller} {larger} {count} {regions} {C} S =
     within : (i : ℕ) → i < count → i < C.count
     within i l = omega (arith, S.counted)
 
-    named : (i : ℕ) → i < C.count → 1 ≤ get_or smaller i 0 → (get_or smaller i 0 < get_or larger i 0) × (get_or larger i 0 ≤ regions)
-    named i l h =
-        let own : full_pair C i ≡ Some (record { lo = get_or smaller i 0; hi = get_or larger i 0 }) = S.pairs.at i l ∙ ap (λ t. only_if (not t) (record { lo = get_or smaller i 0; hi = get_or larger i 0 })) (ne_eqb (get_or smaller i 0) 0 (λ e. omega arith)) in
+    named : (i : ℕ) → i < C.count → (o : Option Pair) → pair_of full i ≡ o → IfSome o (λ p. (1 ≤ p.lo) × ((p.lo < p.hi) × (p.hi ≤ regions)))
+    named i l None e = tt
+    named i l (Some p) e =
+        let own : full_pair C i ≡ Some p = sym (S.pairs.at i l) ∙ e in
         let ordered = of_some (full-all C (λ q. q.lo < q.hi) i (S.sound.ordered i)) own in
         let labelled = of_some (full-all C (λ q. (1 ≤ q.lo) × (q.hi ≤ C.regions)) i (S.sound.labelled i)) own in
-        (ordered, omega (arith, labelled.1, S.labelled))
+        (labelled.0, (ordered, omega (arith, labelled.1, S.labelled)))

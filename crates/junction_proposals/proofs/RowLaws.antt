@@ -1,13 +1,12 @@
 -- Rows of proposals, put one behind the other. Assumes nothing.
 use Prim.Native.Nat.{ℕ, ◌+◌, ◌≤◌, ◌<◌}
 use native.Mathlib.Omega.{arith}
-use mathlib.Core.Path.{◌≡◌, refl, sym, ap, ap₂, ◌∙◌}
-use mathlib.Core.Bool.{Bool, true, false}
+use mathlib.Core.Path.{◌≡◌, refl, ap, ap₂, ◌∙◌}
 use Rattle.std.specs.Prelude.{Option, None, Some}
-use mathlib.Core.List.{List, [], ◌∷◌, ◌++◌, append-nil}
+use mathlib.Core.List.{List, [], ◌∷◌, ◌++◌}
 use lib.ListN.{length, set}
 use lib.Seq.{get_or-set_same, get_or-set_other}
-use Rattle.definitions.specs.Scan.{collect, to_list, only_if}
+use Rattle.definitions.specs.Scan.{collect, to_list}
 use Rattle.definitions.specs.Junctions.{Proposal}
 use Rattle.laws.specs.ListLaws.Scans.{collect_ext}
 use Rattle.laws.specs.ListLaws.ScanSteps.{collect_next}
@@ -27,26 +26,7 @@ rows-put l n c room =
     (collect_ext n (λ k. Some (row_at (set l n c) k)) (λ k. Some (row_at l k)) (λ k h. ap (λ r. Some (form r)) (get_or-set_other l n k c nothing (λ e. omega arith))))
     (ap form (get_or-set_same l n c nothing room))
 
--- a row that is put in where a test holds: b is what the test returned
-pub row-added : (l : List Proposal) {m : List Proposal} {a b : Bool} (p : Proposal) → m ≡ l ++ (p ∷ []) → b ≡ a → b ≡ true → m ≡ l ++ to_list (only_if a p)
-row-added l p h e t = h ∙ ap (λ x. l ++ to_list (only_if x p)) (sym (sym e ∙ t))
-
-pub row-left : (l : List Proposal) {a b : Bool} (p : Proposal) → b ≡ a → b ≡ false → l ≡ l ++ to_list (only_if a p)
-row-left l p e t = sym (append-nil l) ∙ ap (λ x. l ++ to_list (only_if x p)) (sym (sym e ∙ t))
-
--- the same of a proposal that there may be
-pub proposal-added : (l : List Proposal) {m : List Proposal} (p : Proposal) {o : Option Proposal} → m ≡ l ++ (p ∷ []) → Some p ≡ o → m ≡ l ++ to_list o
-proposal-added l p h e = h ∙ ap (λ x. l ++ to_list x) e
-
-pub proposal-left : (l : List Proposal) {o : Option Proposal} → None ≡ o → l ≡ l ++ to_list o
-proposal-left l e = sym (append-nil l) ∙ ap (λ x. l ++ to_list x) e
-
--- room for it
-pub one_more : {p : Proposal} {o : Option Proposal} (n m : ℕ) → Some p ≡ o → n + length (to_list o) ≤ m → n < m
-one_more n m e h = omega (arith, h, ap (λ x. length (to_list x)) e)
-
-pub one_longer : {p : Proposal} {o : Option Proposal} (n : ℕ) → Some p ≡ o → n + 1 ≡ n + length (to_list o)
-one_longer n e = ap (λ x. n + length (to_list x)) e
-
-pub no_longer : {o : Option Proposal} (n : ℕ) → None ≡ o → n ≡ n + length (to_list o)
-no_longer n e = omega (arith, ap (λ x. length (to_list x)) e)
+-- one at most is put in
+pub at_most_one : (o : Option Proposal) → length (to_list o) ≤ 1
+at_most_one None = omega arith
+at_most_one (Some p) = omega arith

@@ -3,15 +3,14 @@
 use Prim.Native.Nat.{ℕ, ◌+◌, ◌≤◌, ◌<◌}
 use native.Mathlib.Omega.{arith}
 use mathlib.Core.Path.{◌≡◌, refl, sym, ap, ap₂, ◌∙◌}
-use mathlib.Core.Bool.{Bool, true, false, not, ◌&&◌, ◌||◌, and-true, false≢true}
-use Rattle.std.specs.Prelude.{Some}
+use mathlib.Core.Bool.{Bool, true, false, not, ◌&&◌, ◌||◌, and-true}
+use Rattle.std.specs.Prelude.{Option, None, Some}
 use mathlib.Core.List.{List}
-use lib.ListN.{get_or}
 use lib.Dec.{eqb, ltb, leb}
 use lib.Ieee.{le}
-use borrow.Author.Tests.{ne_eqb, leb-true, le-leb}
-use Rattle.definitions.specs.Scan.{any_below_lem, all_below, count_below, bit, only_if}
-use Rattle.definitions.specs.Grid.{Pair, contains}
+use borrow.Author.Tests.{leb-true, le-leb}
+use Rattle.definitions.specs.Scan.{any_below_lem, all_below, count_below, bit}
+use Rattle.definitions.specs.Grid.{Pair}
 use Rattle.definitions.specs.Geometry.{center}
 use Rattle.definitions.specs.Context.{Context, full_pair, holds, no_ramp, width}
 use Rattle.definitions.specs.Junctions.{exterior_of, within_distance, max_port_distance_pixels, is_union_port, is_new_exterior, anchored_regions, is_near_port, ports_fit, is_widest, union_shape}
@@ -20,26 +19,23 @@ use Rattle.laws.specs.ListLaws.ScansOfAll.{all_ext, all_and}
 use Rattle.laws.specs.ListLaws.ScanSteps.{count_mono}
 use Rattle.laws.specs.ListLaws.Tests.{both}
 use Rattle.laws.specs.FloatLaws.KeysAsBits.{le_of_bits}
-use Rattle.context.specs.Shown.{optional_pair}
 use Rattle.junction_proposals.specs.Lent.{Shows}
-use Rattle.junction_proposals.specs.Ports.{pair_of, names, is_port, walk_fits}
-use Rattle.junction_proposals.specs.Unions.{exterior_at, leads_to, leads_anew, width_at, no_ramp_at, is_near, mark_at, marks_of, passes_at, ports_pass, shape_at}
+use Rattle.junction_proposals.specs.Ports.{pair_of, is_port, walk_fits}
+use Rattle.junction_proposals.specs.Unions.{leads_to, leads_anew, width_at, no_ramp_at, is_near, mark_at, marks_of, passes_at, ports_pass, shape_at}
 use Rattle.junction_proposals.proofs.PortLaws.{walk_is, port_is}
+use Rattle.context.specs.declared.pairs.Pair as declared
 
--- a pair that is there
-optional_some : (a b : ℕ) → (a ≡ 0 → ⊥) → optional_pair a b ≡ Some (record { lo = a; hi = b })
-optional_some a b n = ap (λ t. only_if (not t) (record { lo = a; hi = b })) (ne_eqb a 0 n)
+-- what is asked of a pair that there may be
+holds_ext : (o : Option Pair) (f g : Pair → Bool) → ((q : Pair) → f q ≡ g q) → holds o f ≡ holds o g
+holds_ext None f g e = refl
+holds_ext (Some q) f g e = e q
 
 -- a new exterior is one of a port
 new-port : (C : Context) (i : ℕ) (p : Pair) (j : ℕ) → is_new_exterior C i p j ≡ true → is_union_port C i p j ≡ true
 unfolding is_new_exterior
 new-port C i p j e = (both (is_union_port C i p j) _ e).0
 
-module _ (boundaries smaller larger counts marks : List ℕ) (C : Context) (S : Shows boundaries smaller larger counts marks C.count C.regions C) where
-  -- a test of the full pair of j that holds says that there is one
-  pub pair_is : (f : Pair → Bool) (j : ℕ) → j < C.count → holds (pair_of smaller larger j) f ≡ true → full_pair C j ≡ Some (record { lo = get_or smaller j 0; hi = get_or larger j 0 })
-  pair_is f j l h = S.pairs.at j l ∙ optional_some (get_or smaller j 0) (get_or larger j 0) (λ e. false≢true (sym (ap (λ a. holds (only_if (not (eqb a 0)) (record { lo = get_or smaller j 0; hi = get_or larger j 0 })) f) e) ∙ h))
-
+module _ (boundaries : List ℕ) (full : List (Option declared.Pair)) (counts marks : List ℕ) (C : Context) (S : Shows boundaries full counts marks C.count C.regions C) where
   pub no_ramp_is : (i : ℕ) → i < C.count → no_ramp C i ≡ no_ramp_at boundaries i
   no_ramp_is i l = ap (λ b. eqb b.kind 0) (S.bounds.at i l)
 
@@ -54,64 +50,47 @@ module _ (boundaries smaller larger counts marks : List ℕ) (C : Context) (S : 
   pub anchored_is : (r : ℕ) → 1 ≤ r → r ≤ C.regions → C.anchored r ≡ mark_at marks r
   anchored_is = S.anchored.at
 
-  module _ (i : ℕ) (below : i < C.count) where
-    abbrev p : Pair
-    p = record { lo = get_or smaller i 0; hi = get_or larger i 0 }
-
+  module _ (i : ℕ) (below : i < C.count) (p : Pair) where
     module _ (own : full_pair C i ≡ Some p) (low : 1 ≤ p.lo) (ordered : p.lo < p.hi) (high : p.hi ≤ C.regions) where
-      walk : walk_fits smaller larger counts C.count i p ≡ ports_fit C i p
-      walk = walk_is C smaller larger counts S.pairs S.incidents i p low high ordered own
+      walk : walk_fits full counts C.count i p ≡ ports_fit C i p
+      walk = walk_is C full counts S.pairs S.incidents i p low high ordered own
 
       anchors : anchored_regions C p ≡ marks_of marks p
       anchors = ap₂ (λ a b. bit a + bit b) (anchored_is p.lo low (omega arith)) (anchored_is p.hi (omega arith) high)
 
-      module _ (fits : walk_fits smaller larger counts C.count i p ≡ true) where
-        port : (j : ℕ) → j < C.count → is_union_port C i p j ≡ is_port smaller larger i p j
-        port = port_is C smaller larger counts S.pairs S.incidents i p low high ordered fits
+      module _ (fits : walk_fits full counts C.count i p ≡ true) where
+        port : (j : ℕ) → j < C.count → is_union_port C i p j ≡ is_port full i p j
+        port = port_is C full counts S.pairs S.incidents i p low high ordered fits
 
-        port-pair : (j : ℕ) → j < C.count → is_port smaller larger i p j ≡ true → full_pair C j ≡ Some (record { lo = get_or smaller j 0; hi = get_or larger j 0 })
-        unfolding is_port names
-        port-pair j l h = go (names smaller larger p.lo j) refl (both (not (eqb j i)) (names smaller larger p.lo j || names smaller larger p.hi j) h).1
-          where
-            go : (b : Bool) → names smaller larger p.lo j ≡ b → (b || names smaller larger p.hi j) ≡ true → full_pair C j ≡ Some (record { lo = get_or smaller j 0; hi = get_or larger j 0 })
-            go true e k = pair_is (contains p.lo) j l e
-            go false e k = pair_is (contains p.hi) j l k
-
-        leads : (e k : ℕ) → k < C.count → (is_union_port C i p k && holds (full_pair C k) (λ o. eqb (exterior_of p o) e)) ≡ leads_to smaller larger i p e k
+        leads : (e k : ℕ) → k < C.count → (is_union_port C i p k && holds (full_pair C k) (λ o. eqb (exterior_of p o) e)) ≡ leads_to full i p e k
         unfolding leads_to
-        leads e k l = ap (λ b. b && holds (full_pair C k) (λ o. eqb (exterior_of p o) e)) (port k l) ∙ go (is_port smaller larger i p k) refl
-          where
-            go : (b : Bool) → is_port smaller larger i p k ≡ b → (b && holds (full_pair C k) (λ o. eqb (exterior_of p o) e)) ≡ (b && eqb (exterior_at smaller larger i p k) e)
-            go true h = ap (λ o. holds o (λ o. eqb (exterior_of p o) e)) (port-pair k l h)
-            go false h = refl
+        leads e k l = ap₂ (λ b o. b && holds o (λ o. eqb (exterior_of p o) e)) (port k l) (sym (S.pairs.at k l))
 
-        anew : (j : ℕ) → j < C.count → is_new_exterior C i p j ≡ leads_anew smaller larger i p j
+        anew : (j : ℕ) → j < C.count → is_new_exterior C i p j ≡ leads_anew full i p j
         unfolding is_new_exterior leads_anew
-        anew j l = ap (λ b. b && holds (full_pair C j) first) (port j l) ∙ go (is_port smaller larger i p j) refl
+        anew j l =
+            ap₂ (λ b o. b && holds o first) (port j l) (sym (S.pairs.at j l))
+            ∙ ap (λ b. is_port full i p j && b) (holds_ext (pair_of full j) first _ (λ q. ap not (below_ext j _ _ (λ k m. leads (exterior_of p q) k (omega arith)))))
           where
             first : Pair → Bool
             first = λ q. not (any_below_lem j (λ k. is_union_port C i p k && holds (full_pair C k) (λ o. eqb (exterior_of p o) (exterior_of p q))))
 
-            go : (b : Bool) → is_port smaller larger i p j ≡ b → (b && holds (full_pair C j) first) ≡ (b && not (any_below_lem j (leads_to smaller larger i p (exterior_at smaller larger i p j))))
-            go true h = ap (λ o. holds o first) (port-pair j l h) ∙ ap not (below_ext j _ _ (λ k m. leads (exterior_at smaller larger i p j) k (omega arith)))
-            go false h = refl
-
-        new-count : count_below C.count (is_new_exterior C i p) ≡ count_below C.count (leads_anew smaller larger i p)
+        new-count : count_below C.count (is_new_exterior C i p) ≡ count_below C.count (leads_anew full i p)
         new-count = count_ext C.count _ _ anew
 
         -- as many ports as exteriors, or more
-        many-ports : leb 3 (count_below C.count (leads_anew smaller larger i p)) ≡ true → leb 3 (count_below C.count (is_union_port C i p)) ≡ true
+        many-ports : leb 3 (count_below C.count (leads_anew full i p)) ≡ true → leb 3 (count_below C.count (is_union_port C i p)) ≡ true
         many-ports h =
             le-leb 3 (count_below C.count (is_union_port C i p))
-            (omega (arith, leb-true 3 (count_below C.count (leads_anew smaller larger i p)) h, new-count, count_mono (is_new_exterior C i p) (is_union_port C i p) C.count is_port_lem))
+            (omega (arith, leb-true 3 (count_below C.count (leads_anew full i p)) h, new-count, count_mono (is_new_exterior C i p) (is_union_port C i p) C.count is_port_lem))
           where
             is_port_lem : (j : ℕ) → j < C.count → is_new_exterior C i p j ≡ true → is_union_port C i p j ≡ true
             is_port_lem j l e = new-port C i p j e
 
-        passes : (one : Bool) → ports_pass boundaries smaller larger C.count i p one ≡ (all_below C.count (λ j. not (is_union_port C i p j) || is_near_port C i j) && (not one || is_widest C i p))
+        passes : (one : Bool) → ports_pass boundaries full C.count i p one ≡ (all_below C.count (λ j. not (is_union_port C i p j) || is_near_port C i j) && (not one || is_widest C i p))
         unfolding ports_pass passes_at is_widest
         passes true =
-            all_ext (λ j. not (is_port smaller larger i p j) || (leb (width_at boundaries j) (width_at boundaries i)) && is_near boundaries i j) (λ j. (not (is_union_port C i p j) || is_near_port C i j) && (not (is_union_port C i p j) || le (width C j) (width C i))) C.count
+            all_ext (λ j. not (is_port full i p j) || (leb (width_at boundaries j) (width_at boundaries i)) && is_near boundaries i j) (λ j. (not (is_union_port C i p j) || is_near_port C i j) && (not (is_union_port C i p j) || le (width C j) (width C i))) C.count
             (λ j l. (λ t. not (sym (port j l) t) || sym (wide_is i j below l) t && sym (near_is i j below l) t) ∙ split (is_union_port C i p j) (le (width C j) (width C i)) (is_near_port C i j))
             ∙ sym (all_and (λ j. not (is_union_port C i p j) || is_near_port C i j) (λ j. not (is_union_port C i p j) || le (width C j) (width C i)) C.count)
           where
@@ -122,14 +101,14 @@ module _ (boundaries smaller larger counts marks : List ℕ) (C : Context) (S : 
             split true false false = refl
             split false w n = refl
         passes false =
-            all_ext (λ j. not (is_port smaller larger i p j) || is_near boundaries i j) (λ j. not (is_union_port C i p j) || is_near_port C i j) C.count (λ j l. λ t. not (sym (port j l) t) || sym (near_is i j below l) t)
+            all_ext (λ j. not (is_port full i p j) || is_near boundaries i j) (λ j. not (is_union_port C i p j) || is_near_port C i j) C.count (λ j l. λ t. not (sym (port j l) t) || sym (near_is i j below l) t)
             ∙ sym (and-true (all_below C.count (λ j. not (is_union_port C i p j) || is_near_port C i j)))
 
-      pub shape_is : shape_at boundaries smaller larger C.count i p counts marks ≡ union_shape C i p
+      pub shape_is : shape_at boundaries full C.count i p counts marks ≡ union_shape C i p
       unfolding shape_at union_shape
       shape_is =
-          (λ t. sym (no_ramp_is i below) t && ltb (sym anchors t) 2 && walk_fits smaller larger counts C.count i p && leb 3 (count_below C.count (leads_anew smaller larger i p)) && ports_pass boundaries smaller larger C.count i p (eqb (sym anchors t) 1))
-          ∙ go (walk_fits smaller larger counts C.count i p) refl
+          (λ t. sym (no_ramp_is i below) t && ltb (sym anchors t) 2 && walk_fits full counts C.count i p && leb 3 (count_below C.count (leads_anew full i p)) && ports_pass boundaries full C.count i p (eqb (sym anchors t) 1))
+          ∙ go (walk_fits full counts C.count i p) refl
         where
           -- without three exteriors, and with them: x ports are enough where there are y exteriors
           counted : (a b x y n w : Bool) → (y ≡ true → x ≡ true) → (a && b && true && y && (n && w)) ≡ (a && b && true && x && n && y && w)
@@ -146,11 +125,11 @@ module _ (boundaries smaller larger counts marks : List ℕ) (C : Context) (S : 
           stopped true false y q x n z w = refl
           stopped false b y q x n z w = refl
 
-          go : (b : Bool) → walk_fits smaller larger counts C.count i p ≡ b → (no_ramp C i && ltb (anchored_regions C p) 2 && b && leb 3 (count_below C.count (leads_anew smaller larger i p)) && ports_pass boundaries smaller larger C.count i p (eqb (anchored_regions C p) 1)) ≡ union_shape C i p
+          go : (b : Bool) → walk_fits full counts C.count i p ≡ b → (no_ramp C i && ltb (anchored_regions C p) 2 && b && leb 3 (count_below C.count (leads_anew full i p)) && ports_pass boundaries full C.count i p (eqb (anchored_regions C p) 1)) ≡ union_shape C i p
           go true e =
-              (λ t. no_ramp C i && ltb (anchored_regions C p) 2 && true && leb 3 (count_below C.count (leads_anew smaller larger i p)) && passes e (eqb (anchored_regions C p) 1) t)
-              ∙ counted (no_ramp C i) (ltb (anchored_regions C p) 2) (leb 3 (count_below C.count (is_union_port C i p))) (leb 3 (count_below C.count (leads_anew smaller larger i p))) (all_below C.count (λ j. not (is_union_port C i p j) || is_near_port C i j)) (not (eqb (anchored_regions C p) 1) || is_widest C i p) (many-ports e)
+              (λ t. no_ramp C i && ltb (anchored_regions C p) 2 && true && leb 3 (count_below C.count (leads_anew full i p)) && passes e (eqb (anchored_regions C p) 1) t)
+              ∙ counted (no_ramp C i) (ltb (anchored_regions C p) 2) (leb 3 (count_below C.count (is_union_port C i p))) (leb 3 (count_below C.count (leads_anew full i p))) (all_below C.count (λ j. not (is_union_port C i p j) || is_near_port C i j)) (not (eqb (anchored_regions C p) 1) || is_widest C i p) (many-ports e)
               ∙ (λ t. no_ramp C i && ltb (anchored_regions C p) 2 && (sym e ∙ walk) t && leb 3 (count_below C.count (is_union_port C i p)) && all_below C.count (λ j. not (is_union_port C i p j) || is_near_port C i j) && leb 3 (sym (new-count e) t) && (not (eqb (anchored_regions C p) 1) || is_widest C i p))
           go false e =
-              stopped (no_ramp C i) (ltb (anchored_regions C p) 2) (leb 3 (count_below C.count (leads_anew smaller larger i p))) (ports_pass boundaries smaller larger C.count i p (eqb (anchored_regions C p) 1)) (leb 3 (count_below C.count (is_union_port C i p))) (all_below C.count (λ j. not (is_union_port C i p j) || is_near_port C i j)) (leb 3 (count_below C.count (is_new_exterior C i p))) (not (eqb (anchored_regions C p) 1) || is_widest C i p)
+              stopped (no_ramp C i) (ltb (anchored_regions C p) 2) (leb 3 (count_below C.count (leads_anew full i p))) (ports_pass boundaries full C.count i p (eqb (anchored_regions C p) 1)) (leb 3 (count_below C.count (is_union_port C i p))) (all_below C.count (λ j. not (is_union_port C i p j) || is_near_port C i j)) (leb 3 (count_below C.count (is_new_exterior C i p))) (not (eqb (anchored_regions C p) 1) || is_widest C i p)
               ∙ (λ t. no_ramp C i && ltb (anchored_regions C p) 2 && (sym e ∙ walk) t && leb 3 (count_below C.count (is_union_port C i p)) && all_below C.count (λ j. not (is_union_port C i p j) || is_near_port C i j) && leb 3 (count_below C.count (is_new_exterior C i p)) && (not (eqb (anchored_regions C p) 1) || is_widest C i p))

@@ -6,10 +6,11 @@ use Rattle.std.proofs.Math.Dec.{eqb}
 use Rattle.std.specs.Float.{binary64}
 use Rattle.std.specs.Float.Ieee.{le, mul, of_bits}
 use Rattle.definitions.specs.Scan.{collect, only_if}
+use Rattle.definitions.specs.Grid.{Pair}
 use Rattle.definitions.specs.Geometry.{float}
-use Rattle.definitions.specs.Context.{other_region}
-use Rattle.definitions.specs.Junctions.{Proposal}
-use Rattle.junction_proposals.specs.Ports.{names}
+use Rattle.definitions.specs.Junctions.{Proposal, beyond}
+use Rattle.context.specs.declared.pairs.Pair as declared
+use Rattle.junction_proposals.specs.Ports.{pair_of, names}
 use Rattle.junction_proposals.specs.Unions.{width_at, no_ramp_at, is_near, mark_at}
 use Rattle.junction_proposals.specs.declared.bridges.Bridge.{Bridge}
 
@@ -19,18 +20,19 @@ bridge_form r None = None
 bridge_form r (Some b) = Some (record { index = b.index; kind = 1; first = r; second = b.exterior })
 
 -- boundary j is a full pair
-pub record PortAt (smaller : List ℕ) (count j : ℕ) : Type 0 where
+pub record PortAt (full : List (Option declared.Pair)) (count j : ℕ) : Type 0 where
   pub below : j < count
-  pub full : 1 ≤ get_or smaller j 0
+  pub pair : Pair
+  pub is : pair_of full j ≡ Some pair
 
 -- i is twice as wide as k, or wider
 unfoldable pub is_twice_at : List ℕ → ℕ → ℕ → Bool
 is_twice_at boundaries i k = le (mul binary64 (float 2) (of_bits binary64 (width_at boundaries k))) (of_bits binary64 (width_at boundaries i))
 
-module _ (smaller larger : List ℕ) (r : ℕ) where
+module _ (full : List (Option declared.Pair)) (r : ℕ) where
   -- the region beyond port j
   abbrev pub beyond_at : ℕ → ℕ
-  beyond_at j = other_region r (record { lo = get_or smaller j 0; hi = get_or larger j 0 })
+  beyond_at j = beyond r (pair_of full j)
 
   -- i and k lead to one region, t to another, which is anchored
   unfoldable pub is_shared_at : List ℕ → ℕ → ℕ → ℕ → Bool
@@ -50,14 +52,14 @@ module _ (smaller larger : List ℕ) (r : ℕ) where
   -- a full pair without ramp that names the pocket
   unfoldable pub is_pocket_port : List ℕ → ℕ → Bool
   unfolding names
-  is_pocket_port boundaries j = names smaller larger r j && no_ramp_at boundaries j
+  is_pocket_port boundaries j = names full r j && no_ramp_at boundaries j
 
-module _ (boundaries smaller larger marks : List ℕ) (r : ℕ) where
+module _ (boundaries : List ℕ) (full : List (Option declared.Pair)) (marks : List ℕ) (r : ℕ) where
   unfoldable pub bridge_of_three : ℕ → ℕ → ℕ → Option Proposal
   unfolding is_shared_at pick_at
   bridge_of_three i j k =
-      cond (is_shared_at smaller larger r marks i j k) (pick_at smaller larger r boundaries i j k)
-      (cond (is_shared_at smaller larger r marks i k j) (pick_at smaller larger r boundaries i k j) (cond (is_shared_at smaller larger r marks j k i) (pick_at smaller larger r boundaries j k i) None))
+      cond (is_shared_at full r marks i j k) (pick_at full r boundaries i j k)
+      (cond (is_shared_at full r marks i k j) (pick_at full r boundaries i k j) (cond (is_shared_at full r marks j k i) (pick_at full r boundaries j k i) None))
 
   unfoldable pub bridge_of_list : List ℕ → Option Proposal
   unfolding bridge_of_three
@@ -71,14 +73,7 @@ module _ (boundaries smaller larger marks : List ℕ) (r : ℕ) where
   unfoldable pub is_bridge_at : List ℕ → ℕ → Option Proposal
   unfolding collect is_pocket_port bridge_of_list
   is_bridge_at counts count =
-      cond (not (mark_at marks r) && eqb (get_or counts (r - 1) 0) 3) (bridge_of_list (collect count (λ j. only_if (is_pocket_port smaller larger r boundaries j) j))) None
-
--- r is the first number from `from` on, below n, that passes f; n where there is none
-pub record FirstFrom (f : ℕ → Bool) (from n r : ℕ) : Type 0 where
-  pub within : r ≤ n
-  pub behind : r < n → from ≤ r
-  pub none : (j : ℕ) → from ≤ j → j < r → f j ≡ false
-  pub found : r < n → f r ≡ true
+      cond (not (mark_at marks r) && eqb (get_or counts (r - 1) 0) 3) (bridge_of_list (collect count (λ j. only_if (is_pocket_port full r boundaries j) j))) None
 
 -- no number from `from` on, below n, passes f
 abbrev pub NoneFrom : (ℕ → Bool) → ℕ → ℕ → Type 0

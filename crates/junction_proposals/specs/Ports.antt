@@ -1,21 +1,18 @@
--- The ports of regions, read off the lists of full pairs. Definitions only; assumes nothing.
-use Rattle.std.specs.Prelude.{ℕ, ◌-◌, ◌≤◌, ◌≡◌, Bool, ◌&&◌, ◌||◌, cond, List, length, take, get_or, Option}
+-- The ports of regions, read off the list of full pairs. Definitions only; assumes nothing.
+use Rattle.std.specs.Prelude.{ℕ, ◌-◌, ◌≤◌, ◌≡◌, Bool, ◌&&◌, ◌||◌, List, length, take, get_or, Option, None}
 use Rattle.std.proofs.Math.Bool.{not}
 use Rattle.std.proofs.Math.Dec.{eqb}
-use Rattle.definitions.specs.Scan.{all_below, any_below_lem, count_below, collect, only_if}
+use Rattle.definitions.specs.Scan.{any_below_lem, count_below, collect, only_if}
 use Rattle.definitions.specs.Grid.{Pair, contains}
 use Rattle.definitions.specs.Context.{holds}
 use Rattle.definitions.specs.Junctions.{fits_union}
-use Rattle.context.specs.Shown.{optional_pair}
+use Rattle.context.specs.declared.pairs.Pair as declared
+use Rattle.context.specs.Rows.{full_pair_of}
 
--- the first region of a union, then the second
-abbrev pub side_of : Pair → ℕ → ℕ
-side_of p side = cond (eqb side 0) p.lo p.hi
-
-module _ (smaller larger : List ℕ) where
+module _ (full : List (Option declared.Pair)) where
   -- the full pair of boundary j
   abbrev pub pair_of : ℕ → Option Pair
-  pair_of j = optional_pair (get_or smaller j 0) (get_or larger j 0)
+  pair_of j = full_pair_of (get_or full j None)
 
   unfoldable pub names : ℕ → ℕ → Bool
   names r j = holds (pair_of j) (contains r)
@@ -35,8 +32,8 @@ module _ (smaller larger : List ℕ) where
 
   -- the walk over both regions
   unfoldable pub walk_fits : List ℕ → ℕ → ℕ → Pair → Bool
-  unfolding all_below region_fits
-  walk_fits counts count i p = all_below 2 (λ side. region_fits counts count i p (side_of p side))
+  unfolding region_fits
+  walk_fits counts count i p = region_fits counts count i p p.lo && region_fits counts count i p p.hi
 
   -- a full pair that names a region of p
   abbrev pub names_either : Pair → ℕ → Bool
@@ -46,8 +43,13 @@ module _ (smaller larger : List ℕ) where
   unfolding names
   is_port i p j = not (eqb j i) && names_either p j
 
-  -- the first n numbers of the list are the boundaries below `count` whose full pair names a region of p, in ascending order
+  -- the boundaries below `count` whose full pair names a region of p, in ascending order
+  unfoldable pub incidents_of : ℕ → Pair → List ℕ
+  unfolding collect names
+  incidents_of count p = collect count (λ j. only_if (names_either p j) j)
+
+  -- the first n numbers of the list are they
   pub record Listed (count : ℕ) (p : Pair) (incidents : List ℕ) (n : ℕ) : Type 0 where
     pub few : n ≤ count
     pub long : n ≤ length incidents
-    pub each : take n incidents ≡ collect count (λ j. only_if (names_either p j) j)
+    pub each : take n incidents ≡ incidents_of count p

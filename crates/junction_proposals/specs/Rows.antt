@@ -1,12 +1,17 @@
 -- Proposals as the code has them: boundary, kind, first and second region. Definitions only; assumes nothing.
-use Rattle.std.specs.Prelude.{ℕ, ◌≤◌, ◌<◌, Bool, ◌&&◌, List, get_or, eqb, Option, Some}
+use Rattle.std.specs.Prelude.{ℕ, ◌≤◌, ◌<◌, Bool, ◌&&◌, List, get_or, eqb, Option, None, Some}
 use Rattle.std.proofs.Math.Bool.{not, cond}
 use Rattle.definitions.specs.Scan.{collect, only_if}
 use Rattle.definitions.specs.Geometry.{center}
 use Rattle.definitions.specs.RegionRecord.{has_ramp, strictly_flat}
 use Rattle.definitions.specs.Context.{Context}
 use Rattle.definitions.specs.Junctions.{Proposal, within_radius, union_regions}
-use Rattle.junction_proposals.specs.Unions.{is_union_at}
+use Rattle.definitions.specs.Grid.{Pair}
+use Rattle.context.specs.declared.pairs.Pair as declared
+use Rattle.junction_proposals.specs.Ports.{pair_of}
+use Rattle.junction_proposals.specs.Unions.{shape_at}
+use Rattle.junction_proposals.specs.Bridges.{is_bridge_at}
+use Rattle.junction_proposals.specs.declared.lists.JunctionLists.{JunctionLists}
 use Rattle.junction_proposals.specs.declared.proposals.Kind.{Kind}
 use Rattle.junction_proposals.specs.declared.proposals.Kind.TheVariants.{Union, Bridge}
 use Rattle.junction_proposals.specs.declared.proposals.Candidate.{Candidate}
@@ -22,6 +27,11 @@ kind_of Bridge = 1
 abbrev pub form : Candidate → Proposal
 form c = record { index = c.index; kind = kind_of c.kind; first = c.first; second = c.second }
 
+-- of a row that there may be
+abbrev pub found_form : Option Candidate → Option Proposal
+found_form None = None
+found_form (Some c) = Some (form c)
+
 -- what is said of a place beyond the last
 abbrev pub nothing : Candidate
 nothing = record { index = 0; kind = Union; first = 0; second = 0 }
@@ -34,10 +44,23 @@ unfoldable pub rows_of : List Candidate → ℕ → List Proposal
 unfolding collect
 rows_of rows n = collect n (λ k. Some (row_at rows k))
 
--- the union at boundary i, if it has the shape of one
-abbrev pub union_at : List ℕ → List ℕ → List ℕ → List ℕ → List ℕ → ℕ → ℕ → Option Proposal
-union_at boundaries smaller larger counts marks count i =
-    only_if (is_union_at boundaries smaller larger counts marks count i) (record { index = i; kind = 0; first = get_or smaller i 0; second = get_or larger i 0 })
+module _ (boundaries : List ℕ) (full : List (Option declared.Pair)) (counts marks : List ℕ) (count i : ℕ) where
+  -- the union of a full pair that there may be at boundary i
+  abbrev pub union_of : Option Pair → Option Proposal
+  union_of None = None
+  union_of (Some p) = only_if (shape_at boundaries full count i p counts marks) (record { index = i; kind = 0; first = p.lo; second = p.hi })
+
+  -- the union at boundary i, if it is a full pair and has the shape of one
+  unfoldable pub union_at : Option Proposal
+  unfolding shape_at
+  union_at = union_of (pair_of full i)
+
+-- both of the lists as a function takes them
+abbrev pub union_in : JunctionLists → ℕ → Option Proposal
+union_in l i = union_at l.boundaries.now l.full.now l.counts.now l.marks.now l.count i
+
+abbrev pub bridge_in : JunctionLists → ℕ → Option Proposal
+bridge_in l r = is_bridge_at l.boundaries.now l.full.now l.marks.now r l.counts.now l.count
 
 -- ---- what the records of regions have to say
 

@@ -4,6 +4,7 @@
 
 pub mod bridges;
 pub mod distances;
+pub mod lists;
 pub mod ports;
 pub mod proposals;
 pub mod unions;

@@ -1,46 +1,50 @@
 // The ports of the two regions of a union.
-ghost use Rattle.std.specs.Prelude.{◌≡◌, ◌≤◌, ◌<◌, length, get_or};
+ghost use Rattle.std.specs.Prelude.{◌≡◌, ◌≤◌, ◌<◌, true, length};
 ghost use Rattle.definitions.specs.Grid.{contains};
 ghost use Rattle.definitions.specs.Context.{holds};
 ghost use Rattle.definitions.specs.Junctions.{fits_union};
-ghost use Rattle.context.specs.Shown.{optional_pair};
-ghost use Rattle.junction_proposals.specs.Ports.{Listed, side_of, walk_fits};
+ghost use Rattle.context.specs.Rows.{pair_form, full_pair_of};
+ghost use Rattle.junction_proposals.specs.Ports.{Listed, incidents_of, names, is_unfit, region_fits, walk_fits};
 
-use plain_numbers::{wide, wide_byte};
+use crate::lists::JunctionLists;
+use context::pairs::Pair;
 
-// Whether the full pair a, b names region r. Where there is no pair, a is 0.
-pub fn names_region(a: u32, b: u32, r: u32) -> bool
-    ensures { result ≡ holds (optional_pair a b) (contains r) }
-{
-    (a != 0) & ((a == r) | (b == r))
+// A boundary that may go, the pair of regions of which it would make a union, and the boundaries whose full pair names one of the two.
+#[derive(Clone, Copy)]
+pub struct Divider<'a> {
+    pub index: usize,
+    pub union: Pair,
+    pub incidents: &'a [u8],
 }
 
-// Whether exactly one side of the full pair a, b lies in the union of lo and hi.
-pub fn fits_union(lo: u32, hi: u32, a: u32, b: u32) -> bool
-    ensures { result ≡ holds (optional_pair a b) (fits_union (record { lo = lo; hi = hi })) }
+// Whether the full pair names region r.
+pub fn names_region(pair: Option<Pair>, r: u32) -> bool
+    ensures { result ≡ holds (full_pair_of pair) (contains r) }
 {
-    let first = (lo == a) | (hi == a);
-    let second = (lo == b) | (hi == b);
-    (a != 0) & ((!first & second) | (first & !second))
+    pair.is_some_and(|p| p.contains(r))
 }
 
-// The boundaries whose full pair names lo or hi, in ascending order; gives how many there are.
+// Whether exactly one side of the full pair lies in the union.
+pub fn fits_union(union: Pair, pair: Option<Pair>) -> bool
+    ensures { result ≡ holds (full_pair_of pair) (fits_union (pair_form union)) }
+{
+    pair.is_some_and(|p| union.contains(p.lo) != union.contains(p.hi))
+}
+
+// The boundaries whose full pair names a region of the union, in ascending order; gives how many there are.
 pub fn find_incidents(
-    smaller: &[u32; 256],
-    larger: &[u32; 256],
+    full: &[Option<Pair>; 256],
     count: usize,
-    lo: u32,
-    hi: u32,
+    union: Pair,
     incidents: &mut [u8; 256],
 ) -> usize
     requires { (count ≤ 256) × (length incidents.old ≡ 256) }
-    ensures { Listed smaller.now larger.now count (record { lo = lo; hi = hi }) incidents.new result }
+    ensures { Listed full.now count (pair_form union) incidents.new result }
 {
     let mut n = 0;
+    // Kept: without a heap nothing can be collected, so the lent list is filled.
     for j in 0..count {
-        let a = smaller[j];
-        let b = larger[j];
-        if names_region(a, b, lo) | names_region(a, b, hi) {
+        if names_region(full[j], union.lo) | names_region(full[j], union.hi) {
             incidents[n] = j as u8;
             n += 1;
         }
@@ -48,54 +52,51 @@ pub fn find_incidents(
     n
 }
 
-// The first region of the union, then the second.
-fn region_of(lo: u32, hi: u32, side: usize) -> u32
-    ensures { result ≡ side_of (record { lo = lo; hi = hi }) side }
+// Whether the full pair of boundary j names region r.
+fn names_at(full: &[Option<Pair>; 256], r: u32, j: u8) -> bool
+    ensures { result ≡ names full.now r j }
 {
-    if side == 0 { lo } else { hi }
+    names_region(full[j as usize], r)
 }
 
-// Whether every incident of the two regions of boundary `index`, other than it, is a full pair with one side in their union. Walks over the n boundaries
-// below `count` whose full pair names one of the two; an incident that is no full pair is not met here: it shows in the region's count.
-pub fn ports_fit(
-    smaller: &[u32; 256],
-    larger: &[u32; 256],
-    counts: &[u32],
-    count: usize,
-    index: usize,
-    incidents: &[u8; 256],
-    n: usize,
-) -> bool
-    requires few { (count ≤ 256) × (index < count) }
-    requires smaller_named { (1 ≤ get_or smaller.now index 0) × (get_or smaller.now index 0 ≤ length counts.now) }
-    requires larger_named { (1 ≤ get_or larger.now index 0) × (get_or larger.now index 0 ≤ length counts.now) }
-    requires incidents_listed { Listed smaller.now larger.now count (record { lo = get_or smaller.now index 0; hi = get_or larger.now index 0 })
-        incidents.now n }
-    ensures { result ≡ walk_fits smaller.now larger.now counts.now count index
-        (record { lo = get_or smaller.now index 0; hi = get_or larger.now index 0 }) }
+// Whether the full pair of boundary j names region r of the union without that exactly one of its sides lies in it. Boundary `index`, the union's own, is left out.
+fn is_unfit(full: &[Option<Pair>; 256], index: usize, union: Pair, r: u32, j: u8) -> bool
+    ensures { result ≡ is_unfit full.now index (pair_form union) r j }
 {
-    let lo = smaller[index];
-    let hi = larger[index];
-    let mut fit = true;
-    'regions: for side in 0..2 {
-        let region = region_of(lo, hi, side);
-        let mut met = 0;
-        for k in 0..n {
-            let j = wide_byte(incidents[k]);
-            let a = smaller[j];
-            let b = larger[j];
-            if names_region(a, b, region) {
-                if (j != index) & !fits_union(lo, hi, a, b) {
-                    fit = false;
-                    break 'regions;
-                }
-                met += 1;
-            }
-        }
-        if met != wide(counts[wide(region) - 1]) {
-            fit = false;
-            break 'regions;
-        }
-    }
-    fit
+    names_at(full, r, j) & ((j as usize != index) & !fits_union(union, full[j as usize]))
+}
+
+// Whether every incident of region r of the union, other than its own boundary, is a full pair with one side in the union. Looks at the boundaries whose full pair names
+// a region of the union; an incident that is no full pair is not met here: it shows in the region's count.
+fn region_fits(lists: &JunctionLists, divider: &Divider, r: u32) -> bool
+    requires r_named { (1 ≤ r) × (r ≤ length lists.now.counts.now) }
+    requires r_of_union { contains r (pair_form divider.now.union) ≡ true }
+    requires incidents { divider.now.incidents.now ≡ incidents_of lists.now.full.now lists.now.count (pair_form divider.now.union) }
+    ensures { result ≡ region_fits lists.now.full.now lists.now.counts.now lists.now.count divider.now.index
+        (pair_form divider.now.union) r }
+{
+    let unfit = divider.incidents.iter().any(|&j| is_unfit(
+        lists.full,
+        divider.index,
+        divider.union,
+        r,
+        j,
+    ));
+    let met = divider
+        .incidents
+        .iter()
+        .filter(|&&j| names_at(lists.full, r, j))
+        .count();
+    !unfit & (met == lists.counts[r as usize - 1] as usize)
+}
+
+// Whether that is so of both regions.
+pub fn ports_fit(lists: &JunctionLists, divider: &Divider) -> bool
+    requires lo_named { (1 ≤ divider.now.union.lo) × (divider.now.union.lo ≤ length lists.now.counts.now) }
+    requires hi_named { (1 ≤ divider.now.union.hi) × (divider.now.union.hi ≤ length lists.now.counts.now) }
+    requires incidents { divider.now.incidents.now ≡ incidents_of lists.now.full.now lists.now.count (pair_form divider.now.union) }
+    ensures { result ≡ walk_fits lists.now.full.now lists.now.counts.now lists.now.count divider.now.index
+        (pair_form divider.now.union) }
+{
+    region_fits(lists, divider, divider.union.lo) && region_fits(lists, divider, divider.union.hi)
 }

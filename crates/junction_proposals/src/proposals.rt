@@ -3,11 +3,11 @@ ghost use Rattle.std.specs.Prelude.{◌≡◌, ◌++◌, ℕ, suc, ◌+◌, ◌�
 ghost use Rattle.definitions.specs.Scan.{collect, to_list, filter};
 ghost use Rattle.definitions.specs.Context.{Context};
 ghost use Rattle.definitions.specs.Junctions.{proposals};
-ghost use Rattle.junction_proposals.specs.Lent.{Lent, Shows};
-ghost use Rattle.junction_proposals.specs.Bridges.{is_bridge_at};
-ghost use Rattle.junction_proposals.specs.Rows.{kind_of, max_proposals, row_at, rows_of, union_at, is_allowed, RowFits};
+ghost use Rattle.junction_proposals.specs.Lent.{LentIn, ShowsIn};
+ghost use Rattle.junction_proposals.specs.Rows.{kind_of, found_form, max_proposals, row_at, rows_of, union_in, bridge_in, is_allowed, RowFits};
 
 use crate::bridges::bridge_of;
+use crate::lists::JunctionLists;
 use crate::unions::is_union;
 
 // 256 unions, and 170 bridges: a pocket has three full pairs, and a full pair names two regions.
@@ -47,165 +47,92 @@ pub struct Candidate {
     pub second: u32,
 }
 
-// The union at boundary i, if it has the shape of one.
-fn add_union(
-    boundaries: &[u64],
-    smaller: &[u32; 256],
-    larger: &[u32; 256],
-    counts: &[u32],
-    marks: &[u16],
-    count: usize,
-    regions: usize,
-    rows: &mut [Candidate],
-    n: usize,
-    i: usize,
-) -> usize
-    requires lent { Lent boundaries.now smaller.now larger.now counts.now marks.now count regions }
-    requires places { (i < count) × (n ≤ i) }
-    requires rows_room { max_proposals ≤ length rows.old }
-    ensures rows { rows_of rows.new result ≡ rows_of rows.old n
-        ++ to_list (union_at boundaries.now smaller.now larger.now counts.now marks.now count i) }
-    ensures bound { result ≤ n + 1 }
+// The union at boundary i, if it is a full pair and has the shape of one.
+fn union_row(lists: &JunctionLists, i: usize) -> Option<Candidate>
+    requires lent { LentIn lists.now }
+    requires index_within { i < lists.now.count }
+    ensures { found_form result ≡ union_in lists.now i }
 {
-    if is_union(
-        boundaries, smaller, larger, counts, marks, count, regions, i,
-    ) {
-        rows[n] = Candidate {
+    let union = lists.full[i]?;
+    if is_union(lists, i, union) {
+        Some(Candidate {
             index: i,
             kind: Kind::Union,
-            first: smaller[i],
-            second: larger[i],
-        };
-        return n + 1;
+            first: union.lo,
+            second: union.hi,
+        })
+    } else {
+        None
     }
-    n
-}
-
-// All unions.
-fn find_unions(
-    boundaries: &[u64],
-    smaller: &[u32; 256],
-    larger: &[u32; 256],
-    counts: &[u32],
-    marks: &[u16],
-    count: usize,
-    regions: usize,
-    rows: &mut [Candidate],
-) -> usize
-    requires lent { Lent boundaries.now smaller.now larger.now counts.now marks.now count regions }
-    requires rows_room { max_proposals ≤ length rows.old }
-    ensures rows { rows_of rows.new result
-        ≡ collect count (union_at boundaries.now smaller.now larger.now counts.now marks.now count) }
-    ensures bound { result ≤ count }
-{
-    let mut n = 0;
-    for i in 0..count {
-        n = add_union(
-            boundaries, smaller, larger, counts, marks, count, regions, rows, n, i,
-        );
-    }
-    n
 }
 
 // The bridge of region r, if there is one.
-fn add_bridge(
-    boundaries: &[u64],
-    smaller: &[u32; 256],
-    larger: &[u32; 256],
-    counts: &[u32],
-    marks: &[u16],
-    count: usize,
-    regions: usize,
-    rows: &mut [Candidate],
-    n: usize,
-    r: u32,
-) -> usize
-    requires lent { Lent boundaries.now smaller.now larger.now counts.now marks.now count regions }
-    requires r_named { (1 ≤ r) × (r ≤ regions) }
-    requires proposals_room { n + length (to_list (is_bridge_at boundaries.now smaller.now larger.now marks.now r counts.now count)) ≤ max_proposals }
-    requires rows_room { max_proposals ≤ length rows.old }
-    ensures rows { rows_of rows.new result ≡ rows_of rows.old n
-        ++ to_list (is_bridge_at boundaries.now smaller.now larger.now marks.now r counts.now count) }
-    ensures answer { result ≡ n + length (to_list (is_bridge_at boundaries.now smaller.now larger.now marks.now r
-        counts.now count)) }
+fn bridge_row(lists: &JunctionLists, r: u32) -> Option<Candidate>
+    requires lent { LentIn lists.now }
+    requires r_named { (1 ≤ r) × (r ≤ lists.now.regions) }
+    ensures { found_form result ≡ bridge_in lists.now r }
 {
-    match bridge_of(
-        boundaries, smaller, larger, counts, marks, count, regions, r,
-    ) {
-        Some(bridge) => {
-            rows[n] = Candidate {
-                index: bridge.index,
-                kind: Kind::Bridge,
-                first: r,
-                second: bridge.exterior,
-            };
+    bridge_of(lists, r).map(|bridge| Candidate {
+        index: bridge.index,
+        kind: Kind::Bridge,
+        first: r,
+        second: bridge.exterior,
+    })
+}
+
+// Puts in what was found behind the first n rows, and gives how many there are then.
+fn add_row(rows: &mut [Candidate], n: usize, found: Option<Candidate>) -> usize
+    requires room { n + length (to_list (found_form found)) ≤ length rows.old }
+    ensures rows { rows_of rows.new result ≡ rows_of rows.old n ++ to_list (found_form found) }
+    ensures answer { result ≡ n + length (to_list (found_form found)) }
+{
+    match found {
+        Some(row) => {
+            rows[n] = row;
             n + 1
         }
         None => n,
     }
 }
 
-// All bridges, behind the first n rows.
-fn find_bridges(
-    boundaries: &[u64],
-    smaller: &[u32; 256],
-    larger: &[u32; 256],
-    counts: &[u32],
-    marks: &[u16],
-    count: usize,
-    regions: usize,
-    rows: &mut [Candidate],
-    unions: usize,
-) -> usize
-    requires lent { Lent boundaries.now smaller.now larger.now counts.now marks.now count regions }
-    requires unions_within { unions ≤ count }
+// All unions.
+fn find_unions(lists: &JunctionLists, rows: &mut [Candidate]) -> usize
+    requires lent { LentIn lists.now }
+    requires rows_room { max_proposals ≤ length rows.old }
+    ensures rows { rows_of rows.new result ≡ collect lists.now.count (union_in lists.now) }
+    ensures bound { result ≤ lists.now.count }
+{
+    let mut n = 0;
+    for i in 0..lists.count {
+        n = add_row(rows, n, union_row(lists, i));
+    }
+    n
+}
+
+// All bridges, behind the first `unions` rows.
+fn find_bridges(lists: &JunctionLists, rows: &mut [Candidate], unions: usize) -> usize
+    requires lent { LentIn lists.now }
+    requires unions_within { unions ≤ lists.now.count }
     requires rows_room { max_proposals ≤ length rows.old }
     ensures rows { rows_of rows.new result ≡ rows_of rows.old unions
-        ++ collect regions (λ k. is_bridge_at boundaries.now smaller.now larger.now marks.now (suc k)
-        counts.now count) }
+        ++ collect lists.now.regions (λ k. bridge_in lists.now (suc k)) }
     ensures bound { result ≤ max_proposals }
 {
     let mut n = unions;
-    for k in 0..regions {
-        n = add_bridge(
-            boundaries,
-            smaller,
-            larger,
-            counts,
-            marks,
-            count,
-            regions,
-            rows,
-            n,
-            (k + 1) as u32,
-        );
+    for k in 0..lists.regions {
+        n = add_row(rows, n, bridge_row(lists, (k + 1) as u32));
     }
     n
 }
 
 // All rows: of them those that the records of their regions allow are the proposals.
-pub fn find_proposals(
-    boundaries: &[u64],
-    smaller: &[u32; 256],
-    larger: &[u32; 256],
-    counts: &[u32],
-    marks: &[u16],
-    count: usize,
-    regions: usize,
-    rows: &mut [Candidate],
-) -> usize
-    requires lent { Lent boundaries.now smaller.now larger.now counts.now marks.now count regions }
+pub fn find_proposals(lists: &JunctionLists, rows: &mut [Candidate]) -> usize
+    requires lent { LentIn lists.now }
     requires rows_room { max_proposals ≤ length rows.old }
     ensures bound { result ≤ max_proposals }
-    ensures rows_fit { (k : ℕ) → k < result → RowFits count regions (row_at rows.new k) }
-    ensures allowed { (C : Context) →
-        Shows boundaries.now smaller.now larger.now counts.now marks.now count regions C →
-        filter (is_allowed C) (rows_of rows.new result) ≡ proposals C }
+    ensures rows_fit { (k : ℕ) → k < result → RowFits lists.now.count lists.now.regions (row_at rows.new k) }
+    ensures allowed { (C : Context) → ShowsIn lists.now C → filter (is_allowed C) (rows_of rows.new result) ≡ proposals C }
 {
-    let unions = find_unions(
-        boundaries, smaller, larger, counts, marks, count, regions, rows,
-    );
-    find_bridges(
-        boundaries, smaller, larger, counts, marks, count, regions, rows, unions,
-    )
+    let unions = find_unions(lists, rows);
+    find_bridges(lists, rows, unions)
 }

@@ -1,41 +1,38 @@
--- A region's corners, tested one by one. Assumes nothing.
-use Prim.Native.Nat.{ℕ, ◌<◌}
-use mathlib.Core.Path.{◌≡◌, refl, sym, ap, ◌∙◌, subst⁻¹}
-use mathlib.Core.Bool.{Bool, true, false, ◌&&◌}
-use mathlib.Core.List.{List, map}
-use lib.ListN.{get_or, get_or-map}
-use lib.Dec.{ltb, lit<}
+-- A region's corners, tested by a chain. Assumes nothing.
+use Prim.Native.Nat.{ℕ, zero, suc, ◌<◌}
+use native.Mathlib.Omega.{arith}
+use mathlib.Core.Path.{◌≡◌, refl, sym, ap, ap₂, ◌∙◌, subst}
+use mathlib.Core.Bool.{Bool, true, false, ◌&&◌, and-false}
+use mathlib.Core.List.{List, [], ◌∷◌, map}
+use lib.ListN.{length, get_or}
+use Rattle.std.specs.Prelude.{MatchBool}
+use Rattle.std.specs.List.{AllWithin, HoldsAt}
 use Rattle.definitions.specs.Scan.{all}
 use Rattle.definitions.specs.Geometry.{Point}
 use Rattle.definitions.specs.RegionRecord.{Region, corners}
-use Rattle.laws.specs.ListLaws.Lists.{All}
-use Rattle.laws.specs.ListLaws.Members.{all-place}
+use Rattle.laws.specs.ListLaws.Lists.{All, done, more}
 use Rattle.geometry.specs.declared.Point as code
 use Rattle.geometry.specs.Forms.{point_form}
 
-five : (a b c d e : Bool) → (a && b && c && d && e) ≡ (a && (b && (c && (d && (e && true)))))
-five false b c d e = refl
-five true false c d e = refl
-five true true false d e = refl
-five true true true false e = refl
-five true true true true true = refl
-five true true true true false = refl
+-- P says where the test answers f
+module _ (P : Point → Type 0) (f : Point → Bool) where
+  -- b is an answer of the test at a point
+  abbrev pub Answers : Bool → code.Point → Type 0
+  Answers b c = P (point_form c) → b ≡ f (point_form c)
 
--- r is the answer of a test at p, which is q; P says where the test answers f
-answer_at : (P : Point → Type 0) (f : Point → Bool) {p q : Point} {r : Bool} → p ≡ q → P q → (P p → r ≡ f p) → r ≡ f q
-answer_at P f e h g = g (subst⁻¹ P e h) ∙ ap f e
+  all_passed : (cs : List code.Point) → All P (map point_form cs) → ((k : ℕ) (d : code.Point) → k < length cs → Answers true (get_or cs k d)) → true ≡ all f (map point_form cs)
+  unfolding all
+  all_passed [] done h = refl
+  all_passed (c ∷ cs) (more p ps) h = ap₂ ◌&&◌ (h 0 c (omega arith) p) (all_passed cs ps (λ k d l. h (suc k) d (omega arith)))
 
-module _ (P : Point → Type 0) (f : Point → Bool) (cs : List code.Point) (d : code.Point) where
-  -- r is the answer at corner k
-  abbrev Answers : ℕ → Bool → Type 0
-  Answers k r = P (point_form (get_or cs k d)) → r ≡ f (point_form (get_or cs k d))
+  one_failed : (cs : List code.Point) → All P (map point_form cs) → (k : ℕ) → k < length cs → ((d : code.Point) → Answers false (get_or cs k d)) → false ≡ all f (map point_form cs)
+  unfolding all
+  one_failed [] a k l h = absurd (omega arith)
+  one_failed (c ∷ cs) (more p ps) zero l h = ap (λ b. b && all f (map point_form cs)) (h c p)
+  one_failed (c ∷ cs) (more p ps) (suc k) l h = sym (ap (λ b. f (point_form c) && b) (sym (one_failed cs ps k (omega arith) h)) ∙ and-false (f (point_form c)))
 
-  pub corners-tested : (s : Region) {w x y z : Bool} → map point_form cs ≡ corners s → All P (corners s) → Answers 0 w → Answers 1 x → Answers 2 y → Answers 3 z
-      → (ltb 0 s.cells && w && x && y && z) ≡ (ltb 0 s.cells && all f (corners s))
-  unfolding corners all
-  corners-tested s {w} {x} {y} {z} e h a b c g =
-      five (ltb 0 s.cells) w x y z
-      ∙ (λ i. ltb 0 s.cells && (at 0 (lit< tt) a i && (at 1 (lit< tt) b i && (at 2 (lit< tt) c i && (at 3 (lit< tt) g i && true)))))
-    where
-      at : (k : ℕ) {r : Bool} → k < 4 → Answers k r → r ≡ f (get_or (corners s) k (point_form d))
-      at k l t = answer_at P f (sym (get_or-map point_form cs k d) ∙ ap (λ l. get_or l k (point_form d)) e) (all-place (point_form d) h k l) t
+  -- r is what the chain gave
+  pub corners-tested : (cs : List code.Point) (r : Bool) (s : Region) → map point_form cs ≡ corners s → All P (corners s)
+      → MatchBool r (AllWithin (Answers true) cs 0 (length cs)) ((k : ℕ) × (k < length cs) × HoldsAt (Answers false) cs k) → r ≡ all f (corners s)
+  corners-tested cs true s e a h = all_passed cs (subst (All P) (sym e) a) (λ k d l. h k d (omega arith) l) ∙ ap (all f) e
+  corners-tested cs false s e a (k, l, h) = one_failed cs (subst (All P) (sym e) a) k l h ∙ ap (all f) e

@@ -1,10 +1,11 @@
 -- What pass 3 asks of records: `union_regions` of Junctions.antt and `bridge_region` of Rows.antt, with records, endpoints and anchors in place of the context.
 -- Definitions only; assumes nothing.
-use Rattle.std.specs.Prelude.{Bool, not, ◌&&◌, ◌||◌, cond}
+use Rattle.std.specs.Prelude.{ℕ, Option, Bool, not, ◌&&◌, ◌||◌, cond}
 use Rattle.std.specs.Float.Ieee.{le}
+use Rattle.definitions.specs.Scan.{only_if}
 use Rattle.definitions.specs.Grid.{Segment}
 use Rattle.definitions.specs.Geometry.{Point, center, point_segment_distance}
-use Rattle.definitions.specs.RegionRecord.{Region, has_ramp, same_dominance, strictly_flat}
+use Rattle.definitions.specs.RegionRecord.{Region, has_ramp, dominance, accepts, same_dominance, strictly_flat}
 use Rattle.definitions.specs.Junctions.{within_distance, within_radius, within_span_radius, max_union_radius_pixels}
 
 -- ---- of a corner
@@ -16,6 +17,13 @@ near_middle middle corner = within_distance corner middle max_union_radius_pixel
 unfoldable pub near_span : Point → Point → Point → Bool
 unfolding le point_segment_distance max_union_radius_pixels
 near_span a b corner = le (point_segment_distance corner a b) max_union_radius_pixels
+
+-- ---- of a region
+
+-- the elevation of most cells, if its share is accepted
+unfoldable pub accepted_of : Region → Option ℕ
+unfolding dominance
+accepted_of s = only_if (accepts (dominance s).share) (dominance s).elevation
 
 -- ---- of regions; `one` says that exactly one of two is anchored
 

@@ -13,7 +13,7 @@ ghost use Rattle.elevations.specs.Forms.{share_form};
 ghost use Rattle.geometry.specs.Forms.{point_form, segment_from};
 ghost use Rattle.context.specs.Records.{record_of, Counted};
 ghost use Rattle.junction_proposals.specs.Rows.{row_at, is_allowed};
-ghost use Rattle.junction_regions.specs.Tests.{near_middle, near_span, is_local, union_of, bridge_of};
+ghost use Rattle.junction_regions.specs.Tests.{near_middle, near_span, accepted_of, is_local, union_of, bridge_of};
 ghost use Rattle.junction_regions.specs.Asked.{OnMap, Asked};
 
 use context::Region;
@@ -51,11 +51,8 @@ pub fn within_radius(region: Region, middle: Point) -> bool
     ensures { result ≡ within_radius (record_of region) (point_form middle) }
 {
     let corners = region.corners();
-    (0 < region.cells)
-        & near_middle(corners[0], middle)
-        & near_middle(corners[1], middle)
-        & near_middle(corners[2], middle)
-        & near_middle(corners[3], middle)
+    let near = corners.iter().all(|&corner| near_middle(corner, middle));
+    (0 < region.cells) & near
 }
 
 pub fn within_span_radius(region: Region, a: PixelPosition, b: PixelPosition) -> bool
@@ -65,11 +62,8 @@ pub fn within_span_radius(region: Region, a: PixelPosition, b: PixelPosition) ->
     let corners = region.corners();
     let start = point(a);
     let end = point(b);
-    (0 < region.cells)
-        & near_span(corners[0], start, end)
-        & near_span(corners[1], start, end)
-        & near_span(corners[2], start, end)
-        & near_span(corners[3], start, end)
+    let near = corners.iter().all(|&corner| near_span(corner, start, end));
+    (0 < region.cells) & near
 }
 
 // ---- the regions of a union and of a bridge; the boundary that would go runs from a to b
@@ -93,16 +87,27 @@ fn is_accepted(share: Option<Share>) -> bool
     share.is_some_and(|s| ACCEPTED_PERCENT <= s.percent)
 }
 
+// The elevation of most cells, if its share is accepted.
+fn accepted_elevation(region: Region) -> Option<usize>
+    requires { Counted (record_of region) }
+    ensures { result ≡ accepted_of (record_of region) }
+{
+    let dominance = region.dominance();
+    if is_accepted(dominance.share) {
+        Some(dominance.elevation)
+    } else {
+        None
+    }
+}
+
 // Whether both regions have an elevation of an accepted share, and it is the same.
 fn same_dominance(first: Region, second: Region) -> bool
     requires { Counted (record_of first) × Counted (record_of second) }
     ensures { result ≡ same_dominance (record_of first) (record_of second) }
 {
-    let a = first.dominance();
-    let b = second.dominance();
-    let s = a.share;
-    let t = b.share;
-    is_accepted(s) & is_accepted(t) & (a.elevation == b.elevation)
+    let elevation = accepted_elevation(first);
+    let other = accepted_elevation(second);
+    elevation.is_some() & (elevation == other)
 }
 
 pub fn union_regions(

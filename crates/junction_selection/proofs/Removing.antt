@@ -3,7 +3,7 @@
 use Prim.Native.Nat.{ℕ, ◌<◌}
 use mathlib.Core.Path.{◌≡◌, refl, sym, ap, ap₂, ◌∙◌}
 use mathlib.Core.Bool.{Bool, true, false, ◌||◌, ◌&&◌}
-use Rattle.std.specs.Prelude.{Some}
+use Rattle.std.specs.Prelude.{Option, Some}
 use mathlib.Core.List.{List, [], ◌∷◌, ◌++◌, map}
 use lib.ListN.{get_or}
 use lib.Dec.{eqb}
@@ -22,6 +22,7 @@ use Rattle.junction_selection.specs.Ranks.{key_at, ranks_at, allowed_of, reserve
 use Rattle.junction_selection.specs.Taken.{removed_at}
 use Rattle.junction_proposals.proofs.UnionRows.{filter_only}
 use Rattle.junction_proposals.proofs.Proposing.{collect-filter}
+use Rattle.context.specs.declared.pairs.Pair as declared
 
 -- ---- orders and conflicts that agree
 
@@ -41,11 +42,11 @@ unfolding any member
 any-index j [] = refl
 any-index j (q ∷ l) = ap (λ b. eqb j q.index || b) (any-index j l)
 
-module _ (boundaries smaller larger counts marks : List ℕ) (C : Context) (S : Shows boundaries smaller larger counts marks C.count C.regions C) where
+module _ (boundaries : List ℕ) (full : List (Option declared.Pair)) (counts marks : List ℕ) (C : Context) (S : Shows boundaries full counts marks C.count C.regions C) where
   -- what holds of every proposal
   pub record Reserving (p : Proposal) : Type 0 where
     pub index_in : p.index < C.count
-    pub same : (j : ℕ) → j < C.count → is_reserved_port C p j ≡ reserves_at smaller larger p j
+    pub same : (j : ℕ) → j < C.count → is_reserved_port C p j ≡ reserves_at full p j
 
   key_is : (p : Proposal) → p.index < C.count → key C p ≡ key_at boundaries p
   unfolding key key_at
@@ -55,7 +56,7 @@ module _ (boundaries smaller larger counts marks : List ℕ) (C : Context) (S : 
   unfolding ranks_before ranks_at
   ranks_is p q a b = ap₂ list_lt (key_is p a.index_in) (key_is q b.index_in)
 
-  pub conflict_is : (q p : Proposal) → Reserving q → Reserving p → conflict C q p ≡ conflict_at smaller larger C.count q p
+  pub conflict_is : (q p : Proposal) → Reserving q → Reserving p → conflict C q p ≡ conflict_at full C.count q p
   unfolding conflict conflict_at
   conflict_is q p a b =
       λ t. b.same q.index a.index_in t || a.same p.index b.index_in t || below_ext C.count _ _ (λ j l. ap₂ ◌&&◌ (b.same j l) (a.same j l)) t || region_conflict q.kind p.kind q p
@@ -74,9 +75,9 @@ module _ (boundaries smaller larger counts marks : List ℕ) (C : Context) (S : 
     unfolding ranked
     all-ranked = all-sort Reserving (ranks_before C) formed
 
-    pub removed_is : (j : ℕ) → removed_at boundaries smaller larger rows verdicts C.count n j ≡ member j (removed C)
+    pub removed_is : (j : ℕ) → removed_at boundaries full rows verdicts C.count n j ≡ member j (removed C)
     unfolding removed_at removed taken
     removed_is j =
-        ap (λ l. any (λ q. eqb j q.index) (select (conflict_at smaller larger C.count) [] l)) ranked_is
-        ∙ ap (any (λ q. eqb j q.index)) (sym (select_ext Reserving (conflict C) (conflict_at smaller larger C.count) conflict_is all-ranked))
+        ap (λ l. any (λ q. eqb j q.index) (select (conflict_at full C.count) [] l)) ranked_is
+        ∙ ap (any (λ q. eqb j q.index)) (sym (select_ext Reserving (conflict C) (conflict_at full C.count) conflict_is all-ranked))
         ∙ any-index j (select (conflict C) [] (ranked C))

@@ -23,6 +23,7 @@ use Rattle.junction_selection.specs.Ranks.{reserves_at}
 use Rattle.junction_proposals.proofs.PortLaws.{full_incident, named_incident, names_is, walk_is, region-ports}
 use Rattle.junction_proposals.proofs.UnionRows.{of_some}
 use Rattle.junction_selection.proofs.Removing.{Reserving}
+use Rattle.context.specs.declared.pairs.Pair as declared
 
 third_of : (a b c x n y w : Bool) → (a && b && c && x && n && y && w) ≡ true → c ≡ true
 third_of a b true x n y w h = refl
@@ -30,9 +31,9 @@ third_of true true false x n y w h = h
 third_of true false false x n y w h = h
 third_of false b false x n y w h = h
 
-module _ (boundaries smaller larger counts marks : List ℕ) (C : Context) (S : Shows boundaries smaller larger counts marks C.count C.regions C) where
+module _ (boundaries : List ℕ) (full : List (Option declared.Pair)) (counts marks : List ℕ) (C : Context) (S : Shows boundaries full counts marks C.count C.regions C) where
   abbrev Fits : Proposal → Type 0
-  Fits = Reserving boundaries smaller larger counts marks C S
+  Fits = Reserving boundaries full counts marks C S
 
   -- ---- unions
 
@@ -46,12 +47,12 @@ module _ (boundaries smaller larger counts marks : List ℕ) (C : Context) (S : 
   unfolding is_reserved_port reserves_at
   union_reserves i p l own h = record { index_in = l; same = λ j k. ap₂ (λ a b. (a || eqb 0 0 && b) && not (eqb 0 0 && eqb j i)) (ports j k).0 (ports j k).1 }
     where
-      ports : (j : ℕ) → j < C.count → (is_incident C j p.lo ≡ names smaller larger p.lo j) × (is_incident C j p.hi ≡ names smaller larger p.hi j)
+      ports : (j : ℕ) → j < C.count → (is_incident C j p.lo ≡ names full p.lo j) × (is_incident C j p.hi ≡ names full p.hi j)
       ports =
           let ordered = of_some (full-all C (λ q. q.lo < q.hi) i (S.sound.ordered i)) own in
           let named = of_some (full-all C (λ q. (1 ≤ q.lo) × (q.hi ≤ C.regions)) i (S.sound.labelled i)) own in
-          region-ports C smaller larger counts S.pairs S.incidents i p named.0 named.1 ordered
-          (walk_is C smaller larger counts S.pairs S.incidents i p named.0 named.1 ordered own ∙ shape-ports i p h)
+          region-ports C full counts S.pairs S.incidents i p named.0 named.1 ordered
+          (walk_is C full counts S.pairs S.incidents i p named.0 named.1 ordered own ∙ shape-ports i p h)
 
   union-fits : (i : ℕ) → i < C.count → (o : Option Pair) → full_pair C i ≡ o → OnO Fits (union_from C i o)
   unfolding union_from
@@ -71,10 +72,10 @@ module _ (boundaries smaller larger counts marks : List ℕ) (C : Context) (S : 
         (both (no_ramp C j) (is_some (full_pair C j))
         (ap (λ b. not b || no_ramp C j && is_some (full_pair C j)) (sym h) ∙ all_below_at C.count (λ k. not (is_incident C k r) || no_ramp C k && is_some (full_pair C k)) (sym (all_below_lem (λ k. is_incident C k r) (λ k. no_ramp C k && is_some (full_pair C k)) C.count) ∙ tested) j l)).1
 
-    port-names : (j : ℕ) → j < C.count → is_incident C j r ≡ names smaller larger r j
+    port-names : (j : ℕ) → j < C.count → is_incident C j r ≡ names full r j
     port-names j l =
-        same_test (λ h. names_is C smaller larger counts S.pairs S.incidents r j l ∙ sym (full_incident C j r (incident_full j l h)) ∙ h)
-        (λ h. named_incident C j r (sym (names_is C smaller larger counts S.pairs S.incidents r j l) ∙ h))
+        same_test (λ h. names_is C full counts S.pairs S.incidents r j l ∙ sym (full_incident C j r (incident_full j l h)) ∙ h)
+        (λ h. named_incident C j r (sym (names_is C full counts S.pairs S.incidents r j l) ∙ h))
 
     bridge_reserves : (i e : ℕ) → i < C.count → Fits (record { index = i; kind = 1; first = r; second = e })
     unfolding is_reserved_port reserves_at

@@ -1,5 +1,5 @@
 -- What the selection keeps: marks of removed and of reserved boundaries, and the rows taken. Definitions only; assumes nothing.
-use Rattle.std.specs.Prelude.{ℕ, ◌*◌, ◌≤◌, ◌<◌, ◌≡◌, Bool, false, List, [], length, get_or, eqb}
+use Rattle.std.specs.Prelude.{Option, ℕ, ◌*◌, ◌≤◌, ◌<◌, ◌≡◌, Bool, false, List, [], length, get_or, eqb}
 use Rattle.definitions.specs.Limits.{numbers_per_boundary}
 use Rattle.definitions.specs.Scan.{any}
 use Rattle.definitions.specs.Sort.{sort, select}
@@ -7,6 +7,7 @@ use Rattle.definitions.specs.Junctions.{Proposal}
 use Rattle.junction_proposals.specs.declared.proposals.Candidate.{Candidate}
 use Rattle.junction_proposals.specs.Rows.{max_proposals, row_at}
 use Rattle.junction_selection.specs.Ranks.{ranks_at, order_of, allowed_of, reserves_at, conflict_at, Rows}
+use Rattle.context.specs.declared.pairs.Pair as declared
 
 -- row p is whole, and there is a mark for each boundary
 pub record Within (rows : List Candidate) (removed reserved : List Bool) (count p : ℕ) : Type 0 where
@@ -27,11 +28,11 @@ pub record Selecting (rows : List Candidate) (taken : List ℕ) (removed reserve
   pub below : (k : ℕ) → k < n → (row_at rows k).index < count
 
 -- the first t taken rows are `chosen`, and the marks are those of the boundaries that they remove and reserve
-pub record Standing (smaller larger : List ℕ) (rows : List Candidate) (taken : List ℕ) (removed reserved : List Bool) (count n t : ℕ) (chosen : List Proposal) : Type 0 where
+pub record Standing (full : List (Option declared.Pair)) (rows : List Candidate) (taken : List ℕ) (removed reserved : List Bool) (count n t : ℕ) (chosen : List Proposal) : Type 0 where
   pub are : order_of rows taken t ≡ chosen
   pub rows_in : Rows taken t n
   pub removed_at_lem : (j : ℕ) → j < count → get_or removed j false ≡ any (λ q. eqb j q.index) chosen
-  pub reserved_at : (j : ℕ) → j < count → get_or reserved j false ≡ any (λ q. reserves_at smaller larger q j) chosen
+  pub reserved_at : (j : ℕ) → j < count → get_or reserved j false ≡ any (λ q. reserves_at full q j) chosen
 
 -- n rows with a verdict for each, and a mark for each boundary, none of which is set
 pub record Judged (boundaries : List ℕ) (rows : List Candidate) (verdicts removed : List Bool) (count n : ℕ) : Type 0 where
@@ -45,7 +46,7 @@ pub record Judged (boundaries : List ℕ) (rows : List Candidate) (verdicts remo
   pub clear : (j : ℕ) → j < count → get_or removed j false ≡ false
 
 -- what is removed of the rows that are allowed
-unfoldable pub removed_at : List ℕ → List ℕ → List ℕ → List Candidate → List Bool → ℕ → ℕ → ℕ → Bool
+unfoldable pub removed_at : List ℕ → List (Option declared.Pair) → List Candidate → List Bool → ℕ → ℕ → ℕ → Bool
 unfolding any select conflict_at sort ranks_at allowed_of
-removed_at boundaries smaller larger rows verdicts count n j =
-    any (λ q. eqb j q.index) (select (conflict_at smaller larger count) [] (sort (ranks_at boundaries) (allowed_of rows verdicts n)))
+removed_at boundaries full rows verdicts count n j =
+    any (λ q. eqb j q.index) (select (conflict_at full count) [] (sort (ranks_at boundaries) (allowed_of rows verdicts n)))

@@ -2,5 +2,6 @@
 
 #![tactic(auto)]
 
+pub mod found;
 pub mod ranks;
 pub mod selection;

@@ -13,14 +13,14 @@ use Rattle.definitions.specs.MouthShapes.{single, distinct_regions, common_regio
 use Rattle.definitions.specs.Context.{Context, full_cut, only_pair, full_pair, is_incident}
 use Rattle.laws.specs.ListLaws.Lists.{All, more}
 use Rattle.context.specs.Rows.{pair_form}
-use Rattle.mouth_proposals.specs.Rows.{inner_of, shape_form, one_of}
+use Rattle.mouth_proposals.specs.Rows.{is_outer, inner_of, shape_form, one_of}
 use Rattle.mouth_proposals.specs.Candidates.{single_at, star_at, approach_of}
 use Rattle.context.specs.declared.pairs.Pair as shape-pair
 use Rattle.mouth_proposals.specs.declared.shapes.Shape.{Shape}
 use Rattle.mouth_proposals.specs.declared.shapes.Shape.TheVariants as shape
 use Rattle.mouth_proposals.proofs.Distinct.{member-inner, inner_distinct, which-left}
 
-pub shared_is : (C : Context) (m outer : ℕ) (q : Pair) → q.lo < q.hi → {s t : Bool} → (not (eqb q.lo outer) && is_incident C m q.lo) ≡ s → (not (eqb q.hi outer) && is_incident C m q.hi) ≡ t
+pub shared_is : (C : Context) (m : ℕ) (outer : Option ℕ) (q : Pair) → q.lo < q.hi → {s t : Bool} → (not (is_outer outer q.lo) && is_incident C m q.lo) ≡ s → (not (is_outer outer q.hi) && is_incident C m q.hi) ≡ t
     → cond s (cond t None (Some q.lo)) (cond t (Some q.hi) None) ≡ one_of (filter (λ r. contains r q) (inner_of outer (C.pairs m)))
 unfolding is_incident
 shared_is C m outer q h {s} {t} e f =
@@ -52,14 +52,15 @@ abbrev pub Named : ℕ → Pair → Type 0
 Named n p = (1 ≤ p.lo) × ((p.lo < p.hi) × (p.hi ≤ n))
 
 pub one_inner : (p : Pair) (outer : ℕ) {n : ℕ} → Named n p → {s t : Bool} → eqb p.lo outer ≡ s → eqb p.hi outer ≡ t
-    → inner_of outer (p ∷ []) ≡ cond (not s) (p.lo ∷ cond (not t) (p.hi ∷ []) []) (cond (not t) (p.hi ∷ []) [])
+    → inner_of (Some outer) (p ∷ []) ≡ cond (not s) (p.lo ∷ cond (not t) (p.hi ∷ []) []) (cond (not t) (p.hi ∷ []) [])
 unfolding inner_of distinct_regions add_all add_new member any filter
 one_inner p outer h e f =
     ap (λ b. filter (λ r. not (eqb r outer)) (cond (b || false) (p.lo ∷ []) (p.lo ∷ p.hi ∷ []))) (ne_eqb p.hi p.lo (λ k. omega (arith, k)))
     ∙ (λ i. cond (not (e i)) (p.lo ∷ cond (not (f i)) (p.hi ∷ []) []) (cond (not (f i)) (p.hi ∷ []) []))
 
-pub all-inner : (p : Pair) {n : ℕ} → Named n p → inner_of 0 (p ∷ []) ≡ p.lo ∷ p.hi ∷ []
-all-inner p h = one_inner p 0 h (ne_eqb p.lo 0 (λ k. omega (arith, k))) (ne_eqb p.hi 0 (λ k. omega (arith, k)))
+pub all-inner : (p : Pair) {n : ℕ} → Named n p → inner_of None (p ∷ []) ≡ p.lo ∷ p.hi ∷ []
+unfolding inner_of distinct_regions add_all add_new member any filter
+all-inner p h = ap (λ b. filter (λ r. true) (cond (b || false) (p.lo ∷ []) (p.lo ∷ p.hi ∷ []))) (ne_eqb p.hi p.lo (λ k. omega (arith, k)))
 
 -- a full pair is the boundary's one pair
 pub full-pairs : (C : Context) (a : ℕ) (q : Pair) → Some q ≡ full_pair C a → C.pairs a ≡ q ∷ []
@@ -81,13 +82,13 @@ all_of_one {P} {l} {q} e a = head (subst (All P) e a)
 -- ---- by the shape, q being the ramp's full pair
 
 module _ (l : List Pair) (q : Pair) where
-  abbrev shared : ℕ → Option ℕ
+  abbrev shared : Option ℕ → Option ℕ
   shared outer = one_of (filter (λ r. contains r q) (inner_of outer l))
 
   module _ (s : Shape) (e : shape_form l (Some s) ≡ mouth_shape true l) where
-    pub from_single : {n : ℕ} → All (Named n) l → {p : shape-pair.Pair} → s ≡ shape.Single p → {r : Option ℕ} → r ≡ shared 0 → single_at (pair_form p) r ≡ approach_of (Some q) (mouth_shape true l)
+    pub from_single : {n : ℕ} → All (Named n) l → {p : shape-pair.Pair} → s ≡ shape.Single p → {r : Option ℕ} → r ≡ shared None → single_at (pair_form p) r ≡ approach_of (Some q) (mouth_shape true l)
     from_single named {p} k d =
-        ap (single_at (pair_form p)) (d ∙ ap (λ l. one_of (filter (λ r. contains r q) l)) (ap (inner_of 0) one ∙ all-inner (pair_form p) (all_of_one one named)))
+        ap (single_at (pair_form p)) (d ∙ ap (λ l. one_of (filter (λ r. contains r q) l)) (ap (inner_of None) one ∙ all-inner (pair_form p) (all_of_one one named)))
         ∙ ap (approach_of (Some q)) single_here
       where
         single_here : Some (single (pair_form p)) ≡ mouth_shape true l
@@ -96,6 +97,6 @@ module _ (l : List Pair) (q : Pair) where
         one : l ≡ pair_form p ∷ []
         one = single-pairs l (pair_form p) (sym (ap (λ s. shape_form l (Some s)) k) ∙ e)
 
-    pub from_star : {outer : ℕ} → s ≡ shape.Star outer → {r : Option ℕ} → r ≡ shared outer → star_at outer r ≡ approach_of (Some q) (mouth_shape true l)
+    pub from_star : {outer : ℕ} → s ≡ shape.Star outer → {r : Option ℕ} → r ≡ shared (Some outer) → star_at outer r ≡ approach_of (Some q) (mouth_shape true l)
     unfolding inner_of
     from_star {outer} k d = ap (star_at outer) d ∙ ap (approach_of (Some q)) (sym (ap (λ s. shape_form l (Some s)) k) ∙ e)

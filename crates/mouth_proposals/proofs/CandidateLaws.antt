@@ -1,5 +1,5 @@
 -- The list of candidates grows by what is found, or stays. Assumes nothing.
-use Prim.Native.Nat.{ℕ, ◌+◌, ◌≤◌, ◌<◌}
+use Prim.Native.Nat.{ℕ, ◌+◌, ◌<◌}
 use native.Mathlib.Omega.{arith}
 use mathlib.Core.Path.{◌≡◌, sym, ap, ap₂, ◌∙◌, subst}
 use mathlib.Core.Bool.{Bool, true, false, not}
@@ -16,7 +16,7 @@ use Rattle.laws.specs.ListLaws.ScanSteps.{collect_next}
 use Rattle.laws.specs.ListLaws.Scans.{collect_ext}
 use Rattle.laws.specs.RustMouths.Separations.{Apart, separation-apart}
 use Rattle.laws.specs.NumberLaws.Comparisons.{last_or}
-use Rattle.mouth_proposals.specs.Candidates.{proposal_of, found_mouth, mouth_candidate}
+use Rattle.mouth_proposals.specs.Candidates.{Numbered, proposal_of, found_mouth, mouth_candidate}
 use Rattle.mouth_proposals.specs.Listed.{max_candidates, blank, proposal_in, entry_at, Filled, Roomy}
 use Rattle.mouth_proposals.specs.declared.candidates.Candidate.{Candidate}
 use Rattle.mouth_proposals.specs.declared.mouths.MouthKind.{MouthKind}
@@ -38,7 +38,7 @@ module _ (C : Context) (a m : ℕ) where
   unfolding mouth_candidate
   none_found e = ap (retain (λ p. not (lt max_mouth_distance p.separation))) (sym e)
 
-  module _ (outer : ℕ) (kind : MouthKind) (e : Some (proposal_of C m a outer kind) ≡ found_mouth C a m) where
+  module _ (outer : Option ℕ) (kind : MouthKind) (e : Some (proposal_of C m a outer kind) ≡ found_mouth C a m) where
     found_at : {b : Bool} → not (lt max_mouth_distance (separation_of C m a)) ≡ b → mouth_candidate C a m ≡ only_if b (proposal_of C m a outer kind)
     unfolding mouth_candidate proposal_of
     found_at f = ap (retain (λ p. not (lt max_mouth_distance p.separation))) (sym e) ∙ ap (λ b. only_if b (proposal_of C m a outer kind)) f
@@ -73,7 +73,7 @@ module _ (C : Context) (put : Candidate) {entries : List Candidate} {n : ℕ} {l
   each Q old new k h =
       ⊎_elim (λ s. subst (λ k. Q (get_or more k blank)) (sym s) (subst Q (sym new_at) new)) (λ s. subst Q (sym (old_at k s)) (old k s)) (last_or k n (subst (λ j. k < j) (omega arith) h))
 
-  pub filled_more : put.mouth < C.count → put.ramp < C.count → put.outer ≤ C.regions → put.separation ≡ to_bits binary64 (separation_of C put.mouth put.ramp) → {o : Option MouthProposal} → o ≡ Some (proposal_in C put)
+  pub filled_more : put.mouth < C.count → put.ramp < C.count → Numbered C.regions put.outer → put.separation ≡ to_bits binary64 (separation_of C put.mouth put.ramp) → {o : Option MouthProposal} → o ≡ Some (proposal_in C put)
       → Filled C more (n + 1) (l ++ to_list o)
   filled_more hm ha ho hb {o} e =
       record {
@@ -82,7 +82,7 @@ module _ (C : Context) (put : Candidate) {entries : List Candidate} {n : ℕ} {l
               few = omega arith;
               mouth = each (λ x. x.mouth < C.count) F.listed.mouth hm;
               ramp = each (λ x. x.ramp < C.count) F.listed.ramp ha;
-              outer = each (λ x. x.outer ≤ C.regions) F.listed.outer ho;
+              outer = each (λ x. Numbered C.regions x.outer) F.listed.outer ho;
               bits = each (λ x. x.separation ≡ to_bits binary64 (separation_of C x.mouth x.ramp)) F.listed.bits hb;
             };
         proposed =

@@ -3,7 +3,7 @@ use Prim.Native.Nat.{ℕ, suc}
 use native.Mathlib.Omega.{arith}
 use mathlib.Core.Path.{◌≡◌, refl, sym, ap, ap₂, ◌∙◌}
 use mathlib.Core.Bool.{Bool, true, false, not, ◌&&◌, ◌||◌, cond, or-false, or_comm, false≢true}
-use Rattle.std.specs.Prelude.{None, Some}
+use Rattle.std.specs.Prelude.{Option, None, Some}
 use mathlib.Core.List.{List, [], ◌∷◌, ◌++◌}
 use lib.ListN.{length}
 use lib.Dec.{eqb, leb}
@@ -16,7 +16,7 @@ use Rattle.laws.specs.ListLaws.ListsAsSets.{member-add_all}
 use Rattle.laws.specs.OrderLaws.ListOrder.{eqb_sym}
 use Rattle.laws.specs.RustMouths.Triangles.{any-regions}
 use Rattle.laws.specs.ListLaws.Tests.{neither}
-use Rattle.mouth_proposals.specs.Rows.{inner_of, one_of}
+use Rattle.mouth_proposals.specs.Rows.{is_outer, inner_of, one_of}
 
 pub data Distinct : List ℕ → Type 0 where
   empty : Distinct []
@@ -44,9 +44,9 @@ pub member_distinct : (x : ℕ) (l : List Pair) → member x (distinct_regions l
 unfolding distinct_regions member any
 member_distinct x l = member-add_all x [] (regions_of l) ∙ any-regions (eqb x) l ∙ (λ i. any (λ p. eqb_sym x p.lo i || eqb_sym x p.hi i) l)
 
-pub member-inner : (outer x : ℕ) (l : List Pair) → member x (inner_of outer l) ≡ (not (eqb x outer) && any (contains x) l)
+pub member-inner : (outer : Option ℕ) (x : ℕ) (l : List Pair) → member x (inner_of outer l) ≡ (not (is_outer outer x) && any (contains x) l)
 unfolding inner_of
-member-inner outer x l = member_filter (λ r. not (eqb r outer)) x (distinct_regions l) ∙ ap (λ b. not (eqb x outer) && b) (member_distinct x l)
+member-inner outer x l = member_filter (λ r. not (is_outer outer r)) x (distinct_regions l) ∙ ap (λ b. not (is_outer outer x) && b) (member_distinct x l)
 
 -- ---- how they are made
 
@@ -84,9 +84,9 @@ unfolding add_all
 all_distinct {l = l} [] d = d
 all_distinct {l = l} (x ∷ m) d = all_distinct {l = add_new l x} m (add_distinct x d)
 
-pub inner_distinct : (outer : ℕ) (l : List Pair) → Distinct (inner_of outer l)
+pub inner_distinct : (outer : Option ℕ) (l : List Pair) → Distinct (inner_of outer l)
 unfolding inner_of distinct_regions
-inner_distinct outer l = filter_distinct (λ r. not (eqb r outer)) (all_distinct (regions_of l) empty)
+inner_distinct outer l = filter_distinct (λ r. not (is_outer outer r)) (all_distinct (regions_of l) empty)
 
 -- ---- which of two numbers stand there
 

@@ -1,9 +1,10 @@
 -- A proposal of an approach by the tests that the code makes, and what the lists show of anchors and incidents. Assumes nothing.
 use Prim.Native.Nat.{ℕ, ◌-◌, ◌≤◌}
 use native.Mathlib.Omega.{arith}
-use mathlib.Core.Path.{◌≡◌, sym, ap, ◌∙◌}
-use mathlib.Core.Bool.{Bool, not, ◌&&◌, ◌||◌, cond}
-use Rattle.std.specs.Prelude.{Some}
+use mathlib.Core.Path.{◌≡◌, refl, sym, ap, ◌∙◌}
+use mathlib.Core.Bool.{Bool, true, false, not, ◌&&◌, ◌||◌, cond, false≢true}
+use Rattle.std.specs.Bool.{then_some}
+use Rattle.std.specs.Prelude.{Option, None, Some}
 use mathlib.Core.List.{List}
 use lib.ListN.{get_or}
 use lib.Dec.{eqb}
@@ -11,13 +12,14 @@ use Rattle.definitions.specs.Scan.{all, only_if}
 use Rattle.definitions.specs.Grid.{Pair}
 use Rattle.definitions.specs.MouthShapes.{regions_of}
 use Rattle.definitions.specs.Context.{Context, incident_count}
-use Rattle.definitions.specs.RampMouths.{broad_mouth, overlay_only, other_end_incident}
+use Rattle.definitions.specs.RampMouths.{MouthProposal, broad_mouth, overlay_only, other_end_incident}
 use Rattle.laws.specs.ListLaws.Lists.{All, done, more}
 use Rattle.laws.specs.RustMouths.MouthKept.{all-agree}
 use Rattle.context.specs.Shown.{ShownIncidents, ShownAnchored}
 use Rattle.mouth_proposals.specs.Outers.{mark_at, inner_fits}
-use Rattle.mouth_proposals.specs.Candidates.{proposal_of, broad, plain, single_fits, star_fits, approach_mouth}
+use Rattle.mouth_proposals.specs.Candidates.{proposal_of, candidate_form, broad, plain, single_fits, star_fits, approach_mouth}
 use Rattle.mouth_proposals.specs.declared.approaches.Approach.TheVariants as approach
+use Rattle.mouth_proposals.specs.declared.mouths.MouthKind.{MouthKind}
 use Rattle.mouth_proposals.proofs.ApproachLaws.{Named}
 
 module _ (C : Context) (m a outer r : ℕ) where
@@ -25,16 +27,50 @@ module _ (C : Context) (m a outer r : ℕ) where
   abbrev pub fits_in : ℕ → Bool
   fits_in s = eqb s outer || not (C.anchored s) && (eqb s r || eqb (incident_count C s) 1)
 
-  pub single_by : {x z e k : Bool} → C.anchored r ≡ x → (overlay_only C m a && (C.anchored outer || not (eqb (incident_count C r) 2))) ≡ z → other_end_incident C a r ≡ e
-      → ((broad_mouth C m a || overlay_only C m a) && eqb (incident_count C r) 2) ≡ k
-      → only_if (not x && (not z && not e)) (proposal_of C m a outer (cond k broad plain)) ≡ approach_mouth C m a (Some (approach.Single outer r))
-  unfolding approach_mouth single_fits
-  single_by hx hz he hk = sym (λ i. only_if (not (hx i) && (not (hz i) && not (he i))) (proposal_of C m a outer (cond (hk i) broad plain)))
+  abbrev about : MouthKind → MouthProposal
+  about k = proposal_of C m a (Some outer) k
 
-  pub star_by : {o t f e w : Bool} → overlay_only C m a ≡ o → eqb (incident_count C r) 2 ≡ t → all fits_in (regions_of (C.pairs m)) ≡ f → other_end_incident C a r ≡ e → broad_mouth C m a ≡ w
-      → only_if (not o && (t && (f && not e))) (proposal_of C m a outer (cond w broad plain)) ≡ approach_mouth C m a (Some (approach.Star outer r))
+  formed : (b : Bool) {k l : MouthKind} → k ≡ l → candidate_form C m a (then_some b (record { outer = Some outer; kind = k })) ≡ only_if b (about l)
+  formed true e = ap (λ k. Some (about k)) e
+  formed false e = refl
+
+  pub single_by : {x z e k : Bool} {f : MouthKind} → C.anchored r ≡ x → (overlay_only C m a && (C.anchored outer || not (eqb (incident_count C r) 2))) ≡ z → other_end_incident C a r ≡ e
+      → ((broad_mouth C m a || overlay_only C m a) && eqb (incident_count C r) 2) ≡ k → f ≡ cond k broad plain
+      → candidate_form C m a (then_some (not x && (not z && not e)) (record { outer = Some outer; kind = f })) ≡ approach_mouth C m a (Some (approach.Single (record { outer = outer; approach = r })))
+  unfolding approach_mouth single_fits
+  single_by {x} {z} {e} hx hz he hk hf = formed (not x && (not z && not e)) hf ∙ sym (λ i. only_if (not (hx i) && (not (hz i) && not (he i))) (about (cond (hk i) broad plain)))
+
+  abbrev star_if : Bool → Bool → Bool → Bool → Bool → Option MouthProposal
+  star_if o t f e w = only_if (not o && (t && (f && not e))) (about (cond w broad plain))
+
+  star_by : {o t e w : Bool} (f : Bool) → overlay_only C m a ≡ o → eqb (incident_count C r) 2 ≡ t → all fits_in (regions_of (C.pairs m)) ≡ f → other_end_incident C a r ≡ e → broad_mouth C m a ≡ w
+      → approach_mouth C m a (Some (approach.Star (record { outer = outer; approach = r }))) ≡ star_if o t f e w
   unfolding approach_mouth star_fits
-  star_by ho ht hf he hw = sym (λ i. only_if (not (ho i) && (ht i && (hf i && not (he i)))) (proposal_of C m a outer (cond (hw i) broad plain)))
+  star_by f ho ht hf he hw = λ i. star_if (ho i) (ht i) (hf i) (he i) (hw i)
+
+  module _ {o t e : Bool} (ho : overlay_only C m a ≡ o) (ht : eqb (incident_count C r) 2 ≡ t) (he : other_end_incident C a r ≡ e) where
+    -- no star is proposed, whatever its regions
+    pub star_none : ((o || not t) || e) ≡ true → None ≡ approach_mouth C m a (Some (approach.Star (record { outer = outer; approach = r })))
+    star_none h = sym (star_by (all fits_in (regions_of (C.pairs m))) ho ht refl he refl ∙ go o t e (all fits_in (regions_of (C.pairs m))) h)
+      where
+        go : (o t e f : Bool) → ((o || not t) || e) ≡ true → star_if o t f e (broad_mouth C m a) ≡ None
+        go true t e f h = refl
+        go false false e f h = refl
+        go false true true true h = refl
+        go false true true false h = refl
+        go false true false f h = absurd (false≢true h)
+
+    -- it is where they fit
+    pub star_when : ((o || not t) || e) ≡ false → {f : Bool} {k : MouthKind} → all fits_in (regions_of (C.pairs m)) ≡ f → {w : Bool} → broad_mouth C m a ≡ w → k ≡ cond w broad plain
+        → candidate_form C m a (then_some f (record { outer = Some outer; kind = k })) ≡ approach_mouth C m a (Some (approach.Star (record { outer = outer; approach = r })))
+    star_when h {f} hf {w} hw hk = formed f hk ∙ sym (star_by f ho ht hf he hw ∙ go o t e f h)
+      where
+        go : (o t e f : Bool) → ((o || not t) || e) ≡ false → star_if o t f e w ≡ only_if f (about (cond w broad plain))
+        go true t e f h = absurd (false≢true (sym h))
+        go false false e f h = absurd (false≢true (sym h))
+        go false true true f h = absurd (false≢true (sym h))
+        go false true false true h = refl
+        go false true false false h = refl
 
 -- regions of pairs are numbered
 pub all-named-regions : {n : ℕ} {l : List Pair} → All (Named n) l → All (λ s. (1 ≤ s) × (s ≤ n)) (regions_of l)

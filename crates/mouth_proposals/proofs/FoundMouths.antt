@@ -1,20 +1,27 @@
 -- What is found of a mouth and a ramp, by the tests in the order in which the code makes them. Assumes nothing.
-use Prim.Native.Nat.{ℕ}
+use Prim.Native.Nat.{ℕ, ◌+◌, ◌*◌, ◌<◌}
 use native.Mathlib.Omega.{arith}
 use mathlib.Core.Path.{◌≡◌, refl, sym, ap, ◌∙◌}
 use mathlib.Core.Bool.{Bool, true, false, not, ◌&&◌, ◌||◌, cond, false≢true}
 use Rattle.std.specs.Prelude.{Option, None, Some}
 use mathlib.Core.List.{List, [], ◌∷◌}
-use lib.ListN.{length}
+use lib.ListN.{length, get_or}
+use lib.Dec.{eqb}
+use borrow.Author.Tests.{eq-eqb}
+use Rattle.definitions.specs.Limits.{numbers_per_boundary}
 use Rattle.definitions.specs.Scan.{only_if}
 use Rattle.definitions.specs.Grid.{Pair}
 use Rattle.definitions.specs.MouthShapes.{distinct_regions, mouth_shape, triangle_representative}
 use Rattle.definitions.specs.Context.{Context, full_cut, full_pair, no_ramp}
 use Rattle.definitions.specs.RampMouths.{MouthProposal, broad_mouth, nearby_representative, overlay_representative, shaped_mouth, triangle_mouth, triangle, triangle_or}
 use Rattle.laws.specs.ListLaws.Lists.{All}
-use Rattle.mouth_proposals.specs.Candidates.{approach_of, approach_mouth, found_mouth}
+use Rattle.mouth_proposals.specs.Rows.{rows_of}
+use Rattle.mouth_proposals.specs.Lent.{Shows}
+use Rattle.mouth_proposals.specs.Candidates.{Measured, approach_of, approach_mouth, found_mouth}
+use Rattle.mouth_proposals.specs.declared.measures.Measures.{Measures}
 use Rattle.mouth_proposals.specs.declared.approaches.Approach.{Approach}
 use Rattle.mouth_proposals.proofs.ApproachLaws.{Named}
+use Rattle.mouth_proposals.proofs.SafeLists.{kind-shown, triangle-shown}
 use Rattle.mouth_proposals.proofs.ShapedMouths.{shaped_is}
 
 -- a triangle has two rows
@@ -28,23 +35,23 @@ triangle_two l k rs t e h = go l k (e ∙ ap (λ b. only_if b rs) h)
     go (p ∷ q ∷ []) k e = refl
     go (p ∷ q ∷ r ∷ l) k e = absurd (let z : ◌≡◌ {A = ℕ} 0 1 = cc in omega arith)
 
-module _ (C : Context) (a m : ℕ) (ramp : no_ramp C a ≡ false) (cut : full_cut C a ≡ true) where
+module _ (C : Context) (a m : ℕ) where
   abbrev near : Bool
   near = broad_mouth C m a || nearby_representative C m a || overlay_representative C m a
 
   abbrev rest : Option MouthProposal
   rest = triangle_or C (triangle C m a) m a (shaped_mouth C m a (full_pair C a) (mouth_shape (full_cut C m) (C.pairs m)))
 
-  reached : {b : Bool} → no_ramp C m ≡ b → found_mouth C a m ≡ cond (b && near) rest None
-  unfolding found_mouth
-  reached e = λ i. cond (not (ramp i) && cut i && e i && near) rest None
+  module _ (ramp : no_ramp C a ≡ false) (cut : full_cut C a ≡ true) where
+    reached : {b : Bool} → no_ramp C m ≡ b → found_mouth C a m ≡ cond (b && near) rest None
+    unfolding found_mouth
+    reached e = λ i. cond (not (ramp i) && cut i && e i && near) rest None
 
-  pub has_ramp_lem : no_ramp C m ≡ false → None ≡ found_mouth C a m
-  has_ramp_lem e = sym (reached e)
+    pub has_ramp_lem : no_ramp C m ≡ false → None ≡ found_mouth C a m
+    has_ramp_lem e = sym (reached e)
 
-  module _ (plain : no_ramp C m ≡ true) where
-    pub not_full : full_cut C m ≡ false → None ≡ found_mouth C a m
-    not_full e = sym (reached plain ∙ both near rest nothing)
+    pub not_full : no_ramp C m ≡ true → full_cut C m ≡ false → None ≡ found_mouth C a m
+    not_full plain e = sym (reached plain ∙ both near rest nothing)
       where
         shapeless : (q : Option Pair) → shaped_mouth C m a q None ≡ None
         shapeless None = unfold shaped_mouth in refl
@@ -72,56 +79,86 @@ module _ (C : Context) (a m : ℕ) (ramp : no_ramp C a ≡ false) (cut : full_cu
         both true o h = h
         both false o h = refl
 
-    module _ {n : ℕ} (full : full_cut C m ≡ true) (named : All (Named n) (C.pairs m)) (t : Bool) (three : triangle_representative (C.pairs m) (C.pairs a) ≡ only_if t (distinct_regions (C.pairs m))) (A : Option Approach) (by : A ≡ approach_of (full_pair C a) (mouth_shape true (C.pairs m))) where
-      triangle_by : {b : Bool} → nearby_representative C m a ≡ b → triangle C m a ≡ cond b (only_if t (distinct_regions (C.pairs m))) None
-      unfolding triangle
-      triangle_by {b} e = (λ i. cond (e i && full i && cut i) (three i) None) ∙ go b
-        where
-          go : (b : Bool) → cond (b && true && true) (only_if t (distinct_regions (C.pairs m))) None ≡ cond b (only_if t (distinct_regions (C.pairs m))) None
-          go true = refl
-          go false = refl
+-- what the first tests have shown: a ramp and a mouth, both full cuts, with what was found of their triangle and of the mouth's approach
+pub record Tried (C : Context) (a m : ℕ) (t : Bool) (A : Option Approach) : Type 0 where
+  pub ramp : no_ramp C a ≡ false
+  pub cut : full_cut C a ≡ true
+  pub plain : no_ramp C m ≡ true
+  pub full : full_cut C m ≡ true
+  pub named : All (Named C.regions) (C.pairs m)
+  pub three : triangle_representative (C.pairs m) (C.pairs a) ≡ only_if t (distinct_regions (C.pairs m))
+  pub by : A ≡ approach_of (full_pair C a) (mouth_shape true (C.pairs m))
 
-      found_by : {b : Bool} → nearby_representative C m a ≡ b → {g : Bool} → near ≡ g → found_mouth C a m ≡ cond g (triangle_or C (cond b (only_if t (distinct_regions (C.pairs m))) None) m a (approach_mouth C m a A)) None
-      found_by {b} e {g} f =
-          reached plain ∙ (λ i. cond (f i) (triangle_or C (triangle_by e i) m a (shaped_mouth C m a (full_pair C a) (mouth_shape (full i) (C.pairs m)))) None)
-          ∙ ap (λ p. cond g (triangle_or C (cond b (only_if t (distinct_regions (C.pairs m))) None) m a p) None) (shaped_is C m a named ∙ ap (approach_mouth C m a) (sym by))
+-- from the lists; k is the kind that was read of the mouth
+pub tried : {boundaries pairs starts counts marks : List ℕ} {count : ℕ} {C : Context} → Shows boundaries pairs starts counts marks count C → {m a : ℕ} → m < C.count → a < C.count → no_ramp C a ≡ false → full_cut C a ≡ true
+    → {k : ℕ} → k ≡ get_or boundaries (numbers_per_boundary * m + 5) 0 → k ≡ 0 → full_cut C m ≡ true
+    → {t : Bool} → triangle_representative (rows_of pairs starts m) (rows_of pairs starts a) ≡ only_if t (distinct_regions (rows_of pairs starts m))
+    → {A : Option Approach} → A ≡ approach_of (full_pair C a) (mouth_shape true (C.pairs m)) → Tried C a m t A
+tried S {m} {a} lm la ramp cut e z full {t} h by =
+    record {
+      ramp = ramp;
+      cut = cut;
+      plain = kind-shown S.bounds m lm ∙ ap (λ k. eqb k 0) (sym e) ∙ eq-eqb _ 0 z;
+      full = full;
+      named = S.rows.named m lm;
+      three = triangle-shown S.rows m a lm la t h;
+      by = by;
+    }
 
-      measured : {w b o : Bool} → broad_mouth C m a ≡ w → nearby_representative C m a ≡ b → overlay_representative C m a ≡ o → near ≡ ((w || b) || o)
-      measured {w} {b} {o} e f g = (λ i. e i || f i || g i) ∙ go w b
-        where
-          go : (x y : Bool) → (x || y || o) ≡ ((x || y) || o)
-          go true y = refl
-          go false y = refl
+module _ {C : Context} {a m : ℕ} {t : Bool} {A : Option Approach} (T : Tried C a m t A) where
+  abbrev three : Option (List ℕ)
+  three = only_if t (distinct_regions (C.pairs m))
 
-      -- neither a triangle nor an approach
-      pub no_shape : t ≡ false → A ≡ None → None ≡ found_mouth C a m
-      no_shape e k =
-          sym (found_by {b = nearby_representative C m a} refl {g = near} refl
-          ∙ (λ i. cond near (triangle_or C (cond (nearby_representative C m a) (only_if (e i) (distinct_regions (C.pairs m))) None) m a (approach_mouth C m a (k i))) None)
-          ∙ go near (nearby_representative C m a))
-        where
-          go : (g b : Bool) → cond g (triangle_or C (cond b None None) m a (approach_mouth C m a None)) None ≡ None
-          go true true = unfold triangle_or in (unfold approach_mouth in refl)
-          go true false = unfold triangle_or in (unfold approach_mouth in refl)
-          go false b = refl
+  triangle_by : {b : Bool} → nearby_representative C m a ≡ b → triangle C m a ≡ cond b three None
+  unfolding triangle
+  triangle_by {b} e = (λ i. cond (e i && T.full i && T.cut i) (T.three i) None) ∙ go b
+    where
+      go : (b : Bool) → cond (b && true && true) three None ≡ cond b three None
+      go true = refl
+      go false = refl
 
-      module _ (w b o : Bool) (e : broad_mouth C m a ≡ w) (f : nearby_representative C m a ≡ b) (g : overlay_representative C m a ≡ o) where
-        pub too_far : ((w || b) || o) ≡ false → None ≡ found_mouth C a m
-        too_far h = sym (found_by f (measured e f g ∙ h))
+  found_by : {b : Bool} → nearby_representative C m a ≡ b → {g : Bool} → near C a m ≡ g → found_mouth C a m ≡ cond g (triangle_or C (cond b three None) m a (approach_mouth C m a A)) None
+  found_by {b} e {g} f =
+      reached C a m T.ramp T.cut T.plain ∙ (λ i. cond (f i) (triangle_or C (triangle_by e i) m a (shaped_mouth C m a (full_pair C a) (mouth_shape (T.full i) (C.pairs m)))) None)
+      ∙ ap (λ p. cond g (triangle_or C (cond b three None) m a p) None) (shaped_is C m a T.named ∙ ap (approach_mouth C m a) (sym T.by))
 
-        pub by_triangle : (b && t) ≡ true → triangle_mouth C m a (distinct_regions (C.pairs m)) ≡ found_mouth C a m
-        by_triangle h = sym (found_by f (measured e f g) ∙ go b t w h)
-          where
-            go : (b t w : Bool) → (b && t) ≡ true → cond ((w || b) || o) (triangle_or C (cond b (only_if t (distinct_regions (C.pairs m))) None) m a (approach_mouth C m a A)) None ≡ triangle_mouth C m a (distinct_regions (C.pairs m))
-            go true true true h = unfold triangle_or in refl
-            go true true false h = unfold triangle_or in refl
-            go true false w h = absurd (false≢true h)
-            go false t w h = absurd (false≢true h)
+  -- neither a triangle nor an approach
+  pub no_shape : t ≡ false → A ≡ None → None ≡ found_mouth C a m
+  no_shape e k =
+      sym (found_by {b = nearby_representative C m a} refl {g = near C a m} refl
+      ∙ (λ i. cond (near C a m) (triangle_or C (cond (nearby_representative C m a) (only_if (e i) (distinct_regions (C.pairs m))) None) m a (approach_mouth C m a (k i))) None)
+      ∙ go (near C a m) (nearby_representative C m a))
+    where
+      go : (g b : Bool) → cond g (triangle_or C (cond b None None) m a (approach_mouth C m a None)) None ≡ None
+      go true true = unfold triangle_or in (unfold approach_mouth in refl)
+      go true false = unfold triangle_or in (unfold approach_mouth in refl)
+      go false b = refl
 
-        pub by_approach : ((w || b) || o) ≡ true → (b && t) ≡ false → approach_mouth C m a A ≡ found_mouth C a m
-        by_approach k h = sym (found_by f (measured e f g ∙ k) ∙ go b t h)
-          where
-            go : (b t : Bool) → (b && t) ≡ false → triangle_or C (cond b (only_if t (distinct_regions (C.pairs m))) None) m a (approach_mouth C m a A) ≡ approach_mouth C m a A
-            go true true h = absurd (false≢true (sym h))
-            go true false h = unfold triangle_or in refl
-            go false t h = unfold triangle_or in refl
+  module _ {s : Measures} (M : Measured C m a s) where
+    measured : near C a m ≡ ((s.broad || s.nearby) || s.overlay)
+    measured = sym (λ i. M.broad i || M.nearby i || M.overlay i) ∙ go s.broad s.nearby
+      where
+        go : (x y : Bool) → (x || y || s.overlay) ≡ ((x || y) || s.overlay)
+        go true y = refl
+        go false true = refl
+        go false false = refl
+
+    pub too_far : ((s.broad || s.nearby) || s.overlay) ≡ false → None ≡ found_mouth C a m
+    too_far h = sym (found_by (sym M.nearby) (measured ∙ h))
+
+    pub by_triangle : (s.nearby && t) ≡ true → triangle_mouth C m a (distinct_regions (C.pairs m)) ≡ found_mouth C a m
+    by_triangle h = sym (found_by (sym M.nearby) measured ∙ go s.nearby t s.broad h)
+      where
+        go : (b t w : Bool) → (b && t) ≡ true → cond ((w || b) || s.overlay) (triangle_or C (cond b (only_if t (distinct_regions (C.pairs m))) None) m a (approach_mouth C m a A)) None ≡ triangle_mouth C m a (distinct_regions (C.pairs m))
+        go true true true h = unfold triangle_or in refl
+        go true true false h = unfold triangle_or in refl
+        go true false w h = absurd (false≢true h)
+        go false t w h = absurd (false≢true h)
+
+    pub by_approach : ((s.broad || s.nearby) || s.overlay) ≡ true → (s.nearby && t) ≡ false → approach_mouth C m a A ≡ found_mouth C a m
+    by_approach k h = sym (found_by (sym M.nearby) (measured ∙ k) ∙ go s.nearby t h)
+      where
+        go : (b t : Bool) → (b && t) ≡ false → triangle_or C (cond b (only_if t (distinct_regions (C.pairs m))) None) m a (approach_mouth C m a A) ≡ approach_mouth C m a A
+        go true true h = absurd (false≢true (sym h))
+        go true false h = unfold triangle_or in refl
+        go false t h = unfold triangle_or in refl

@@ -2,7 +2,7 @@
 use Prim.Native.Nat.{ℕ}
 use native.Mathlib.Omega.{arith}
 use mathlib.Core.Path.{◌≡◌, refl, sym, ap, ◌∙◌, subst}
-use mathlib.Core.Bool.{Bool, true, false, ◌||◌, cond, false≢true}
+use mathlib.Core.Bool.{Bool, true, false, ◌||◌, cond}
 use Rattle.std.specs.Prelude.{Option, None, Some}
 use mathlib.Core.List.{List, [], ◌∷◌}
 use lib.Dec.{eqb}
@@ -21,11 +21,7 @@ use Rattle.mouth_proposals.specs.declared.approaches.Approach.{Approach}
 use Rattle.mouth_proposals.specs.declared.ends.OtherEnds.{OtherEnds}
 
 module _ (C : Context) (a : ℕ) where
-  -- without a full pair no region is asked for
-  pub none_asked : (ends : OtherEnds) → None ≡ full_pair C a → EndsOf C a ends
-  none_asked ends e = record { at = λ r h. absurd (false≢true (ap (λ o. holds o (contains r)) e ∙ h)) }
-
-  pub both_found : (q : Pair) {x y : Bool} → Some q ≡ full_pair C a → x ≡ other_end_incident C a q.lo → y ≡ other_end_incident C a q.hi → EndsOf C a (record { lo = q.lo; at_lo = x; at_hi = y })
+  pub both_found : (q : Pair) {x y : Bool} → Some q ≡ full_pair C a → x ≡ other_end_incident C a q.lo → y ≡ other_end_incident C a q.hi → EndsOf C a (Some (record { lo = q.lo; at_lo = x; at_hi = y }))
   both_found q {x} {y} e f g = record { at = λ r h. go r (eqb q.lo r) refl (ap (λ o. holds o (contains r)) e ∙ h) }
     where
       go : (r : ℕ) (b : Bool) → eqb q.lo r ≡ b → (b || eqb q.hi r) ≡ true → cond b x y ≡ other_end_incident C a r
@@ -39,7 +35,7 @@ one_of_lem {P} (more {x = x} h done) r e =
     subst P same h
 one_of_lem (more h (more k t)) r e = absurd (let z : ◌≡◌ {A = ℕ} 0 1 = cc in omega arith)
 
-module _ (C : Context) (a : ℕ) (ends : OtherEnds) where
+module _ (C : Context) (a : ℕ) (ends : Option OtherEnds) where
   abbrev Right : ℕ → Type 0
   Right r = end_at ends r ≡ other_end_incident C a r
 

@@ -8,7 +8,6 @@ mod FoundMouths
 mod KnownEnds
 mod Literals
 pub mod Measured
-mod OtherEnds
 pub mod OuterWithin
 pub mod RowLists
 mod SafeLists

@@ -1,7 +1,7 @@
 -- What is measured of two boundaries of the list is what the definitions measure in a context that the list shows. Assumes nothing.
 use Prim.Native.Nat.{ℕ, ◌+◌, ◌*◌, ◌<◌}
-use mathlib.Core.Path.{◌≡◌, sym, ap, ap₂, ◌∙◌, subst⁻¹}
-use mathlib.Core.Bool.{Bool, false, ◌&&◌}
+use mathlib.Core.Path.{◌≡◌, refl, sym, ap, ap₂, ◌∙◌, subst⁻¹}
+use mathlib.Core.Bool.{Bool, true, false, not, ◌&&◌}
 use mathlib.Core.List.{List}
 use lib.ListN.{get_or}
 use lib.Ieee.{Float, binary64, le, mul, of_bits}
@@ -9,7 +9,7 @@ use Rattle.definitions.specs.Limits.{numbers_per_boundary}
 use Rattle.definitions.specs.Grid.{Segment, segment_at}
 use Rattle.definitions.specs.RampGeometry.{fmin, fmax, overlapping_ramp_representative}
 use Rattle.definitions.specs.Context.{Context, width}
-use Rattle.definitions.specs.RampMouths.{max_overlay_width_ratio, broad_mouth, overlay_representative}
+use Rattle.definitions.specs.RampMouths.{max_overlay_width_ratio, broad_mouth, nearby_representative, overlay_representative, overlay_only}
 use Rattle.laws.specs.FloatLaws.Pixels.{PixelSegment}
 use Rattle.context.specs.Shown.{ShownBoundaries}
 use Rattle.mouth_proposals.proofs.Literals.{two_is, ratio_is}
@@ -44,3 +44,11 @@ module _ (C : Context) (m a : ℕ) {mouth ramp : Float} (mw : mouth ≡ width C 
     pub overlay-not : le larger (mul binary64 (of_bits binary64 0x3FF8000000000000) smaller) ≡ false → false ≡ overlay_representative C m a
     unfolding overlay_representative
     overlay-not e = ap (λ b. b && overlapping_ramp_representative (C.boundary m).endpoints (C.boundary a).endpoints) (sym e ∙ compared)
+
+pub overlay_only_lem : (C : Context) (m a : ℕ) {w n o : Bool} → w ≡ broad_mouth C m a → n ≡ nearby_representative C m a → o ≡ overlay_representative C m a → ((o && not n) && not w) ≡ overlay_only C m a
+unfolding overlay_only
+overlay_only_lem C m a {w} {n} {o} e f g = go o (not n) ∙ (λ i. g i && not (f i) && not (e i))
+  where
+    go : (x y : Bool) → ((x && y) && not w) ≡ (x && y && not w)
+    go true y = refl
+    go false y = refl

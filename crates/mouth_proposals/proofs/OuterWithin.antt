@@ -1,23 +1,22 @@
 -- What is found of a mouth and a ramp is made of the regions of the mouth's pairs, by `proposal_of` or as a triangle; the region outside is a region of the map. Assumes
 -- nothing.
 use Rattle.mouth_proposals.specs.declared.mouths.MouthKind.{MouthKind}
-use Prim.Native.Nat.{ℕ, ◌≤◌, zero-le}
+use Prim.Native.Nat.{ℕ, ◌≤◌}
 use mathlib.Core.Path.{◌≡◌, refl, sym, ap, subst}
 use mathlib.Core.Bool.{Bool, true, false, not, ◌&&◌, ◌||◌, cond}
 use Rattle.std.specs.Prelude.{Option, None, Some}
 use mathlib.Core.List.{List, [], ◌∷◌}
 use lib.ListN.{length}
 use lib.Dec.{eqb, leb}
-use borrow.Author.Tests.{eqb-true}
-use Rattle.definitions.specs.Scan.{any, all, filter, only_if}
+use Rattle.definitions.specs.Scan.{to_list, any, all, filter, only_if}
 use Rattle.definitions.specs.Grid.{Pair, contains, pair_eq}
 use Rattle.definitions.specs.MouthShapes.{distinct_regions, mouth_shape, triangle_representative}
 use Rattle.definitions.specs.Context.{Context, full_cut, full_pair, incident_count, no_ramp}
 use Rattle.definitions.specs.RampMouths.{MouthProposal, broad_mouth, nearby_representative, overlay_representative, overlay_only, separation_of, shaped_mouth, triangle_mouth, triangle, triangle_or}
-use Rattle.laws.specs.ListLaws.Lists.{All, done, more, all_map, all_filter}
+use Rattle.laws.specs.ListLaws.Lists.{All, done, more, all_filter}
 use Rattle.laws.specs.ListLaws.Options.{OnO, absent, present, on_only, on_cond}
 use Rattle.laws.specs.ListLaws.NumberLists.{all-add_all}
-use Rattle.mouth_proposals.specs.Candidates.{Within, approach_of, broad, plain, single_fits, star_fits, proposal_of, approach_mouth, found_mouth}
+use Rattle.mouth_proposals.specs.Candidates.{Within, approach_of, Numbered, broad, plain, single_fits, star_fits, proposal_of, approach_mouth, found_mouth}
 use Rattle.mouth_proposals.specs.declared.approaches.Approach.{Approach}
 use Rattle.mouth_proposals.specs.declared.approaches.Approach.TheVariants as approach
 use Rattle.mouth_proposals.proofs.ApproachLaws.{Named}
@@ -59,16 +58,16 @@ module _ (C : Context) (a m : ℕ) (named : All (Named C.regions) (C.pairs m)) w
       only false = tt
 
   -- what holds of both forms
-  module _ {P : MouthProposal → Type 0} (formed : (outer : ℕ) (kind : MouthKind) → outer ≤ C.regions → P (proposal_of C m a outer kind)) (three : P (triangle_of C a m)) where
+  module _ {P : MouthProposal → Type 0} (formed : (outer : Option ℕ) (kind : MouthKind) → Numbered C.regions outer → P (proposal_of C m a outer kind)) (three : P (triangle_of C a m)) where
     approach_on : (A : Option Approach) → Within C.regions A → OnO P (approach_mouth C m a A)
     unfolding approach_mouth
     approach_on None w = absent
-    approach_on (Some (approach.Single outer r)) w =
-        let kind = cond ((broad_mouth C m a || overlay_only C m a) && eqb (incident_count C r) 2) broad plain in
-        on_only (single_fits C m a outer r) (proposal_of C m a outer kind) (formed outer kind w.0.1)
-    approach_on (Some (approach.Star outer r)) w =
+    approach_on (Some (approach.Single s)) w =
+        let kind = cond ((broad_mouth C m a || overlay_only C m a) && eqb (incident_count C s.approach) 2) broad plain in
+        on_only (single_fits C m a s.outer s.approach) (proposal_of C m a (Some s.outer) kind) (formed (Some s.outer) kind w.0)
+    approach_on (Some (approach.Star s)) w =
         let kind = cond (broad_mouth C m a) broad plain in
-        on_only (star_fits C m a outer r) (proposal_of C m a outer kind) (formed outer kind w.0.1)
+        on_only (star_fits C m a s.outer s.approach) (proposal_of C m a (Some s.outer) kind) (formed (Some s.outer) kind w.0)
 
     shaped_on : (b : Bool) → OnO P (shaped_mouth C m a (full_pair C a) (mouth_shape b (C.pairs m)))
     shaped_on true = subst (OnO P) (sym (shaped_is C m a named)) (approach_on (approach_of (full_pair C a) (mouth_shape true (C.pairs m))) (approach_within (C.pairs m) named (full_pair C a)))
@@ -96,22 +95,23 @@ module _ (C : Context) (a m : ℕ) (named : All (Named C.regions) (C.pairs m)) w
         own false = tt
 
   abbrev Inside : MouthProposal → Type 0
-  Inside p = All (λ r. r ≤ C.regions) p.outer
+  Inside p = All (λ r. (1 ≤ r) × (r ≤ C.regions)) p.outer
 
-  proposal-inside : (outer : ℕ) (kind : MouthKind) → outer ≤ C.regions → Inside (proposal_of C m a outer kind)
+  proposal-inside : (outer : Option ℕ) (kind : MouthKind) → Numbered C.regions outer → Inside (proposal_of C m a outer kind)
   unfolding proposal_of
-  proposal-inside outer kind h = all_filter (λ r. not (eqb r 0)) (more h done)
+  proposal-inside None kind h = done
+  proposal-inside (Some outer) kind h = more h done
 
   triangle-inside : Inside (triangle_of C a m)
   unfolding distinct_regions
-  triangle-inside = all_filter C.anchored (all_map (λ s h. h.1) (all-add_all done (all-named-regions named)))
+  triangle-inside = all_filter C.anchored (all-add_all done (all-named-regions named))
 
-  pub outer-inside : (outer : ℕ) (kind : MouthKind) → Some (proposal_of C m a outer kind) ≡ found_mouth C a m → outer ≤ C.regions
+  pub outer-inside : (outer : Option ℕ) (kind : MouthKind) → Some (proposal_of C m a outer kind) ≡ found_mouth C a m → Numbered C.regions outer
   outer-inside outer kind e = head (subst (OnO Inside) (sym e) (found_on proposal-inside triangle-inside))
     where
-      first : (b : Bool) → eqb outer 0 ≡ b → All (λ r. r ≤ C.regions) (cond (not b) (outer ∷ []) []) → outer ≤ C.regions
-      first true k a = subst (λ o. o ≤ C.regions) (sym (eqb-true outer 0 k)) zero-le
-      first false k (more h t) = h
+      first : (outer : Option ℕ) → All (λ r. (1 ≤ r) × (r ≤ C.regions)) (to_list outer) → Numbered C.regions outer
+      first None a = tt
+      first (Some r) (more h t) = h
 
-      head : OnO Inside (Some (proposal_of C m a outer kind)) → outer ≤ C.regions
-      head (present h) = unfold proposal_of in (unfold filter in first (eqb outer 0) refl h)
+      head : OnO Inside (Some (proposal_of C m a outer kind)) → Numbered C.regions outer
+      head (present h) = unfold proposal_of in first outer h

@@ -1,17 +1,15 @@
--- The rows of a boundary as a list: its first element, the list of one or two rows, and tests of all of them row by row. Assumes nothing.
+-- The rows of a boundary as a list: its first element, the list of none or two rows, and tests of the regions that they name. Assumes nothing.
 use Prim.Native.Nat.{ℕ, suc, ◌+◌, ◌-◌, ◌≤◌, ◌<◌}
 use native.Mathlib.Omega.{arith}
 use native.Mathlib.Numerals.{add-one}
-use mathlib.Core.Path.{◌≡◌, refl, sym, ap, ap₂, ◌∙◌, subst⁻¹}
+use mathlib.Core.Path.{◌≡◌, refl, sym, ap, ◌∙◌, subst⁻¹}
 use mathlib.Core.Bool.{Bool, true, false, not, ◌&&◌, ◌||◌}
 use mathlib.Core.List.{List, [], ◌∷◌, map}
 use Rattle.definitions.specs.Scan.{run, any, all}
 use Rattle.definitions.specs.Grid.{Pair}
 use Rattle.definitions.specs.MouthShapes.{regions_of}
-use Rattle.laws.specs.ListLaws.ScansOfAll.{all_append-test}
 use Rattle.context.specs.Shown.{pair_at, pairs_between}
 use Rattle.context.specs.Rows.{NamedRow}
-use Rattle.context.proofs.Counting.{between_none, between_more, between-any}
 
 pub all_as_any : {A : Type 0} (g : A → Bool) (l : List A) → all g l ≡ not (any (λ x. not (g x)) l)
 unfolding all any
@@ -40,22 +38,6 @@ between_two rows first end e = ap (λ n. map (pair_at rows) (run first n)) e ∙
 
 pub two_rows : {p q r s : Pair} → p ≡ r → q ≡ s → p ∷ q ∷ [] ≡ r ∷ s ∷ []
 two_rows e f = λ i. e i ∷ f i ∷ []
-
--- ---- all of them, row by row
-
-module _ (f : Pair → Bool) (rows : List ℕ) (first : ℕ) where
-  pub all_none : all f (pairs_between rows first first) ≡ true
-  unfolding all
-  all_none = ap (all f) (between_none rows first)
-
-  pub all-one_more : (k : ℕ) → first ≤ k → all f (pairs_between rows first k) ≡ true → f (pair_at rows k) ≡ true → all f (pairs_between rows first (k + 1)) ≡ true
-  unfolding all
-  all-one_more k h n e = ap (all f) (between_more rows first k h) ∙ all_append-test f (pairs_between rows first k) (pair_at rows k ∷ []) ∙ ap₂ (λ a b. a && (b && true)) n e
-
-  pub all_one_fails : (k end : ℕ) → first ≤ k → k < end → f (pair_at rows k) ≡ false → all f (pairs_between rows first end) ≡ false
-  all_one_fails k end h l e = all_as_any f (pairs_between rows first end) ∙ ap not (between-any (λ p. not (f p)) rows first k end h l (ap not e))
-
--- ---- tests that a code negates
 
 -- ---- of the regions that the rows name
 

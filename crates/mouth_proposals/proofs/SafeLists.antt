@@ -2,8 +2,8 @@
 use Prim.Native.Nat.{ℕ, ◌+◌, ◌*◌, ◌≤◌, ◌<◌}
 use native.Mathlib.Omega.{arith}
 use native.Mathlib.Nat.{le_trans}
-use mathlib.Core.Path.{◌≡◌, refl, sym, ap, ap₂, ◌∙◌, subst}
-use mathlib.Core.Bool.{Bool, true, false, not, ◌&&◌}
+use mathlib.Core.Path.{◌≡◌, sym, ap, ap₂, ◌∙◌, subst}
+use mathlib.Core.Bool.{Bool, true}
 use Rattle.std.specs.Prelude.{Option}
 use mathlib.Core.List.{List}
 use lib.ListN.{length, get_or}
@@ -13,11 +13,10 @@ use Rattle.definitions.specs.Scan.{only_if}
 use Rattle.definitions.specs.Grid.{Pair}
 use Rattle.definitions.specs.MouthShapes.{distinct_regions, mouth_shape, triangle_representative}
 use Rattle.definitions.specs.Context.{Context, no_ramp}
-use Rattle.definitions.specs.RampMouths.{broad_mouth, nearby_representative, overlay_representative, overlay_only}
 use Rattle.context.specs.Shown.{ShownBoundaries, ShownPairs}
 use Rattle.context.specs.Rows.{Stretch, NamedRow}
 use Rattle.context.proofs.ShownLaws.{shown-stretch, shown-rows}
-use Rattle.mouth_proposals.specs.Lent.{Placed, Shown}
+use Rattle.mouth_proposals.specs.Lent.{Shown}
 use Rattle.mouth_proposals.specs.Rows.{rows_of}
 use Rattle.mouth_proposals.specs.Candidates.{approach_of, Within}
 use Rattle.mouth_proposals.specs.declared.approaches.Approach.{Approach}
@@ -27,9 +26,6 @@ pub below : {i n k : ℕ} → n ≡ k → i < k → i < n
 below {i} e h = subst (λ n. i < n) (sym e) h
 
 module _ {boundaries tallies pairs starts counts marks : List ℕ} {count : ℕ} (L : Shown boundaries tallies pairs starts counts marks count) where
-  pub placed_at : {i : ℕ} → i < count → Placed boundaries i
-  placed_at {i} h = L.shows.placed i h
-
   pub stretch_at : {i : ℕ} → i < count → Stretch pairs starts i
   stretch_at {i} h = shown-stretch L.shows.rows i (below L.shows.counted h)
 
@@ -65,11 +61,3 @@ module _ {C : Context} where
 
     pub approach_named : (m : ℕ) → m < C.count → (o : Option Pair) {A : Option Approach} → A ≡ approach_of o (mouth_shape true (C.pairs m)) → Within C.regions A
     approach_named m h o e = subst (Within C.regions) (sym e) (approach_within (C.pairs m) (P.named m h) o)
-
-pub overlay_only_lem : (C : Context) (m a : ℕ) {w n o : Bool} → w ≡ broad_mouth C m a → n ≡ nearby_representative C m a → o ≡ overlay_representative C m a → ((o && not n) && not w) ≡ overlay_only C m a
-unfolding overlay_only
-overlay_only_lem C m a {w} {n} {o} e f g = go o (not n) ∙ (λ i. g i && not (f i) && not (e i))
-  where
-    go : (x y : Bool) → ((x && y) && not w) ≡ (x && y && not w)
-    go true y = refl
-    go false y = refl

@@ -4,7 +4,7 @@ use Prim.Native.Nat.{ℕ, ◌+◌, ◌≤◌}
 use native.Mathlib.Omega.{arith}
 use mathlib.Core.Path.{◌≡◌, refl, sym, ap, ◌∙◌}
 use mathlib.Core.Bool.{Bool, true, false, not, ◌&&◌, ◌||◌, cond, or-false}
-use Rattle.std.specs.Prelude.{Option, None}
+use Rattle.std.specs.Prelude.{Option, None, Some}
 use mathlib.Core.List.{List, [], ◌∷◌, ◌++◌}
 use lib.ListN.{length, length-append}
 use lib.Dec.{eqb}
@@ -15,6 +15,9 @@ use Rattle.laws.specs.ListLaws.Lists.{filter_two}
 use Rattle.laws.specs.ListLaws.ListsAsSets.{any-add_all, member-add_all}
 use Rattle.laws.specs.OrderLaws.ListOrder.{eqb_sym}
 use Rattle.context.specs.Shown.{pair_at, pairs_between}
+use Rattle.mouth_proposals.specs.Rows.{shape_form}
+use Rattle.mouth_proposals.specs.declared.shapes.Shape.{Shape}
+use Rattle.mouth_proposals.specs.declared.shapes.Shape.TheVariants as shape
 use Rattle.mouth_proposals.proofs.RowLists.{all_as_any, between_cons}
 
 -- ---- stars
@@ -27,18 +30,31 @@ star_by : (p q : Pair) (l : List Pair) {b c : Bool} → all (contains p.lo) (p �
 unfolding mouth_shape common_regions filter
 star_by p q l e f = sym (λ i. by_tests_lem (p ∷ q ∷ l) p (e i) (f i))
 
-pub star-shape : (rows : List ℕ) (first end : ℕ) → first + 2 ≤ end → {p : Pair} → p ≡ pair_at rows first → {b c s t : Bool} → s ≡ all (contains p.lo) (pairs_between rows first end)
-    → t ≡ all (contains p.hi) (pairs_between rows first end) → s ≡ b → t ≡ c → by_tests_lem (pairs_between rows first end) p b c ≡ mouth_shape true (pairs_between rows first end)
-star-shape rows first end h {p} e {b} {c} {s} {t} hs ht sb tc =
-    (λ i. by_tests_lem (two i) (e i) b c)
-    ∙ star_by (pair_at rows first) (pair_at rows (first + 1)) (pairs_between rows (first + 1 + 1) end) (at (λ p. p.lo) hs sb) (at (λ p. p.hi) ht tc) ∙ sym (ap (mouth_shape true) two)
+-- the star about a region that was found
+abbrev pub starred : Option ℕ → Option Shape
+starred None = None
+starred (Some outer) = Some (shape.Star outer)
+
+found_star : (l : List Pair) (p : Pair) (b c : Bool) → shape_form l (starred (cond b (cond c None (Some p.lo)) (cond c (Some p.hi) None))) ≡ by_tests_lem l p b c
+unfolding star_from
+found_star l p true true = refl
+found_star l p true false = refl
+found_star l p false true = refl
+found_star l p false false = refl
+
+pub star-shape : (rows : List ℕ) (first end : ℕ) → first + 2 ≤ end → {p : Pair} → p ≡ pair_at rows first → {s t : Bool} → s ≡ all (contains p.lo) (pairs_between rows first end)
+    → t ≡ all (contains p.hi) (pairs_between rows first end) → {o : Option ℕ} → o ≡ cond s (cond t None (Some p.lo)) (cond t (Some p.hi) None)
+    → shape_form (pairs_between rows first end) (starred o) ≡ mouth_shape true (pairs_between rows first end)
+star-shape rows first end h {p} e {s} {t} hs ht k =
+    ap (λ o. shape_form (pairs_between rows first end) (starred o)) k ∙ found_star (pairs_between rows first end) p s t ∙ (λ i. by_tests_lem (two i) (e i) s t)
+    ∙ star_by (pair_at rows first) (pair_at rows (first + 1)) (pairs_between rows (first + 1 + 1) end) (at (λ p. p.lo) hs) (at (λ p. p.hi) ht) ∙ sym (ap (mouth_shape true) two)
   where
     two : pairs_between rows first end ≡ pair_at rows first ∷ pair_at rows (first + 1) ∷ pairs_between rows (first + 1 + 1) end
     two = between_cons rows first end (omega arith) ∙ ap (λ l. pair_at rows first ∷ l) (between_cons rows (first + 1) end (omega arith))
 
-    at : (f : Pair → ℕ) {s b : Bool} → s ≡ all (contains (f p)) (pairs_between rows first end) → s ≡ b
-        → all (contains (f (pair_at rows first))) (pair_at rows first ∷ pair_at rows (first + 1) ∷ pairs_between rows (first + 1 + 1) end) ≡ b
-    at f g k = sym (λ i. all (contains (f (e i))) (two i)) ∙ sym g ∙ k
+    at : (f : Pair → ℕ) {s : Bool} → s ≡ all (contains (f p)) (pairs_between rows first end)
+        → all (contains (f (pair_at rows first))) (pair_at rows first ∷ pair_at rows (first + 1) ∷ pairs_between rows (first + 1 + 1) end) ≡ s
+    at f g = sym (λ i. all (contains (f (e i))) (two i)) ∙ sym g
 
 -- ---- triangles
 
@@ -115,15 +131,12 @@ all_distinct g l = all_as_any g (add_all [] (regions_of l)) ∙ ap not (any-add_
 
 module _ (p q s t : Pair) where
   abbrev named : ℕ → Bool
-  named x = contains x s || contains x t
+  named x = any (contains x) (s ∷ t ∷ [])
 
-  pub named_in-all : (((named p.lo && named p.hi) && named q.lo) && named q.hi) ≡ all (λ x. any (contains x) (s ∷ t ∷ [])) (distinct_regions (p ∷ q ∷ []))
-  unfolding all any
-  named_in-all = order (named p.lo) (named p.hi) (named q.lo) (named q.hi) ∙ (λ i. one p.lo i && (one p.hi i && (one q.lo i && (one q.hi i && true)))) ∙ sym (all_distinct (λ x. any (contains x) (s ∷ t ∷ [])) (p ∷ q ∷ []))
+  pub named_in-all : (((named p.lo && named p.hi) && named q.lo) && named q.hi) ≡ all named (distinct_regions (p ∷ q ∷ []))
+  unfolding all
+  named_in-all = order (named p.lo) (named p.hi) (named q.lo) (named q.hi) ∙ sym (all_distinct named (p ∷ q ∷ []))
     where
-      one : (x : ℕ) → named x ≡ (contains x s || (contains x t || false))
-      one x = ap (λ b. contains x s || b) (sym (or-false (contains x t)))
-
       order : (a b c d : Bool) → (((a && b) && c) && d) ≡ (a && (b && (c && (d && true))))
       order true true true true = refl
       order true true true false = refl
@@ -131,14 +144,10 @@ module _ (p q s t : Pair) where
       order true false c d = refl
       order false b c d = refl
 
-  pub one_common : {x y : Bool} → x ≡ (pair_eq p s || pair_eq p t) → y ≡ (pair_eq q s || pair_eq q t)
+  pub one_common : {x y : Bool} → x ≡ any (pair_eq p) (s ∷ t ∷ []) → y ≡ any (pair_eq q) (s ∷ t ∷ [])
       → ((x && not y) || (not x && y)) ≡ eqb (length (filter (λ e. any (pair_eq e) (s ∷ t ∷ [])) (p ∷ q ∷ []))) 1
-  unfolding any
-  one_common {x} {y} e f = go x y ∙ (λ i. eqb (bit (at p e i) + bit (at q f i)) 1) ∙ sym (ap (λ n. eqb n 1) (filter_two (λ e. any (pair_eq e) (s ∷ t ∷ [])) p q))
+  one_common {x} {y} e f = go x y ∙ (λ i. eqb (bit (e i) + bit (f i)) 1) ∙ sym (ap (λ n. eqb n 1) (filter_two (λ e. any (pair_eq e) (s ∷ t ∷ [])) p q))
     where
-      at : (r : Pair) {z : Bool} → z ≡ (pair_eq r s || pair_eq r t) → z ≡ (pair_eq r s || (pair_eq r t || false))
-      at r h = h ∙ ap (λ b. pair_eq r s || b) (sym (or-false (pair_eq r t)))
-
       go : (a b : Bool) → ((a && not b) || (not a && b)) ≡ eqb (bit a + bit b) 1
       go true true = refl
       go true false = refl

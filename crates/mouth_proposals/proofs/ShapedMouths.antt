@@ -18,7 +18,7 @@ use Rattle.laws.specs.ListLaws.Lists.{All, done, more, all_map, all_both, all_fi
 use Rattle.laws.specs.ListLaws.NumberLists.{all-add_all}
 use Rattle.laws.specs.ListLaws.Members.{filter_passes, all_members, any-member}
 use Rattle.laws.specs.RustMouths.MouthKept.{all-agree}
-use Rattle.mouth_proposals.specs.Rows.{inner_of, one_of}
+use Rattle.mouth_proposals.specs.Rows.{is_outer, inner_of, one_of}
 use Rattle.mouth_proposals.specs.Candidates.{single_at, star_at, approach_of, proposal_of, broad, plain, single_fits, star_fits, approach_mouth}
 use Rattle.mouth_proposals.specs.declared.approaches.Approach.TheVariants as approach
 use Rattle.mouth_proposals.proofs.ShapeTests.{all_distinct}
@@ -66,11 +66,11 @@ module _ (C : Context) (m a : ℕ) where
         separation = separation_of C m a;
       }
 
-  made_is : (o : ℕ) → 1 ≤ o → {i : List ℕ} → inner_of o (C.pairs m) ≡ i → {t : Bool} (k : Bool) → t ≡ k → made (o ∷ []) i t ≡ proposal_of C m a o (cond k broad plain)
-  unfolding proposal_of filter
-  made_is o h {i} e k f = (λ j. made (cond (not (sym (ne_eqb o 0 (λ z. omega (arith, z))) j)) (o ∷ []) []) (sym e j) (f j)) ∙ go k
+  made_is : (o : ℕ) {i : List ℕ} → inner_of (Some o) (C.pairs m) ≡ i → {t : Bool} (k : Bool) → t ≡ k → made (o ∷ []) i t ≡ proposal_of C m a (Some o) (cond k broad plain)
+  unfolding proposal_of
+  made_is o {i} e k f = (λ j. made (o ∷ []) (sym e j) (f j)) ∙ go k
     where
-      go : (k : Bool) → made (filter (λ r. not (eqb r 0)) (o ∷ [])) (inner_of o (C.pairs m)) k ≡ proposal_of C m a o (cond k broad plain)
+      go : (k : Bool) → made (o ∷ []) (inner_of (Some o) (C.pairs m)) k ≡ proposal_of C m a (Some o) (cond k broad plain)
       go true = refl
       go false = refl
 
@@ -84,7 +84,7 @@ module _ (C : Context) (m a : ℕ) where
 
   -- ---- a mouth of one pair
 
-  module _ (p : Pair) (r o : ℕ) (h : 1 ≤ o) (beyond : other_region r p ≡ o) (either : (C.anchored p.lo || C.anchored p.hi) ≡ (C.anchored r || C.anchored o)) (inner : inner_of o (C.pairs m) ≡ r ∷ []) (mine : is_incident C m r ≡ true) (ramp : is_incident C a r ≡ true) where
+  module _ (p : Pair) (r o : ℕ) (beyond : other_region r p ≡ o) (either : (C.anchored p.lo || C.anchored p.hi) ≡ (C.anchored r || C.anchored o)) (inner : inner_of (Some o) (C.pairs m) ≡ r ∷ []) (mine : is_incident C m r ≡ true) (ramp : is_incident C a r ≡ true) where
     single_fits_lem : approach_fits C m a r (r ∷ []) true (C.anchored p.lo || C.anchored p.hi) ≡ single_fits C m a o r
     unfolding approach_fits any single_fits
     single_fits_lem =
@@ -108,11 +108,11 @@ module _ (C : Context) (m a : ℕ) where
         go true = refl
         go false = refl
 
-    single-made : only_if (approach_fits C m a r (r ∷ []) true (C.anchored p.lo || C.anchored p.hi)) (made (other_region r p ∷ []) (r ∷ []) (two_port_broad C m a r (r ∷ []) true)) ≡ approach_mouth C m a (Some (approach.Single (other_region r p) r))
+    single-made : only_if (approach_fits C m a r (r ∷ []) true (C.anchored p.lo || C.anchored p.hi)) (made (other_region r p ∷ []) (r ∷ []) (two_port_broad C m a r (r ∷ []) true)) ≡ approach_mouth C m a (Some (approach.Single (record { outer = other_region r p; approach = r })))
     unfolding approach_mouth
     single-made =
-        ap₂ only_if single_fits_lem (ap (λ o. made (o ∷ []) (r ∷ []) (two_port_broad C m a r (r ∷ []) true)) beyond ∙ made_is o h inner ((broad_mouth C m a || overlay_only C m a) && eqb (incident_count C r) 2) single_two)
-        ∙ ap (λ o. approach_mouth C m a (Some (approach.Single o r))) (sym beyond)
+        ap₂ only_if single_fits_lem (ap (λ o. made (o ∷ []) (r ∷ []) (two_port_broad C m a r (r ∷ []) true)) beyond ∙ made_is o inner ((broad_mouth C m a || overlay_only C m a) && eqb (incident_count C r) 2) single_two)
+        ∙ ap (λ o. approach_mouth C m a (Some (approach.Single (record { outer = o; approach = r })))) (sym beyond)
 
   module _ (p q : Pair) {n : ℕ} (np : Named n p) (one : C.pairs m ≡ p ∷ []) (ramp : C.pairs a ≡ q ∷ []) where
     incident_mouth : (r : ℕ) → contains r p ≡ true → is_incident C m r ≡ true
@@ -129,16 +129,16 @@ module _ (C : Context) (m a : ℕ) where
     apart-hi : eqb p.hi p.lo ≡ false
     apart-hi = ne_eqb p.hi p.lo (λ k. omega (arith, k))
 
-    by_lo : contains p.lo q ≡ true → only_if (approach_fits C m a p.lo (p.lo ∷ []) true (C.anchored p.lo || C.anchored p.hi)) (made (other_region p.lo p ∷ []) (p.lo ∷ []) (two_port_broad C m a p.lo (p.lo ∷ []) true)) ≡ approach_mouth C m a (Some (approach.Single (other_region p.lo p) p.lo))
+    by_lo : contains p.lo q ≡ true → only_if (approach_fits C m a p.lo (p.lo ∷ []) true (C.anchored p.lo || C.anchored p.hi)) (made (other_region p.lo p ∷ []) (p.lo ∷ []) (two_port_broad C m a p.lo (p.lo ∷ []) true)) ≡ approach_mouth C m a (Some (approach.Single (record { outer = other_region p.lo p; approach = p.lo })))
     by_lo e =
-        single-made p p.lo p.hi (omega arith) (ap (λ b. cond b p.hi p.lo) (eq-eqb p.lo p.lo refl)) refl
-        (ap (inner_of p.hi) one ∙ one_inner p p.hi np apart-lo (eq-eqb p.hi p.hi refl))
+        single-made p p.lo p.hi (ap (λ b. cond b p.hi p.lo) (eq-eqb p.lo p.lo refl)) refl
+        (ap (inner_of (Some p.hi)) one ∙ one_inner p p.hi np apart-lo (eq-eqb p.hi p.hi refl))
         (incident_mouth p.lo (ap (λ b. b || eqb p.hi p.lo) (eq-eqb p.lo p.lo refl))) (incident_ramp p.lo e)
 
-    by_hi : contains p.hi q ≡ true → only_if (approach_fits C m a p.hi (p.hi ∷ []) true (C.anchored p.lo || C.anchored p.hi)) (made (other_region p.hi p ∷ []) (p.hi ∷ []) (two_port_broad C m a p.hi (p.hi ∷ []) true)) ≡ approach_mouth C m a (Some (approach.Single (other_region p.hi p) p.hi))
+    by_hi : contains p.hi q ≡ true → only_if (approach_fits C m a p.hi (p.hi ∷ []) true (C.anchored p.lo || C.anchored p.hi)) (made (other_region p.hi p ∷ []) (p.hi ∷ []) (two_port_broad C m a p.hi (p.hi ∷ []) true)) ≡ approach_mouth C m a (Some (approach.Single (record { outer = other_region p.hi p; approach = p.hi })))
     by_hi e =
-        single-made p p.hi p.lo np.0 (ap (λ b. cond b p.hi p.lo) apart-lo) (or_comm (C.anchored p.lo) (C.anchored p.hi))
-        (ap (inner_of p.lo) one ∙ one_inner p p.lo np (eq-eqb p.lo p.lo refl) apart-hi)
+        single-made p p.hi p.lo (ap (λ b. cond b p.hi p.lo) apart-lo) (or_comm (C.anchored p.lo) (C.anchored p.hi))
+        (ap (inner_of (Some p.lo)) one ∙ one_inner p p.lo np (eq-eqb p.lo p.lo refl) apart-hi)
         (incident_mouth p.hi (ap (λ b. eqb p.lo p.hi || b) (eq-eqb p.hi p.hi refl) ∙ or-true (eqb p.lo p.hi))) (incident_ramp p.hi e)
 
     -- what the filter of the two regions leaves
@@ -158,7 +158,7 @@ module _ (C : Context) (m a : ℕ) where
 
   -- ---- a star
 
-  module _ (outer r : ℕ) (inner : List ℕ) (h : 1 ≤ outer) (inside : inner ≡ inner_of outer (C.pairs m)) (several : leb (length inner) 1 ≡ false) (every : All (λ s. is_incident C m s ≡ true) inner) (mine : is_incident C m r ≡ true) (ramp : is_incident C a r ≡ true) where
+  module _ (outer r : ℕ) (inner : List ℕ) (inside : inner ≡ inner_of (Some outer) (C.pairs m)) (several : leb (length inner) 1 ≡ false) (every : All (λ s. is_incident C m s ≡ true) inner) (mine : is_incident C m r ≡ true) (ramp : is_incident C a r ≡ true) where
     abbrev leaf : ℕ → Bool
     leaf s = eqb s r || eqb (incident_count C s) 1
 
@@ -198,14 +198,14 @@ module _ (C : Context) (m a : ℕ) where
     unfolding two_port_broad
     star_two = ap (λ b. cond b ((broad_mouth C m a || overlay_only C m a) && false && only_incidents C r m a) (broad_mouth C m a)) several
 
-    star-made : only_if (approach_fits C m a r inner false (any C.anchored inner)) (made (outer ∷ []) inner (two_port_broad C m a r inner false)) ≡ approach_mouth C m a (Some (approach.Star outer r))
+    star-made : only_if (approach_fits C m a r inner false (any C.anchored inner)) (made (outer ∷ []) inner (two_port_broad C m a r inner false)) ≡ approach_mouth C m a (Some (approach.Star (record { outer = outer; approach = r })))
     unfolding approach_mouth
-    star-made = ap₂ only_if star_fits_lem (made_is outer h (sym inside) (broad_mouth C m a) star_two)
+    star-made = ap₂ only_if star_fits_lem (made_is outer (sym inside) (broad_mouth C m a) star_two)
 
   -- every inner region is an incident, from 1 on
-  inner_incident : {n : ℕ} → All (Named n) (C.pairs m) → (outer : ℕ) → All (λ s. (1 ≤ s) × (is_incident C m s ≡ true)) (inner_of outer (C.pairs m))
+  inner_incident : {n : ℕ} → All (Named n) (C.pairs m) → (outer : Option ℕ) → All (λ s. (1 ≤ s) × (is_incident C m s ≡ true)) (inner_of outer (C.pairs m))
   unfolding inner_of is_incident distinct_regions
-  inner_incident {n} named outer = all_filter (λ r. not (eqb r outer)) (all-add_all done (all_two both (all_both named (all_members (C.pairs m)))))
+  inner_incident {n} named outer = all_filter (λ r. not (is_outer outer r)) (all-add_all done (all_two both (all_both named (all_members (C.pairs m)))))
     where
       both : (p : Pair) → Named n p × Memᴰ p (C.pairs m) → ((1 ≤ p.lo) × (any (contains p.lo) (C.pairs m) ≡ true)) × ((1 ≤ p.hi) × (any (contains p.hi) (C.pairs m) ≡ true))
       both p (h, i) = (
@@ -215,7 +215,7 @@ module _ (C : Context) (m a : ℕ) where
 
   module _ (q : Pair) {n : ℕ} (named : All (Named n) (C.pairs m)) (ramp : C.pairs a ≡ q ∷ []) (outer : ℕ) (inner : List ℕ) (S : Star n (C.pairs m) outer inner) where
     mine : All (λ s. (1 ≤ s) × (is_incident C m s ≡ true)) inner
-    mine = subst (All (λ s. (1 ≤ s) × (is_incident C m s ≡ true))) (sym S.inside) (inner_incident named outer)
+    mine = subst (All (λ s. (1 ≤ s) × (is_incident C m s ≡ true))) (sym S.inside) (inner_incident named (Some outer))
 
     at_ramp : (r : ℕ) → contains r q ≡ true → is_incident C a r ≡ true
     unfolding is_incident any
@@ -229,7 +229,7 @@ module _ (C : Context) (m a : ℕ) where
     unfolding star_mouth
     star-left done = empty-star
     star-left (more {x = r} h done) =
-        star-made outer r inner S.outside.0 S.inside S.several (all_map (λ s k. k.1) mine) h.0.1 (at_ramp r h.1)
+        star-made outer r inner S.inside S.several (all_map (λ s k. k.1) mine) h.0.1 (at_ramp r h.1)
     star-left (more h (more k t)) = empty-star
 
     star_case : star_mouth C m a outer inner (filter (λ r. contains r q) inner) ≡ approach_mouth C m a (star_at outer (one_of (filter (λ r. contains r q) inner)))

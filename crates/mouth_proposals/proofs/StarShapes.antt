@@ -21,7 +21,7 @@ use Rattle.mouth_proposals.proofs.ApproachLaws.{Named}
 
 pub record Star (n : ℕ) (l : List Pair) (outer : ℕ) (inner : List ℕ) : Type 0 where
   pub outside : (1 ≤ outer) × (outer ≤ n)
-  pub inside : inner ≡ inner_of outer l
+  pub inside : inner ≡ inner_of (Some outer) l
   pub several : leb (length inner) 1 ≡ false
 
 -- the other region of a pair that names o
@@ -48,35 +48,35 @@ other o p h e = go (eqb p.lo o) refl
         }
 
 module _ {n : ℕ} (l : List Pair) (a : All (Named n) l) where
-  two_inner : (o x : ℕ) → all (contains o) l ≡ true → all (contains x) l ≡ false → (x ≡ o → ⊥) → any (contains x) l ≡ true → leb (length (inner_of o l)) 1 ≡ false
+  two_inner : (o x : ℕ) → all (contains o) l ≡ true → all (contains x) l ≡ false → (x ≡ o → ⊥) → any (contains x) l ≡ true → leb (length (inner_of (Some o) l)) 1 ≡ false
   two_inner o x ho hx apart has = go (any_found (λ p. not (contains x p)) l (not-false _ (sym (all_as_any (contains x) l) ∙ hx)))
     where
       every : All (λ p. not (contains o p) ≡ false) l
       every = any-failed (λ p. not (contains o p)) l (not-true _ (sym (all_as_any (contains o) l) ∙ ho))
 
-      in_inner : (y : ℕ) → (y ≡ o → ⊥) → any (contains y) l ≡ true → member y (inner_of o l) ≡ true
-      in_inner y h k = member-inner o y l ∙ ap₂ (λ b c. not b && c) (ne_eqb y o h) k
+      in_inner : (y : ℕ) → (y ≡ o → ⊥) → any (contains y) l ≡ true → member y (inner_of (Some o) l) ≡ true
+      in_inner y h k = member-inner (Some o) y l ∙ ap₂ (λ b c. not b && c) (ne_eqb y o h) k
 
-      go : (p : Pair) × Memᴰ p l × (not (contains x p) ≡ true) → leb (length (inner_of o l)) 1 ≡ false
+      go : (p : Pair) × Memᴰ p l × (not (contains x p) ≡ true) → leb (length (inner_of (Some o) l)) 1 ≡ false
       go (p, i, e) = at (other o p (all_at a i).1.0 (not-false _ (all_at every i)))
         where
-          at : Other o p → leb (length (inner_of o l)) 1 ≡ false
+          at : Other o p → leb (length (inner_of (Some o) l)) 1 ≡ false
           at t =
-              two_members x t.region (inner_of o l)
+              two_members x t.region (inner_of (Some o) l)
               (λ k. true≢false (sym t.named ∙ sym (ap (λ r. contains r p) k) ∙ not-true _ e))
               (in_inner x apart has) (in_inner t.region t.apart (any-member (contains t.region) i t.named))
 
 module _ {n : ℕ} (p q : Pair) (l : List Pair) (a : All (Named n) (p ∷ q ∷ l)) where
-  common_one : (o : ℕ) → common_regions (p ∷ q ∷ l) ≡ o ∷ [] → ((1 ≤ o) × (o ≤ n)) × (leb (length (inner_of o (p ∷ q ∷ l))) 1 ≡ false)
+  common_one : (o : ℕ) → common_regions (p ∷ q ∷ l) ≡ o ∷ [] → ((1 ≤ o) × (o ≤ n)) × (leb (length (inner_of (Some o) (p ∷ q ∷ l))) 1 ≡ false)
   unfolding common_regions filter any
   common_one o e = go a (all (contains p.lo) (p ∷ q ∷ l)) refl (all (contains p.hi) (p ∷ q ∷ l)) refl e
     where
       go : All (Named n) (p ∷ q ∷ l) → (b : Bool) → all (contains p.lo) (p ∷ q ∷ l) ≡ b → (c : Bool) → all (contains p.hi) (p ∷ q ∷ l) ≡ c
-          → cond b (p.lo ∷ cond c (p.hi ∷ []) []) (cond c (p.hi ∷ []) []) ≡ o ∷ [] → ((1 ≤ o) × (o ≤ n)) × (leb (length (inner_of o (p ∷ q ∷ l))) 1 ≡ false)
+          → cond b (p.lo ∷ cond c (p.hi ∷ []) []) (cond c (p.hi ∷ []) []) ≡ o ∷ [] → ((1 ≤ o) × (o ≤ n)) × (leb (length (inner_of (Some o) (p ∷ q ∷ l))) 1 ≡ false)
       go (more h t) true f true g e = absurd (let z : ◌≡◌ {A = ℕ} 0 1 = cc in omega arith)
       go (more h t) true f false g e =
           let same : p.lo ≡ o = cc in
-          subst (λ o. ((1 ≤ o) × (o ≤ n)) × (leb (length (inner_of o (p ∷ q ∷ l))) 1 ≡ false)) same
+          subst (λ o. ((1 ≤ o) × (o ≤ n)) × (leb (length (inner_of (Some o) (p ∷ q ∷ l))) 1 ≡ false)) same
           ((h.0, omega arith), two_inner (p ∷ q ∷ l) a p.lo p.hi f g (λ k. omega (arith, k)) (ap (λ b. eqb p.lo p.hi || b || any (contains p.hi) (q ∷ l)) (eq-eqb p.hi p.hi refl) ∙ first (eqb p.lo p.hi)))
         where
           first : (b : Bool) → (b || true || any (contains p.hi) (q ∷ l)) ≡ true
@@ -84,7 +84,7 @@ module _ {n : ℕ} (p q : Pair) (l : List Pair) (a : All (Named n) (p ∷ q ∷ 
           first false = refl
       go (more h t) false f true g e =
           let same : p.hi ≡ o = cc in
-          subst (λ o. ((1 ≤ o) × (o ≤ n)) × (leb (length (inner_of o (p ∷ q ∷ l))) 1 ≡ false)) same
+          subst (λ o. ((1 ≤ o) × (o ≤ n)) × (leb (length (inner_of (Some o) (p ∷ q ∷ l))) 1 ≡ false)) same
           ((omega arith, h.1.1), two_inner (p ∷ q ∷ l) a p.hi p.lo g f (λ k. omega (arith, k)) (ap (λ b. b || eqb p.hi p.lo || any (contains p.lo) (q ∷ l)) (eq-eqb p.lo p.lo refl)))
       go (more h t) false f false g e = absurd (let z : ◌≡◌ {A = ℕ} 0 1 = cc in omega arith)
 
@@ -104,11 +104,11 @@ star_is {n} (p ∷ q ∷ l) a outer inner e = go (common_regions (p ∷ q ∷ l)
         is : filter (λ r. not (eqb r o)) (distinct_regions (p ∷ q ∷ l)) ≡ inner
         is = cc
 
-        from : ((1 ≤ o) × (o ≤ n)) × (leb (length (inner_of o (p ∷ q ∷ l))) 1 ≡ false) → Star n (p ∷ q ∷ l) outer inner
+        from : ((1 ≤ o) × (o ≤ n)) × (leb (length (inner_of (Some o) (p ∷ q ∷ l))) 1 ≡ false) → Star n (p ∷ q ∷ l) outer inner
         from (h, s) =
             record {
               outside = subst (λ o. (1 ≤ o) × (o ≤ n)) same h;
-              inside = sym is ∙ ap (λ o. inner_of o (p ∷ q ∷ l)) same;
+              inside = sym is ∙ ap (λ o. inner_of (Some o) (p ∷ q ∷ l)) same;
               several = ap (λ i. leb (length i) 1) (sym is) ∙ s;
             }
     go (o ∷ s ∷ c) k e = absurd (let z : ◌≡◌ {A = ℕ} 0 1 = cc in omega arith)

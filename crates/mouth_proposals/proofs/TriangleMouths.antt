@@ -1,5 +1,5 @@
 -- The proposal of a triangle, by how many of its regions are anchored. Assumes nothing.
-use Prim.Native.Nat.{ℕ, suc, ◌≤◌}
+use Prim.Native.Nat.{ℕ, suc}
 use native.Mathlib.Omega.{arith}
 use mathlib.Core.Path.{◌≡◌, refl, sym, ap, ◌∙◌, subst}
 use mathlib.Core.Bool.{Bool, true, false, not, ◌||◌, cond, or-false, true≢false}
@@ -13,7 +13,7 @@ use Rattle.definitions.specs.Grid.{Pair}
 use Rattle.definitions.specs.MouthShapes.{regions_of, distinct_regions}
 use Rattle.definitions.specs.Context.{Context}
 use Rattle.definitions.specs.RampMouths.{MouthProposal, separation_of, triangle_mouth}
-use Rattle.laws.specs.ListLaws.Lists.{All, done, more, all_map, all_both, all_filter}
+use Rattle.laws.specs.ListLaws.Lists.{All, done, more, all_map}
 use Rattle.laws.specs.ListLaws.Members.{filter_passes}
 use Rattle.laws.specs.ListLaws.ListsAsSets.{filter-add_all}
 use Rattle.laws.specs.ListLaws.Scans.{filter_ext}
@@ -144,29 +144,18 @@ module _ (C : Context) (m a : ℕ) where
   unfolding triangle_mouth
   by_outer e f = λ j. only_if (leb (length (e j)) 1) (made (e j) (f j))
 
-  module _ (named : All (λ s. 1 ≤ s) rs) where
-    pub triangle_none : outers_of (filter C.anchored rs) ≡ outers.None → Some (proposal_of C m a 0 triangular) ≡ triangle_mouth C m a rs
-    unfolding proposal_of inner_of filter
-    triangle_none e = sym (by_outer (none_of (filter C.anchored rs) e) (filter_ext (all_map at (all_both named (none_passes C.anchored rs (none_of (filter C.anchored rs) e))))))
-      where
-        at : (x : ℕ) → (1 ≤ x) × (C.anchored x ≡ false) → not (C.anchored x) ≡ not (eqb x 0)
-        at x (h, k) = ap not (k ∙ sym (ne_eqb x 0 (λ z. omega (arith, z))))
+  pub triangle_none : outers_of (filter C.anchored rs) ≡ outers.None → Some (proposal_of C m a None triangular) ≡ triangle_mouth C m a rs
+  unfolding proposal_of inner_of
+  triangle_none e = sym (by_outer (none_of (filter C.anchored rs) e) (filter_ext (all_map (λ x k. ap not k) (none_passes C.anchored rs (none_of (filter C.anchored rs) e)))))
 
-    pub triangle_one : (r : ℕ) → 1 ≤ r → outers_of (filter C.anchored rs) ≡ outers.One r → Some (proposal_of C m a r triangular) ≡ triangle_mouth C m a rs
-    unfolding proposal_of inner_of filter
-    triangle_one r h e =
-        ap (λ b. Some (made (cond (not b) (r ∷ []) []) (filter (λ s. not (eqb s r)) rs))) (ne_eqb r 0 (λ z. omega (arith, z)))
-        ∙ sym (by_outer is_one (filter_ext (all_map (λ x k. ap not k) (one_passes C.anchored r (passed_one C.anchored rs is_one) rs is_one))))
-      where
-        is_one : filter C.anchored rs ≡ r ∷ []
-        is_one = one_of_lem (filter C.anchored rs) r e
+  pub triangle_one : (r : ℕ) → outers_of (filter C.anchored rs) ≡ outers.One r → Some (proposal_of C m a (Some r) triangular) ≡ triangle_mouth C m a rs
+  unfolding proposal_of inner_of
+  triangle_one r e =
+      sym (by_outer is_one (filter_ext (all_map (λ x k. ap not k) (one_passes C.anchored r (passed_one C.anchored rs is_one) rs is_one))))
+    where
+      is_one : filter C.anchored rs ≡ r ∷ []
+      is_one = one_of_lem (filter C.anchored rs) r e
 
-    pub one_at_least : (r : ℕ) → outers_of (filter C.anchored rs) ≡ outers.One r → 1 ≤ r
-    one_at_least r e = head (subst (All (λ s. 1 ≤ s)) (one_of_lem (filter C.anchored rs) r e) (all_filter C.anchored named))
-      where
-        head : All (λ s. 1 ≤ s) (r ∷ []) → 1 ≤ r
-        head (more h t) = h
-
-    pub triangle-several : outers_of (filter C.anchored rs) ≡ outers.Several → None ≡ triangle_mouth C m a rs
-    unfolding triangle_mouth
-    triangle-several e = sym (ap (λ b. only_if b (made (filter C.anchored rs) (filter (λ r. not (C.anchored r)) rs))) (several_of (filter C.anchored rs) e))
+  pub triangle-several : outers_of (filter C.anchored rs) ≡ outers.Several → None ≡ triangle_mouth C m a rs
+  unfolding triangle_mouth
+  triangle-several e = sym (ap (λ b. only_if b (made (filter C.anchored rs) (filter (λ r. not (C.anchored r)) rs))) (several_of (filter C.anchored rs) e))

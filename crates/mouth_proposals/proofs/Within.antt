@@ -12,8 +12,8 @@ use Rattle.definitions.specs.Grid.{Pair, contains}
 use Rattle.definitions.specs.MouthShapes.{MouthShape, single, star, distinct_regions, mouth_shape}
 use Rattle.laws.specs.ListLaws.Lists.{All, done, more, all_filter}
 use Rattle.laws.specs.ListLaws.NumberLists.{all-add_all}
-use Rattle.mouth_proposals.specs.Rows.{inner_of, one_of}
-use Rattle.mouth_proposals.specs.Candidates.{single_at, star_at, approach_of, Within}
+use Rattle.mouth_proposals.specs.Rows.{is_outer, inner_of, one_of}
+use Rattle.mouth_proposals.specs.Candidates.{single_at, star_at, approach_of, Within, Numbered}
 use Rattle.mouth_proposals.specs.declared.approaches.Approach.{Approach}
 use Rattle.mouth_proposals.specs.declared.approaches.Approach.TheVariants as approach
 use Rattle.mouth_proposals.proofs.ApproachLaws.{Named, single-pairs, all_of_one}
@@ -22,13 +22,8 @@ use Rattle.mouth_proposals.proofs.Fitting.{all-named-regions}
 
 pub within_more : {n k : ℕ} → n ≤ k → (A : Option Approach) → Within n A → Within k A
 within_more h None w = tt
-within_more h (Some (approach.Single outer r)) w = ((w.0.0, le_trans w.0.1 h), (w.1.0, le_trans w.1.1 h))
-within_more h (Some (approach.Star outer r)) w = ((w.0.0, le_trans w.0.1 h), (w.1.0, le_trans w.1.1 h))
-
--- a number that is there is from 1 to n
-abbrev Numbered : ℕ → Option ℕ → Type 0
-Numbered n None = Unit {0}
-Numbered n (Some r) = (1 ≤ r) × (r ≤ n)
+within_more h (Some (approach.Single s)) w = ((w.0.0, le_trans w.0.1 h), (w.1.0, le_trans w.1.1 h))
+within_more h (Some (approach.Star s)) w = ((w.0.0, le_trans w.0.1 h), (w.1.0, le_trans w.1.1 h))
 
 module _ {n : ℕ} where
   single-within : (p : Pair) → Named n p → (o : Option ℕ) → Numbered n o → Within n (single_at p o)
@@ -48,9 +43,9 @@ module _ {n : ℕ} where
   one_numbered (more h done) = h
   one_numbered (more h (more k t)) = tt
 
-  inner-named : (outer : ℕ) (l : List Pair) → All (Named n) l → All (λ s. (1 ≤ s) × (s ≤ n)) (inner_of outer l)
+  inner-named : (outer : Option ℕ) (l : List Pair) → All (Named n) l → All (λ s. (1 ≤ s) × (s ≤ n)) (inner_of outer l)
   unfolding inner_of distinct_regions
-  inner-named outer l named = all_filter (λ r. not (eqb r outer)) (all-add_all done (all-named-regions named))
+  inner-named outer l named = all_filter (λ r. not (is_outer outer r)) (all-add_all done (all-named-regions named))
 
   pub approach_within : (l : List Pair) → All (Named n) l → (o : Option Pair) → Within n (approach_of o (mouth_shape true l))
   approach_within l named None = tt
@@ -66,4 +61,4 @@ module _ {n : ℕ} where
           single-within p h (one_of (filter (λ r. contains r q) (p.lo ∷ p.hi ∷ []))) (one_numbered (all_filter (λ r. contains r q) (two p h)))
       go (Some (star outer inner)) e =
           let S = star_is l named outer inner e in
-          star-within outer S.outside (one_of (filter (λ r. contains r q) inner)) (one_numbered (all_filter (λ r. contains r q) (subst (All (λ s. (1 ≤ s) × (s ≤ n))) (sym S.inside) (inner-named outer l named))))
+          star-within outer S.outside (one_of (filter (λ r. contains r q) inner)) (one_numbered (all_filter (λ r. contains r q) (subst (All (λ s. (1 ≤ s) × (s ≤ n))) (sym S.inside) (inner-named (Some outer) l named))))

@@ -1,9 +1,9 @@
 -- What a mouth and a ramp propose before the records of regions are looked at, as the code has it: the region outside, and a kind. Definitions only; assumes nothing.
-use Rattle.std.specs.Prelude.{ℕ, ◌≤◌, Bool, true, false, ◌&&◌, ◌||◌, [], ◌∷◌, Option, None, Some}
+use Rattle.std.specs.Prelude.{ℕ, ◌≡◌, ◌≤◌, Bool, true, false, ◌&&◌, ◌||◌, [], ◌∷◌, Option, None, Some}
 use Rattle.std.proofs.Math.Bool.{not, cond}
 use Rattle.std.proofs.Math.Dec.{eqb}
 use Rattle.std.specs.Float.Ieee.{lt}
-use Rattle.definitions.specs.Scan.{all, filter, only_if}
+use Rattle.definitions.specs.Scan.{to_list, all, only_if, filter}
 use Rattle.definitions.specs.Grid.{Pair, contains}
 use Rattle.definitions.specs.MouthShapes.{MouthShape, single, star, regions_of, mouth_shape}
 use Rattle.definitions.specs.Context.{Context, full_cut, full_pair, other_region, incident_count, no_ramp}
@@ -11,6 +11,7 @@ use Rattle.definitions.specs.RampMouths.{MouthProposal, max_mouth_distance, reta
 use Rattle.mouth_proposals.specs.Rows.{inner_of, one_of}
 use Rattle.mouth_proposals.specs.declared.approaches.Approach.{Approach}
 use Rattle.mouth_proposals.specs.declared.approaches.Approach.TheVariants as approach
+use Rattle.mouth_proposals.specs.declared.measures.Measures.{Measures}
 use Rattle.mouth_proposals.specs.declared.mouths.Mouth.{Mouth}
 use Rattle.mouth_proposals.specs.declared.mouths.MouthKind.{MouthKind}
 use Rattle.mouth_proposals.specs.declared.mouths.MouthKind.TheVariants as kind-of
@@ -19,11 +20,11 @@ use Rattle.mouth_proposals.specs.declared.mouths.MouthKind.TheVariants as kind-o
 
 abbrev pub single_at : Pair → Option ℕ → Option Approach
 single_at p None = None
-single_at p (Some r) = Some (approach.Single (other_region r p) r)
+single_at p (Some r) = Some (approach.Single (record { outer = other_region r p; approach = r }))
 
 abbrev pub star_at : ℕ → Option ℕ → Option Approach
 star_at outer None = None
-star_at outer (Some r) = Some (approach.Star outer r)
+star_at outer (Some r) = Some (approach.Star (record { outer = outer; approach = r }))
 
 -- from the ramp's full pair and the mouth's shape
 abbrev pub approach_of : Option Pair → Option MouthShape → Option Approach
@@ -35,10 +36,15 @@ approach_of (Some q) (Some (star outer inner)) = star_at outer (one_of (filter (
 -- both regions are numbered from 1 to n
 abbrev pub Within : ℕ → Option Approach → Type 0
 Within n None = Unit {0}
-Within n (Some (approach.Single outer r)) = ((1 ≤ outer) × (outer ≤ n)) × ((1 ≤ r) × (r ≤ n))
-Within n (Some (approach.Star outer r)) = ((1 ≤ outer) × (outer ≤ n)) × ((1 ≤ r) × (r ≤ n))
+Within n (Some (approach.Single s)) = ((1 ≤ s.outer) × (s.outer ≤ n)) × ((1 ≤ s.approach) × (s.approach ≤ n))
+Within n (Some (approach.Star s)) = ((1 ≤ s.outer) × (s.outer ≤ n)) × ((1 ≤ s.approach) × (s.approach ≤ n))
 
 -- ---- proposals
+
+-- the region outside, if there is one, is numbered from 1 to n
+abbrev pub Numbered : ℕ → Option ℕ → Type 0
+Numbered n None = Unit {0}
+Numbered n (Some r) = (1 ≤ r) × (r ≤ n)
 
 abbrev pub plain : MouthKind
 plain = kind-of.Plain
@@ -59,15 +65,21 @@ is_broad kind-of.Plain = false
 is_broad kind-of.Triangular = false
 is_broad kind-of.Broad = true
 
+-- what is measured of mouth m and ramp a
+pub record Measured (C : Context) (m a : ℕ) (measures : Measures) : Type 0 where
+  pub broad : measures.broad ≡ broad_mouth C m a
+  pub nearby : measures.nearby ≡ nearby_representative C m a
+  pub overlay : measures.overlay ≡ overlay_representative C m a
+
 module _ (C : Context) where
-  -- of mouth m and ramp a; outer is 0 where no region is outside, and inner are the others that the mouth's pairs name
-  unfoldable pub proposal_of : ℕ → ℕ → ℕ → MouthKind → MouthProposal
-  unfolding filter inner_of separation_of
+  -- of mouth m and ramp a; inner are the regions that the mouth's pairs name, but for the one outside
+  unfoldable pub proposal_of : ℕ → ℕ → Option ℕ → MouthKind → MouthProposal
+  unfolding inner_of separation_of
   proposal_of m a outer kind =
       record {
         mouth_index = m;
         ramp_index = a;
-        outer = filter (λ r. not (eqb r 0)) (outer ∷ []);
+        outer = to_list outer;
         inner = inner_of outer (C.pairs m);
         is_triangle = is_triangular kind;
         two_port_broad_approach = is_broad kind;
@@ -106,6 +118,7 @@ module _ (C : Context) where
   unfoldable pub approach_mouth : ℕ → ℕ → Option Approach → Option MouthProposal
   unfolding single_fits star_fits proposal_of
   approach_mouth m a None = None
-  approach_mouth m a (Some (approach.Single outer r)) =
-      only_if (single_fits m a outer r) (proposal_of m a outer (cond ((broad_mouth C m a || overlay_only C m a) && eqb (incident_count C r) 2) broad plain))
-  approach_mouth m a (Some (approach.Star outer r)) = only_if (star_fits m a outer r) (proposal_of m a outer (cond (broad_mouth C m a) broad plain))
+  approach_mouth m a (Some (approach.Single s)) =
+      only_if (single_fits m a s.outer s.approach) (proposal_of m a (Some s.outer) (cond ((broad_mouth C m a || overlay_only C m a) && eqb (incident_count C s.approach) 2) broad plain))
+  approach_mouth m a (Some (approach.Star s)) =
+      only_if (star_fits m a s.outer s.approach) (proposal_of m a (Some s.outer) (cond (broad_mouth C m a) broad plain))

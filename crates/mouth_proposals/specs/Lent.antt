@@ -4,6 +4,8 @@ use Rattle.definitions.specs.Limits.{numbers_per_boundary}
 use Rattle.definitions.specs.Grid.{segment_at}
 use Rattle.definitions.specs.Context.{Context}
 use Rattle.laws.specs.FloatLaws.Pixels.{PixelSegment}
+use Rattle.mouth_proposals.specs.declared.regions.RegionMarks.{RegionMarks}
+use Rattle.context.specs.declared.PartitionContext.{PartitionContext}
 use Rattle.context.specs.Shown.{ShownBoundaries, ShownTallies, ShownPairs, ShownIncidents, ShownAnchored}
 
 -- boundary i stands in the list, its endpoints on a map; its width is finite, and the sign bit clear
@@ -26,3 +28,11 @@ pub record Shown (boundaries tallies pairs starts counts marks : List ℕ) (coun
   pub context : Context
   pub shows : Shows boundaries pairs starts counts marks count context
   pub cuts : ShownTallies context tallies
+
+-- ---- the same of what the pass is given
+
+abbrev pub PassShows : PartitionContext → RegionMarks → Context → Type 0
+PassShows given regions C = Shows given.boundaries.now given.pairs.now given.starts.now regions.counts.now regions.marks.now given.count C
+
+abbrev pub PassShown : PartitionContext → RegionMarks → Type 0
+PassShown given regions = Shown given.boundaries.now given.tallies.now given.pairs.now given.starts.now regions.counts.now regions.marks.now given.count

@@ -1,5 +1,6 @@
 -- The rows of a boundary, and what the answers on them stand for. Definitions only; assumes nothing.
-use Rattle.std.specs.Prelude.{ℕ, ◌+◌, not, List, [], ◌∷◌, get_or, eqb, Option, None, Some}
+use Rattle.std.specs.Option.{option_eq}
+use Rattle.std.specs.Prelude.{ℕ, ◌+◌, Bool, not, List, [], ◌∷◌, get_or, eqb, Option, None, Some}
 use Rattle.definitions.specs.Scan.{filter}
 use Rattle.definitions.specs.Grid as grid
 use Rattle.definitions.specs.MouthShapes.{MouthShape, single, star, distinct_regions}
@@ -12,10 +13,14 @@ use Rattle.mouth_proposals.specs.declared.shapes.Shape.TheVariants as shape
 abbrev pub rows_of : List ℕ → List ℕ → ℕ → List grid.Pair
 rows_of pairs starts i = pairs_between pairs (get_or starts i 0) (get_or starts (i + 1) 0)
 
--- the regions of l but for `outer`, each once
-unfoldable pub inner_of : ℕ → List grid.Pair → List ℕ
+-- region r is the one outside, if there is one
+abbrev pub is_outer : Option ℕ → ℕ → Bool
+is_outer outer r = option_eq eqb (Some r) outer
+
+-- the regions of l but for the one outside, each once
+unfoldable pub inner_of : Option ℕ → List grid.Pair → List ℕ
 unfolding filter distinct_regions
-inner_of outer l = filter (λ r. not (eqb r outer)) (distinct_regions l)
+inner_of outer l = filter (λ r. not (is_outer outer r)) (distinct_regions l)
 
 -- l are the pairs of the mouth
 abbrev pub shape_form : List grid.Pair → Option Shape → Option MouthShape

@@ -4,25 +4,36 @@ ghost use Rattle.std.specs.Float.{binary64};
 ghost use Rattle.std.specs.Float.Ieee.{is_nan, to_bits};
 ghost use Rattle.definitions.specs.Scan.{collect, to_list};
 ghost use Rattle.definitions.specs.Context.{Context, full_cut, no_ramp};
-ghost use Rattle.definitions.specs.RampMouths.{MouthProposal};
+ghost use Rattle.definitions.specs.RampMouths as definition;
 ghost use Rattle.context.specs.Shown.{ShownTallies};
-ghost use Rattle.mouth_proposals.specs.Lent.{Shows, Shown};
+ghost use Rattle.mouth_proposals.specs.Lent.{PassShows, PassShown};
 ghost use Rattle.mouth_proposals.specs.Candidates.{mouth_candidate};
 ghost use Rattle.mouth_proposals.specs.Ends.{EndsOf};
-ghost use Rattle.mouth_proposals.specs.Listed.{max_candidates, blank, candidate, Filled, Roomy};
+ghost use Rattle.mouth_proposals.specs.Listed.{max_candidates, blank, candidate, proposal_form, Filled, Roomy};
 
-use crate::ends::{OtherEnds, find_other_ends};
+use crate::ends::{Ramp, find_other_ends};
 use crate::measures::{is_close, separation_of};
 use crate::mouths::{Mouth, MouthKind, mouth_candidate};
-use context::pairs::full_cut;
+use crate::regions::RegionMarks;
+use context::PartitionContext;
 use geometry::boundaries::kind_at;
 
-// What a mouth proposes to a ramp: their numbers, the region outside, 0 for none, the kind, and the bits of the separation.
+// What a mouth proposes to a ramp (`MouthProposal` of ramp_boundaries.rs): the boundaries of both, the region outside, if there is one, and the kind. Its inner
+// regions are the others that the mouth's rows name.
+#[derive(Clone, Copy, PartialEq, Eq)]
+pub struct MouthProposal {
+    pub mouth: usize,
+    pub ramp: usize,
+    pub outer: Option<u32>,
+    pub kind: MouthKind,
+}
+
+// A proposal as the lists keep it, with the bits of the separation.
 #[derive(Clone, Copy, PartialEq, Eq)]
 pub struct Candidate {
     pub mouth: u8,
     pub ramp: u8,
-    pub outer: u32,
+    pub outer: Option<u32>,
     pub kind: MouthKind,
     pub separation: u64,
 }
@@ -35,9 +46,20 @@ impl Candidate {
         Self {
             mouth: 0,
             ramp: 0,
-            outer: 0,
+            outer: None,
             kind: MouthKind::Plain,
             separation: 0,
+        }
+    }
+
+    pub fn proposal(self) -> MouthProposal
+        ensures { result ≡ proposal_form self }
+    {
+        MouthProposal {
+            mouth: self.mouth as usize,
+            ramp: self.ramp as usize,
+            outer: self.outer,
+            kind: self.kind,
         }
     }
 
@@ -63,44 +85,36 @@ fn bits_of(separation: f64) -> u64
     f64::to_bits(separation)
 }
 
-// What mouth m proposes to ramp a within the distance: entry n, if there is one. Gives the number of entries.
+// What mouth m proposes to the ramp within the distance: entry n, if there is one. Gives the number of entries.
 fn push_mouth(
-    boundaries: &[u64],
-    tallies: &[u32],
-    pairs: &[u32],
-    starts: &[usize; 257],
-    counts: &[u32],
-    marks: &[u16],
-    count: usize,
+    context: PartitionContext,
+    regions: RegionMarks,
     entries: &mut [Candidate; 256],
     n: usize,
     m: usize,
-    a: usize,
-    ends: OtherEnds,
+    ramp: Ramp,
 ) -> usize
-    requires shown { Shown boundaries.now tallies.now pairs.now starts.now counts.now marks.now count }
+    requires shown { PassShown context regions }
     requires roomy { Roomy entries.old }
-    requires places { (n < max_candidates) × ((m < count) × (a < count)) }
+    requires places { (n < max_candidates) × ((m < context.count) × (ramp.boundary < context.count)) }
     ensures bound { (n ≤ result) × (result ≤ n + 1) }
     ensures still_roomy { Roomy entries.new }
-    ensures filled { (C : Context) (l : List MouthProposal) →
-        Shows boundaries.now pairs.now starts.now counts.now marks.now count C →
-        ShownTallies C tallies.now →
-        no_ramp C a ≡ false →
-        full_cut C a ≡ true →
-        EndsOf C a ends →
+    ensures filled { (C : Context) (l : List definition.MouthProposal) →
+        PassShows context.entry regions.entry C →
+        ShownTallies C context.entry.tallies.now →
+        no_ramp C ramp.boundary ≡ false →
+        full_cut C ramp.boundary ≡ true →
+        EndsOf C ramp.boundary ramp.ends →
         Filled C entries.old n l →
         Filled C entries.new result (l
-        ++ to_list (mouth_candidate C a m)) }
+        ++ to_list (mouth_candidate C ramp.boundary m)) }
 {
-    match mouth_candidate(
-        boundaries, tallies, pairs, starts, counts, marks, count, m, a, ends,
-    ) {
+    match mouth_candidate(context, regions, m, ramp) {
         None => n,
         Some(found) => {
-            let separation = separation_of(boundaries, m, a);
+            let separation = separation_of(context.boundaries, m, ramp.boundary);
             if is_close(separation) {
-                entries[n] = Candidate::of(m, a, found, bits_of(separation));
+                entries[n] = Candidate::of(m, ramp.boundary, found, bits_of(separation));
                 n + 1
             } else {
                 n
@@ -109,93 +123,59 @@ fn push_mouth(
     }
 }
 
-// The candidates of ramp a, a full cut with a ramp.
+// The candidates of the ramp, a full cut.
 fn push_mouths(
-    boundaries: &[u64],
-    tallies: &[u32],
-    pairs: &[u32],
-    starts: &[usize; 257],
-    counts: &[u32],
-    marks: &[u16],
-    count: usize,
+    context: PartitionContext,
+    regions: RegionMarks,
     entries: &mut [Candidate; 256],
-    a: usize,
-    ends: OtherEnds,
+    ramp: Ramp,
 ) -> usize
-    requires shown { Shown boundaries.now tallies.now pairs.now starts.now counts.now marks.now count }
+    requires shown { PassShown context regions }
     requires roomy { Roomy entries.old }
-    requires place { a < count }
+    requires place { ramp.boundary < context.count }
     ensures bound { result ≤ max_candidates }
     ensures still_roomy { Roomy entries.new }
     ensures filled { (C : Context) →
-        Shows boundaries.now pairs.now starts.now counts.now marks.now count C →
-        ShownTallies C tallies.now →
-        no_ramp C a ≡ false →
-        full_cut C a ≡ true →
-        EndsOf C a ends →
+        PassShows context.entry regions.entry C →
+        ShownTallies C context.entry.tallies.now →
+        no_ramp C ramp.boundary ≡ false →
+        full_cut C ramp.boundary ≡ true →
+        EndsOf C ramp.boundary ramp.ends →
         Filled C entries.new result
-        (collect count (mouth_candidate C a)) }
+        (collect context.entry.count (mouth_candidate C ramp.boundary)) }
 {
     let mut n = 0;
-    for m in 0..count {
-        n = push_mouth(
-            boundaries,
-            tallies,
-            pairs,
-            starts,
-            counts,
-            marks,
-            count,
-            &mut *entries,
-            n,
-            m,
-            a,
-            ends,
-        );
+    // Kept: a fold would carry n beside the list that its closure fills, and says no more than these lines.
+    for m in 0..context.count {
+        n = push_mouth(context, regions, &mut *entries, n, m, ramp);
     }
     n
 }
 
-// The same of a boundary that may be no ramp, or no full cut. Gives the number of candidates.
+// The candidates of boundary a, which may be no ramp, or no full cut. Gives their number.
 pub fn push_ramp(
-    boundaries: &[u64],
-    tallies: &[u32],
-    pairs: &[u32],
-    starts: &[usize; 257],
-    counts: &[u32],
-    marks: &[u16],
-    count: usize,
+    context: PartitionContext,
+    regions: RegionMarks,
     entries: &mut [Candidate; 256],
     a: usize,
 ) -> usize
-    requires shown { Shown boundaries.now tallies.now pairs.now starts.now counts.now marks.now count }
+    requires shown { PassShown context regions }
     requires roomy { Roomy entries.old }
-    requires place { a < count }
+    requires place { a < context.count }
     ensures bound { result ≤ max_candidates }
     ensures still_roomy { Roomy entries.new }
     ensures filled { (C : Context) →
-        Shows boundaries.now pairs.now starts.now counts.now marks.now count C →
-        ShownTallies C tallies.now →
+        PassShows context.entry regions.entry C →
+        ShownTallies C context.entry.tallies.now →
         Filled C entries.new result
-        (collect count (mouth_candidate C a)) }
+        (collect context.entry.count (mouth_candidate C a)) }
 {
-    if kind_at(boundaries, a) == 0 {
+    if kind_at(context.boundaries, a) == 0 {
         return 0;
     }
-    if !full_cut(tallies, a) {
+    if !context.full_cut(a) {
         return 0;
     }
-    let ends = find_other_ends(boundaries, tallies, pairs, starts, count, a);
-    push_mouths(
-        boundaries,
-        tallies,
-        pairs,
-        starts,
-        counts,
-        marks,
-        count,
-        &mut *entries,
-        a,
-        ends,
-    )
+    let ends = find_other_ends(context, a);
+    push_mouths(context, regions, &mut *entries, Ramp { boundary: a, ends })
 }

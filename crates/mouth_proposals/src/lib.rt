@@ -7,4 +7,5 @@ pub mod candidates;
 pub mod ends;
 pub mod measures;
 pub mod mouths;
+pub mod regions;
 pub mod shapes;

@@ -1,12 +1,13 @@
 // What is measured of a mouth and a ramp, two boundaries of the list.
-ghost use Rattle.std.specs.Prelude.{◌≡◌, not, ◌*◌, ◌+◌, ◌<◌, get_or};
+ghost use Rattle.std.specs.Prelude.{◌≡◌, not, ◌||◌, ℕ, ◌*◌, ◌+◌, ◌<◌, get_or};
 ghost use Rattle.std.specs.Float.{binary64};
 ghost use Rattle.std.specs.Float.Ieee.{lt, of_bits};
 ghost use Rattle.definitions.specs.Limits.{numbers_per_boundary};
 ghost use Rattle.definitions.specs.Context.{Context};
-ghost use Rattle.definitions.specs.RampMouths.{max_mouth_distance, broad_mouth, nearby_representative, overlay_representative, separation_of};
+ghost use Rattle.definitions.specs.RampMouths.{max_mouth_distance, broad_mouth, nearby_representative, overlay_representative, overlay_only, separation_of};
 ghost use Rattle.context.specs.Shown.{ShownBoundaries};
 ghost use Rattle.mouth_proposals.specs.Lent.{Placed};
+ghost use Rattle.mouth_proposals.specs.Candidates.{Measured};
 
 use geometry::boundaries::{segment_of, width_at};
 use geometry::numbers::{fmax, fmin};
@@ -18,6 +19,40 @@ const MAX_MOUTH_DISTANCE: f64 = 224.0;
 
 const MAX_OVERLAY_WIDTH_RATIO: f64 = 1.5;
 
+// Whether the mouth is broad, and whether it represents the ramp, close by or as an overlay.
+#[derive(Clone, Copy)]
+pub struct Measures {
+    pub broad: bool,
+    pub nearby: bool,
+    pub overlay: bool,
+}
+
+impl Measures {
+    pub fn of(boundaries: &[u64], m: usize, a: usize) -> Self
+        requires { Placed boundaries.now m × Placed boundaries.now a }
+        ensures { (C : Context) → ShownBoundaries C boundaries.now → m < C.count → a < C.count → Measured C m a result }
+    {
+        Self {
+            broad: broad_mouth(boundaries, m, a),
+            nearby: nearby_representative(boundaries, m, a),
+            overlay: overlay_representative(boundaries, m, a),
+        }
+    }
+
+    // Whether one of the three holds.
+    pub fn any(self) -> bool
+        ensures { result ≡ ((self.broad || self.nearby) || self.overlay) }
+    {
+        self.broad | self.nearby | self.overlay
+    }
+
+    pub fn overlay_only(self) -> bool
+        ensures { (C : Context) (m a : ℕ) → Measured C m a self → result ≡ overlay_only C m a }
+    {
+        self.overlay & !self.nearby & !self.broad
+    }
+}
+
 fn width_of(boundaries: &[u64], i: usize) -> f64
     requires { Placed boundaries.now i }
     ensures { result ≡ of_bits binary64 (get_or boundaries.now (numbers_per_boundary * i + 4) 0) }
@@ -26,14 +61,14 @@ fn width_of(boundaries: &[u64], i: usize) -> f64
 }
 
 // Whether the mouth is twice as wide as the ramp, or wider.
-pub fn broad_mouth(boundaries: &[u64], m: usize, a: usize) -> bool
+fn broad_mouth(boundaries: &[u64], m: usize, a: usize) -> bool
     requires { Placed boundaries.now m × Placed boundaries.now a }
     ensures { (C : Context) → ShownBoundaries C boundaries.now → m < C.count → a < C.count → result ≡ broad_mouth C m a }
 {
     width_of(boundaries, m) >= 2.0 * width_of(boundaries, a)
 }
 
-pub fn nearby_representative(boundaries: &[u64], m: usize, a: usize) -> bool
+fn nearby_representative(boundaries: &[u64], m: usize, a: usize) -> bool
     requires { Placed boundaries.now m × Placed boundaries.now a }
     ensures { (C : Context) → ShownBoundaries C boundaries.now → m < C.count → a < C.count → result ≡ nearby_representative C m a }
 {
@@ -41,7 +76,7 @@ pub fn nearby_representative(boundaries: &[u64], m: usize, a: usize) -> bool
 }
 
 // The widths are compared before the endpoints.
-pub fn overlay_representative(boundaries: &[u64], m: usize, a: usize) -> bool
+fn overlay_representative(boundaries: &[u64], m: usize, a: usize) -> bool
     requires { Placed boundaries.now m × Placed boundaries.now a }
     ensures { (C : Context) → ShownBoundaries C boundaries.now → m < C.count → a < C.count → result ≡ overlay_representative C m a }
 {

@@ -1,5 +1,5 @@
 // The shape of a mouth, from its rows: `star` and `triangle_representative`.
-ghost use Rattle.std.specs.Prelude.{◌≡◌, true, [], ◌∷◌, ◌+◌, ◌*◌, ◌≤◌, ◌<◌, length, eqb};
+ghost use Rattle.std.specs.Prelude.{◌≡◌, true, cond, [], ◌∷◌, ◌+◌, ◌*◌, ◌≤◌, length, eqb, None, Some, MatchOption};
 ghost use Rattle.definitions.specs.Limits.{numbers_per_pair};
 ghost use Rattle.definitions.specs.Scan.{any, all, filter, only_if};
 ghost use Rattle.definitions.specs.Grid.{contains, pair_eq};
@@ -8,6 +8,7 @@ ghost use Rattle.context.specs.Shown.{pair_at, pairs_between};
 ghost use Rattle.context.specs.Rows.{Stretch, pair_form};
 ghost use Rattle.mouth_proposals.specs.Rows.{rows_of, shape_form};
 
+use context::PartitionContext;
 use context::pairs::{Pair, row_at};
 
 // MouthShape of ramp_boundaries.rs: of one pair, or a star about an outer region; `shape_form` of specs/Rows.antt gives the inner ones.
@@ -15,6 +16,17 @@ use context::pairs::{Pair, row_at};
 pub enum Shape {
     Single(Pair),
     Star(u32),
+}
+
+// The region of p whose answer is true, where just one is.
+pub fn region_of(p: Pair, lo: bool, hi: bool) -> Option<u32>
+    ensures { result ≡ cond lo (cond hi None (Some p.lo)) (cond hi (Some p.hi) None) }
+{
+    match (lo, hi) {
+        (true, false) => Some(p.lo),
+        (false, true) => Some(p.hi),
+        _ => None,
+    }
 }
 
 // Whether every row from `first` on, before `end`, names region r.
@@ -33,86 +45,118 @@ fn star_of(pairs: &[u32], first: usize, end: usize) -> Option<Shape>
     let p = row_at(pairs, first);
     let lo = in_all(pairs, first, end, p.lo);
     let hi = in_all(pairs, first, end, p.hi);
-    if lo {
-        if hi {
-            return None;
-        }
-        return Some(Shape::Star(p.lo));
-    }
-    if hi { Some(Shape::Star(p.hi)) } else { None }
+    let outer = region_of(p, lo, hi)?;
+    Some(Shape::Star(outer))
 }
 
 // The shape of mouth m, which is a full cut.
-pub fn star(pairs: &[u32], starts: &[usize; 257], m: usize) -> Option<Shape>
-    requires { Stretch pairs.now starts.now m }
-    ensures { shape_form (rows_of pairs.now starts.now m) result
-        ≡ mouth_shape true (rows_of pairs.now starts.now m) }
+pub fn star(context: PartitionContext, m: usize) -> Option<Shape>
+    requires { Stretch context.pairs.now context.starts.now m }
+    ensures { shape_form (rows_of context.entry.pairs.now context.entry.starts.now m) result
+        ≡ mouth_shape true (rows_of context.entry.pairs.now context.entry.starts.now m) }
 {
-    let first = starts[m];
-    let end = starts[m + 1];
-    if end - first == 0 {
-        return None;
+    let first = context.starts[m];
+    let end = context.starts[m + 1];
+    match end - first {
+        0 => None,
+        1 => Some(Shape::Single(row_at(context.pairs, first))),
+        _ => star_of(context.pairs, first, end),
     }
-    if end - first == 1 {
-        return Some(Shape::Single(row_at(pairs, first)));
+}
+
+// The rows of a full cut that has two: the edges of a mouth or of a ramp.
+#[derive(Clone, Copy)]
+struct Edges {
+    first: Pair,
+    second: Pair,
+}
+
+impl Edges {
+    // Those of boundary i, if it has two rows.
+    fn of(context: PartitionContext, i: usize) -> Option<Self>
+        requires { Stretch context.pairs.now context.starts.now i }
+        ensures { MatchOption result
+            (length (rows_of context.entry.pairs.now context.entry.starts.now i) ≡ 2 → ⊥)
+            (λ e. rows_of context.entry.pairs.now context.entry.starts.now i ≡ pair_form e.first ∷ pair_form e.second ∷ []) }
+    {
+        let k = context.starts[i];
+        if context.starts[i + 1] - k != 2 {
+            return None;
+        }
+        Some(Self {
+            first: row_at(context.pairs, k),
+            second: row_at(context.pairs, k + 1),
+        })
     }
-    star_of(pairs, first, end)
+
+    // Whether one of the two names region r.
+    fn name(self, r: u32) -> bool
+        ensures { result ≡ any (contains r) (pair_form self.first ∷ pair_form self.second ∷ []) }
+    {
+        self.first.contains(r) | self.second.contains(r)
+    }
+
+    // Whether p is one of the two.
+    fn have(self, p: Pair) -> bool
+        ensures { result ≡ any (pair_eq (pair_form p)) (pair_form self.first ∷ pair_form self.second ∷ []) }
+    {
+        (p == self.first) | (p == self.second)
+    }
 }
 
-// Whether two rows have three regions.
-fn has_three(p: Pair, q: Pair) -> bool
-    ensures { result ≡ eqb (length (distinct_regions (pair_form p ∷ pair_form q ∷ []))) 3 }
+// Whether the two rows have three regions.
+fn has_three(mouth: Edges) -> bool
+    ensures { result ≡ eqb (length (distinct_regions (pair_form mouth.first ∷ pair_form mouth.second ∷ []))) 3 }
 {
-    let second = p.hi != p.lo;
-    let third = !p.contains(q.lo);
-    let fourth = !p.contains(q.hi) & (q.hi != q.lo);
-    (second & third & !fourth) | (second & !third & fourth) | (!second & third & fourth)
+    let Edges { first, second } = mouth;
+    let two = first.hi != first.lo;
+    let third = !first.contains(second.lo);
+    let fourth = !first.contains(second.hi) & (second.hi != second.lo);
+    (two & third & !fourth) | (two & !third & fourth) | (!two & third & fourth)
 }
 
-// Whether each region of the rows p and q stands in s or t.
-fn all_named(p: Pair, q: Pair, s: Pair, t: Pair) -> bool
-    ensures { result ≡ all (λ x. any (contains x) (pair_form s ∷ pair_form t ∷ [])) (distinct_regions (pair_form p ∷ pair_form q ∷ [])) }
+// Whether the rows of the ramp name each region of the mouth's.
+fn all_named(mouth: Edges, ramp: Edges) -> bool
+    ensures { result
+        ≡ all (λ x. any (contains x) (pair_form ramp.first ∷ pair_form ramp.second ∷ []))
+        (distinct_regions (pair_form mouth.first ∷ pair_form mouth.second ∷ [])) }
 {
-    (s.contains(p.lo) | t.contains(p.lo))
-        & (s.contains(p.hi) | t.contains(p.hi))
-        & (s.contains(q.lo) | t.contains(q.lo))
-        & (s.contains(q.hi) | t.contains(q.hi))
+    ramp.name(mouth.first.lo)
+        & ramp.name(mouth.first.hi)
+        & ramp.name(mouth.second.lo)
+        & ramp.name(mouth.second.hi)
 }
 
-// Whether exactly one of the rows p and q is s or t.
-fn one_edge(p: Pair, q: Pair, s: Pair, t: Pair) -> bool
-    ensures { result ≡ eqb (length (filter (λ e. any (pair_eq e) (pair_form s ∷ pair_form t ∷ [])) (pair_form p ∷ pair_form q ∷ []))) 1 }
+// Whether just one of the mouth's rows is one of the ramp's.
+fn one_edge(mouth: Edges, ramp: Edges) -> bool
+    ensures { result
+        ≡ eqb (length (filter (λ e. any (pair_eq e) (pair_form ramp.first ∷ pair_form ramp.second ∷ []))
+        (pair_form mouth.first ∷ pair_form mouth.second ∷ []))) 1 }
 {
-    let first = (p == s) | (p == t);
-    let second = (q == s) | (q == t);
+    let first = ramp.have(mouth.first);
+    let second = ramp.have(mouth.second);
     (first & !second) | (!first & second)
 }
 
-fn is_triangle(p: Pair, q: Pair, s: Pair, t: Pair) -> bool
-    ensures { triangle_representative (pair_form p ∷ pair_form q ∷ []) (pair_form s ∷ pair_form t ∷ [])
-        ≡ only_if result (distinct_regions (pair_form p ∷ pair_form q ∷ [])) }
+fn is_triangle(mouth: Edges, ramp: Edges) -> bool
+    ensures { triangle_representative (pair_form mouth.first ∷ pair_form mouth.second ∷ []) (pair_form ramp.first ∷ pair_form ramp.second ∷ [])
+        ≡ only_if result (distinct_regions (pair_form mouth.first ∷ pair_form mouth.second ∷ [])) }
 {
-    has_three(p, q) & all_named(p, q, s, t) & one_edge(p, q, s, t)
+    has_three(mouth) & all_named(mouth, ramp) & one_edge(mouth, ramp)
 }
 
 // Whether mouth m and ramp a, both full cuts, form a triangle; its regions are those of the mouth's rows.
-pub fn triangle_representative(pairs: &[u32], starts: &[usize; 257], m: usize, a: usize) -> bool
-    requires { Stretch pairs.now starts.now m × Stretch pairs.now starts.now a }
-    ensures { triangle_representative (rows_of pairs.now starts.now m)
-        (rows_of pairs.now starts.now a) ≡ only_if result (distinct_regions (rows_of pairs.now starts.now m)) }
+pub fn triangle_representative(context: PartitionContext, m: usize, a: usize) -> bool
+    requires { Stretch context.pairs.now context.starts.now m × Stretch context.pairs.now context.starts.now a }
+    ensures { triangle_representative (rows_of context.entry.pairs.now context.entry.starts.now m)
+        (rows_of context.entry.pairs.now context.entry.starts.now a)
+        ≡ only_if result (distinct_regions (rows_of context.entry.pairs.now context.entry.starts.now m)) }
 {
-    let mouth = starts[m];
-    let ramp = starts[a];
-    if starts[m + 1] - mouth != 2 {
+    let Some(mouth) = Edges::of(context, m) else {
         return false;
-    }
-    if starts[a + 1] - ramp != 2 {
+    };
+    let Some(ramp) = Edges::of(context, a) else {
         return false;
-    }
-    is_triangle(
-        row_at(pairs, mouth),
-        row_at(pairs, mouth + 1),
-        row_at(pairs, ramp),
-        row_at(pairs, ramp + 1),
-    )
+    };
+    is_triangle(mouth, ramp)
 }

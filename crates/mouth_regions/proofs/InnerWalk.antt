@@ -17,7 +17,7 @@ use Rattle.definitions.specs.RampMouths.{corners_near_lem}
 use Rattle.laws.specs.ListLaws.ScansOfAll.{all_append-test, all_ext}
 use Rattle.context.specs.Shown.{pair_at, pairs_between, ShownPairs}
 use Rattle.context.proofs.Counting.{between_none, between_more}
-use Rattle.mouth_proposals.specs.Rows.{inner_of}
+use Rattle.mouth_proposals.specs.Rows.{is_outer, inner_of}
 use Rattle.mouth_regions.specs.Inner.{places_of, region_at, inner_at, passes}
 use Rattle.mouth_regions.specs.Near.{corner_near, region_near}
 use Rattle.mouth_proposals.proofs.RowLists.{all-regions}
@@ -75,12 +75,12 @@ module _ (g : ℕ → Bool) (rows : List ℕ) (first : ℕ) where
 
 -- ---- the inner regions
 
-module _ {C : Context} {pairs starts : List ℕ} (P : ShownPairs C pairs starts) (m : ℕ) (l : m < C.count) (outer : ℕ) where
+module _ {C : Context} {pairs starts : List ℕ} (P : ShownPairs C pairs starts) (m : ℕ) (l : m < C.count) (outer : Option ℕ) where
   abbrev at : ℕ → Option ℕ
   at k = inner_at pairs starts m outer k
 
-  passed : (f : ℕ → Bool) (r : ℕ) → (eqb r outer || f r) ≡ passes f (cond (eqb r outer) None (Some r))
-  passed f r = go (eqb r outer)
+  passed : (f : ℕ → Bool) (r : ℕ) → (is_outer outer r || f r) ≡ passes f (cond (is_outer outer r) None (Some r))
+  passed f r = go (is_outer outer r)
     where
       go : (b : Bool) → (b || f r) ≡ passes f (cond b None (Some r))
       go true = refl
@@ -89,10 +89,10 @@ module _ {C : Context} {pairs starts : List ℕ} (P : ShownPairs C pairs starts)
   pub inner-all : (f : ℕ → Bool) → all f (inner_of outer (C.pairs m)) ≡ all_below (places_of starts m) (λ k. passes f (at k))
   unfolding inner_of
   inner-all f =
-      all_of-filter (λ s. eqb s outer) f (distinct_regions (C.pairs m)) ∙ all_distinct (λ s. eqb s outer || f s) (C.pairs m) ∙ all-regions (λ s. eqb s outer || f s) (C.pairs m)
-      ∙ ap (all (row (λ s. eqb s outer || f s) pairs (get_or starts m 0))) (P.at m l)
-      ∙ ap (λ n. all (row (λ s. eqb s outer || f s) pairs (get_or starts m 0)) (pairs_between pairs (get_or starts m 0) n)) (spread (get_or starts m 0) (get_or starts (m + 1) 0) (P.rising m l))
-      ∙ walked (λ s. eqb s outer || f s) pairs (get_or starts m 0) (get_or starts (m + 1) 0 - get_or starts m 0)
+      all_of-filter (λ s. is_outer outer s) f (distinct_regions (C.pairs m)) ∙ all_distinct (λ s. is_outer outer s || f s) (C.pairs m) ∙ all-regions (λ s. is_outer outer s || f s) (C.pairs m)
+      ∙ ap (all (row (λ s. is_outer outer s || f s) pairs (get_or starts m 0))) (P.at m l)
+      ∙ ap (λ n. all (row (λ s. is_outer outer s || f s) pairs (get_or starts m 0)) (pairs_between pairs (get_or starts m 0) n)) (spread (get_or starts m 0) (get_or starts (m + 1) 0) (P.rising m l))
+      ∙ walked (λ s. is_outer outer s || f s) pairs (get_or starts m 0) (get_or starts (m + 1) 0 - get_or starts m 0)
       ∙ all_ext _ _ (places_of starts m) (λ k h. passed f (region_at pairs (get_or starts m 0) k))
     where
       spread : (a b : ℕ) → a ≤ b → b ≡ a + (b - a)

@@ -1,19 +1,25 @@
 -- Corners near a ramp or a mouth, by the distances that the code compares. Assumes nothing.
 use Prim.Native.Nat.{ℕ, zero, suc, ◌<◌}
-use mathlib.Core.Path.{◌≡◌, refl, sym, ap, ◌∙◌, subst}
-use mathlib.Core.Bool.{Bool, true, false, ◌&&◌, ◌||◌}
+use native.Mathlib.Omega.{arith}
+use mathlib.Core.Path.{◌≡◌, refl, sym, ap, ap₂, ◌∙◌, subst}
+use mathlib.Core.Bool.{Bool, true, false, ◌&&◌, ◌||◌, and-false}
 use mathlib.Core.List.{List, [], ◌∷◌, map}
-use lib.ListN.{get_or}
+use lib.ListN.{length}
+use Rattle.std.specs.Prelude.{MatchBool}
+use Rattle.std.specs.List.{AllWithin, HoldsAt}
 use lib.Ieee.{Float, binary64, le, of_bits, of_int}
 use Rattle.definitions.specs.Scan.{all}
 use Rattle.definitions.specs.Grid.{Segment}
 use Rattle.definitions.specs.Geometry.{float, Point, center, distance}
 use Rattle.definitions.specs.RegionRecord.{Region, corners}
+use Rattle.definitions.specs.Context.{Context}
 use Rattle.definitions.specs.RampMouths.{max_approach_radius}
-use Rattle.laws.specs.ListLaws.Members.{all-place}
+use Rattle.laws.specs.ListLaws.Lists.{All, more}
 use Rattle.laws.specs.FloatLaws.Pixels.{PixelPoint, PixelSegment, PixelRegion, pixel-half, center-half, corners-pixel}
 use Rattle.laws.specs.FloatLaws.DistanceRange.{DistanceInRange, distance-in_range}
-use Rattle.mouth_regions.specs.Near.{corner_near}
+use Rattle.geometry.specs.declared.Point as code
+use Rattle.geometry.specs.Forms.{point_form}
+use Rattle.mouth_regions.specs.Near.{corner_near, region_near}
 
 -- the literal of the code is the limit of the definitions
 radius_is : of_bits binary64 0x4080000000000000 ≡ max_approach_radius
@@ -37,38 +43,45 @@ module _ (ramp mouth c : Point) (broad : Bool) {d : Float} (e : d ≡ distance c
   near_none h b = λ i. (sym h ∙ (λ i. le (e i) (radius_is i))) i || sym b i && le (distance c mouth) max_approach_radius
 
 -- a corner and a centre are in range
-pub corner-in_range : {c p : Point} {s : Segment} → PixelPoint c → PixelSegment s → p ≡ center s → DistanceInRange c p
+corner-in_range : {c p : Point} {s : Segment} → PixelPoint c → PixelSegment s → p ≡ center s → DistanceInRange c p
 corner-in_range {c} {p} {s} hc hs e = subst (λ q. DistanceInRange c q) (sym e) (distance-in_range c (center s) (pixel-half hc) (center-half hs))
 
--- r is what `corner_near` answered of x, which is the corner X
-pub near_at_lem : (broad : Bool) {x p q X : Point} {s t : Segment} {r : Bool} → x ≡ X → p ≡ center s → q ≡ center t → PixelPoint X → PixelSegment s → PixelSegment t
-    → (DistanceInRange x p → DistanceInRange x q → r ≡ corner_near p q broad x) → r ≡ corner_near (center s) (center t) broad X
-near_at_lem broad {x} e f g hx hs ht h =
-    let hc = subst PixelPoint (sym e) hx in
-    h (corner-in_range hc hs f) (corner-in_range hc ht g) ∙ (λ i. corner_near (f i) (g i) broad (e i))
+-- what is asked of a region, by its corners
+pub near_is : (C : Context) (m a : ℕ) (broad : Bool) (R : Region) → region_near C m a broad R ≡ all (corner_near (center (C.boundary a).endpoints) (center (C.boundary m).endpoints) broad) (corners R)
+unfolding region_near
+near_is C m a broad R = refl
 
-place-mapped : {A B : Type 0} (f : A → B) (l : List A) (k : ℕ) (d : A) → f (get_or l k d) ≡ get_or (map f l) k (f d)
-place-mapped f [] k d = refl
-place-mapped f (x ∷ l) zero d = refl
-place-mapped f (x ∷ l) (suc k) d = place-mapped f l k d
+-- ---- a region's corners, each asked about the centres p and q
 
--- corner k of the region, from the corners as the code has them
-module _ {A : Type 0} (f : A → Point) (l : List A) (R : Region) (e : map f l ≡ corners R) where
-  pub corner_is : (k : ℕ) (d : A) → f (get_or l k d) ≡ get_or (corners R) k (f d)
-  corner_is k d = place-mapped f l k d ∙ ap (λ l. get_or l k (f d)) e
+module _ (broad : Bool) (p q : Point) where
+  -- v is the answer at a corner
+  abbrev pub Answer : Bool → code.Point → Type 0
+  Answer v x = DistanceInRange (point_form x) p → DistanceInRange (point_form x) q → corner_near p q broad (point_form x) ≡ v
 
-pub corner-pixel : (R : Region) → PixelRegion R → (k : ℕ) → k < 4 → (d : Point) → PixelPoint (get_or (corners R) k d)
-unfolding corners
-corner-pixel R h k l d = all-place d (corners-pixel h) k l
+  module _ {s t : Segment} (e : p ≡ center s) (f : q ≡ center t) (hs : PixelSegment s) (ht : PixelSegment t) where
+    test : Point → Bool
+    test = corner_near (center s) (center t) broad
 
-pub all-corners : (f : Point → Bool) (R : Region) (u v w x : Point) {a b c d : Bool} → a ≡ f (get_or (corners R) 0 u) → b ≡ f (get_or (corners R) 1 v) → c ≡ f (get_or (corners R) 2 w)
-    → d ≡ f (get_or (corners R) 3 x) → (((a && b) && c) && d) ≡ all f (corners R)
-unfolding corners all
-all-corners f R u v w x {a} {b} {c} {d} e g h k = order a b c d ∙ (λ i. e i && (g i && (h i && (k i && true))))
-  where
-    order : (a b c d : Bool) → (((a && b) && c) && d) ≡ (a && (b && (c && (d && true))))
-    order true true true true = refl
-    order true true true false = refl
-    order true true false d = refl
-    order true false c d = refl
-    order false b c d = refl
+    answered : {v : Bool} {x : code.Point} → PixelPoint (point_form x) → Answer v x → test (point_form x) ≡ v
+    unfolding test
+    answered {x = x} h a = sym (λ i. corner_near (e i) (f i) broad (point_form x)) ∙ a (corner-in_range h hs e) (corner-in_range h ht f)
+
+    every : (l : List code.Point) → All PixelPoint (map point_form l) → AllWithin (Answer true) l 0 (length l) → all test (map point_form l) ≡ true
+    unfolding all
+    every [] h a = refl
+    every (x ∷ l) (more h t) a = ap₂ ◌&&◌ (answered h (a 0 x (omega arith) (omega arith))) (every l t (λ k d z m. a (suc k) d (omega arith) (omega arith)))
+
+    some : (l : List code.Point) → All PixelPoint (map point_form l) → (k : ℕ) → k < length l → HoldsAt (Answer false) l k → all test (map point_form l) ≡ false
+    unfolding all
+    some [] h k m a = absurd (omega arith)
+    some (x ∷ l) (more h t) zero m a = ap (λ b. b && all test (map point_form l)) (answered h (a x))
+    some (x ∷ l) (more h t) (suc k) m a = ap (λ b. test (point_form x) && b) (some l t k (omega arith) a) ∙ and-false (test (point_form x))
+
+    asked : (l : List code.Point) → All PixelPoint (map point_form l) → (r : Bool) → MatchBool r (AllWithin (Answer true) l 0 (length l)) ((k : ℕ) × (k < length l) × HoldsAt (Answer false) l k) → r ≡ all test (map point_form l)
+    asked l h true a = sym (every l h a)
+    asked l h false (k, m, a) = sym (some l h k m a)
+
+    pub corners-asked : (l : List code.Point) (R : Region) → map point_form l ≡ corners R → PixelRegion R → (r : Bool)
+        → MatchBool r (AllWithin (Answer true) l 0 (length l)) ((k : ℕ) × (k < length l) × HoldsAt (Answer false) l k) → r ≡ all (corner_near (center s) (center t) broad) (corners R)
+    unfolding test
+    corners-asked l R g h r a = asked l (subst (All PixelPoint) (sym g) (corners-pixel h)) r a ∙ ap (all test) g

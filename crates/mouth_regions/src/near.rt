@@ -6,6 +6,7 @@ ghost use Rattle.laws.specs.FloatLaws.DistanceRange.{DistanceInRange};
 ghost use Rattle.context.specs.Shown.{ShownBoundaries};
 ghost use Rattle.context.specs.Records.{record_of};
 ghost use Rattle.geometry.specs.Forms.{point_form};
+ghost use Rattle.mouth_proposals.specs.Candidates.{is_broad};
 ghost use Rattle.mouth_proposals.specs.Lent.{Placed};
 ghost use Rattle.mouth_regions.specs.Near.{corner_near, region_near};
 
@@ -13,6 +14,7 @@ use context::Region;
 use geometry::Point;
 use geometry::boundaries::center_of;
 use geometry::points::distance;
+use mouth_proposals::candidates::MouthProposal;
 
 const MAX_APPROACH_RADIUS: f64 = 512.0;
 
@@ -26,20 +28,20 @@ fn corner_near(ramp: Point, mouth: Point, broad: bool, corner: Point) -> bool
 }
 
 // Whether each corner of the region is near the ramp's centre or, for a broad two-port approach, the mouth's.
-pub fn region_near(region: Region, boundaries: &[u64], m: usize, a: usize, broad: bool) -> bool
-    requires { Placed boundaries.now m × Placed boundaries.now a }
+pub fn region_near(region: Region, boundaries: &[u64], proposal: MouthProposal) -> bool
+    requires { Placed boundaries.now proposal.mouth × Placed boundaries.now proposal.ramp }
     ensures { (C : Context) →
         ShownBoundaries C boundaries.now →
-        m < C.count →
-        a < C.count →
+        proposal.mouth < C.count →
+        proposal.ramp < C.count →
         PixelRegion (record_of region) →
-        result ≡ region_near C m a broad (record_of region) }
+        result ≡ region_near C proposal.mouth proposal.ramp (is_broad proposal.kind) (record_of region) }
 {
-    let ramp = center_of(boundaries, a);
-    let mouth = center_of(boundaries, m);
-    let corners = region.corners();
-    corner_near(ramp, mouth, broad, corners[0])
-        & corner_near(ramp, mouth, broad, corners[1])
-        & corner_near(ramp, mouth, broad, corners[2])
-        & corner_near(ramp, mouth, broad, corners[3])
+    let ramp = center_of(boundaries, proposal.ramp);
+    let mouth = center_of(boundaries, proposal.mouth);
+    let broad = proposal.kind.is_broad();
+    region
+        .corners()
+        .iter()
+        .all(|&corner| corner_near(ramp, mouth, broad, corner))
 }

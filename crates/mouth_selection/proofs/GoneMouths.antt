@@ -5,12 +5,12 @@ use native.Mathlib.Omega.{arith}
 use mathlib.Core.Path.{◌≡◌, refl, sym, ap, ap₂, ◌∙◌, subst}
 use mathlib.Core.Logic.{⊎_elim}
 use mathlib.Core.Bool.{Bool, true, false, not, ◌&&◌, ◌||◌, cond, or-false}
-use Rattle.std.specs.Prelude.{Option, None}
-use mathlib.Core.List.{List, [], ◌∷◌, map}
+use Rattle.std.specs.Prelude.{Option, None, Some}
+use mathlib.Core.List.{List, map}
 use lib.ListN.{get_or}
 use lib.Dec.{eqb, leb}
-use borrow.Author.Tests.{ne_eqb, eq-eqb, leb-true, le-leb}
-use Rattle.definitions.specs.Scan.{any, filter, member, collect}
+use borrow.Author.Tests.{eq-eqb, leb-true, le-leb}
+use Rattle.definitions.specs.Scan.{any, filter, member, collect, to_list}
 use Rattle.definitions.specs.Grid.{contains}
 use Rattle.definitions.specs.MouthShapes.{distinct_regions, mouth_shape}
 use Rattle.definitions.specs.Context.{Context, full_cut, full_pair, no_ramp}
@@ -24,8 +24,8 @@ use Rattle.laws.specs.ListLaws.Tests.{or_split, or_right}
 use Rattle.context.specs.Shown.{ShownPairs, pair_at, pairs_between}
 use Rattle.context.specs.Rows.{NamedRow}
 use Rattle.context.proofs.ShownLaws.{shown-rows}
-use Rattle.mouth_proposals.specs.Rows.{inner_of}
-use Rattle.mouth_proposals.specs.Candidates.{proposal_of, mouth_candidate}
+use Rattle.mouth_proposals.specs.Rows.{is_outer, inner_of}
+use Rattle.mouth_proposals.specs.Candidates.{Numbered, proposal_of, mouth_candidate}
 use Rattle.mouth_proposals.proofs.ApproachLaws.{Named}
 use Rattle.mouth_proposals.proofs.Distinct.{member_filter, member_distinct, member-inner}
 use Rattle.mouth_proposals.proofs.RowLists.{between_cons}
@@ -43,19 +43,21 @@ record Formed (C : Context) (a m : ℕ) (p : MouthProposal) : Type 0 where
   names : (r : ℕ) → 1 ≤ r → any (contains r) (C.pairs m) ≡ true → member r (union_of p) ≡ true
 
 module _ (C : Context) (a m : ℕ) (named : All (Named C.regions) (C.pairs m)) where
-  plain-formed : (outer : ℕ) (kind : MouthKind) → outer ≤ C.regions → Formed C a m (proposal_of C m a outer kind)
+  plain-formed : (outer : Option ℕ) (kind : MouthKind) → Numbered C.regions outer → Formed C a m (proposal_of C m a outer kind)
   unfolding proposal_of member any
   plain-formed outer kind h =
       record {
         mouth = refl;
         ramp = refl;
         names = λ r k e.
-            member-append r (filter (λ r. not (eqb r 0)) (outer ∷ [])) (inner_of outer (C.pairs m))
-            ∙ ap₂ ◌||◌ (member_filter (λ r. not (eqb r 0)) r (outer ∷ []) ∙ ap (λ b. not b && member r (outer ∷ [])) (ne_eqb r 0 (λ z. omega (arith, z)))) (member-inner outer r (C.pairs m))
-            ∙ pick (eqb r outer) (any (contains r) (C.pairs m)) e;
+            member-append r (to_list outer) (inner_of outer (C.pairs m)) ∙ ap₂ ◌||◌ (named-outer outer r) (member-inner outer r (C.pairs m)) ∙ pick (is_outer outer r) (any (contains r) (C.pairs m)) e;
       }
     where
-      pick : (b c : Bool) → c ≡ true → ((b || false) || (not b && c)) ≡ true
+      named-outer : (o : Option ℕ) (r : ℕ) → any (eqb r) (to_list o) ≡ is_outer o r
+      named-outer None r = refl
+      named-outer (Some o) r = or-false (eqb r o)
+
+      pick : (b c : Bool) → c ≡ true → (b || (not b && c)) ≡ true
       pick true c e = refl
       pick false c e = e
 
@@ -81,6 +83,14 @@ module _ (C : Context) (a m : ℕ) (named : All (Named C.regions) (C.pairs m)) w
   formed_on : OnO (Formed C a m) (mouth_proposal C a m)
   unfolding mouth_candidate
   formed_on = subst (OnO (Formed C a m)) (sym (proposal_is C a m)) (on_retain (corners_near_lem C) (on_retain _ (found_on C a m named plain-formed triangle-formed)))
+
+collected : {P : MouthProposal → Type 0} (n : ℕ) (f : ℕ → Option MouthProposal) → ((i : ℕ) → i < n → OnO P (f i)) → All P (collect n f)
+unfolding collect
+collected zero f h = done
+collected (suc n) f h = all_append (collected n f (λ i l. h i (omega arith))) (on_list (h n (omega arith)))
+
+pub row_ramps : {C : Context} {pairs starts : List ℕ} → ShownPairs C pairs starts → (a : ℕ) → All (λ p. p.ramp_index ≡ a) (row_of C a)
+row_ramps {C} P a = collected C.count (mouth_proposal C a) (λ m h. on_map_lem (λ p F. F.ramp) (formed_on C a m (P.named m h)))
 
 -- ---- what conflicts with one taken
 
@@ -113,11 +123,6 @@ module _ (C : Context) (T : List MouthProposal) where
   none_free : {l : List MouthProposal} → All Refused l → None ≡ least_among C T l
   unfolding least_among least_from
   none_free a = sym (ap (least_from (ranks_before C) None) (filter_none (λ p. not (is_refused C T p)) (λ p e. ap not e) a))
-
-  collected : (n : ℕ) (f : ℕ → Option MouthProposal) → ((i : ℕ) → i < n → OnO Refused (f i)) → All Refused (collect n f)
-  unfolding collect
-  collected zero f h = done
-  collected (suc n) f h = all_append (collected n f (λ i l. h i (omega arith))) (on_list (h n (omega arith)))
 
   -- no boundary can be a mouth
   pub all_none : ((m : ℕ) → m < C.count → Gone C T m) → None ≡ least_among C T (proposals C)

@@ -1,6 +1,6 @@
--- What the proofs of several functions use, and in NearLeast and ProposalLists what a caller needs.
+-- What the proofs of several functions use, and what a caller needs: RoundLaws, SelectionLaws, BestSteps, NearLeast, ProposalLists.
 mod BestLaws
-mod BestSteps
+pub mod BestSteps
 mod Conflicts
 mod GoneMouths
 mod Greedy
@@ -9,7 +9,6 @@ mod LeastOfRows
 mod Marks
 pub mod NearLeast
 pub mod ProposalLists
-mod RoundLaws
-mod SelectionLaws
+pub mod RoundLaws
+pub mod SelectionLaws
 mod TakenLaws
-mod Written

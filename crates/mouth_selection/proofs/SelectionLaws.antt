@@ -26,8 +26,8 @@ use Rattle.laws.specs.RegionLaws.OneMore.{OneMore, count_more}
 use Rattle.context.proofs.ShownLaws.{shown-stretch, shown-rows}
 use Rattle.context.specs.Rows.{NamedRow, NamedRows}
 use Rattle.mouth_selection.specs.Held.{is_refused, TakenState}
-use Rattle.mouth_proposals.specs.Listed.{max_candidates}
-use Rattle.mouth_selection.specs.Entries.{SafeEntries, SafeKeys, Named}
+use Rattle.mouth_proposals.specs.Candidates.{Numbered}
+use Rattle.mouth_selection.specs.Entries.{SafeMouth, Known}
 use Rattle.mouth_selection.specs.Rounds.{better, least_from, least_among}
 use Rattle.mouth_selection.specs.Selecting.{is_removed, Lists}
 use Rattle.mouth_selection.proofs.Conflicts.{refused_is, conflicts-itself}
@@ -35,33 +35,30 @@ use Rattle.mouth_selection.proofs.Greedy.{is_left, rounds-end, round-taken}
 
 -- ---- what the code may read
 
-module _ {boundaries pairs starts : List ℕ} {entries : List Candidate} {count n : ℕ} {C : Context} (L : Lists boundaries pairs starts count C) (N : Named C entries n) (few : n ≤ max_candidates) where
-  pub safe-keys : SafeKeys boundaries entries n
-  safe-keys = record { few = few; mouth = λ k h. omega (arith, L.bounds.long, N.mouth k h); ramp = λ k h. omega (arith, L.bounds.long, N.ramp k h) }
+numbered-wider : {k l : ℕ} → k ≤ l → (o : Option ℕ) → Numbered k o → Numbered l o
+numbered-wider long None h = tt
+numbered-wider long (Some r) h = (h.0, le_trans h.1 long)
 
-  wider : {rows : List ℕ} {k l : ℕ} → C.regions ≤ l → NamedRow rows C.regions k → NamedRow rows l k
-  wider long r = record { inside = r.inside; lo-pos = r.lo-pos; lo-le = le_trans r.lo-le long; hi-pos = r.hi-pos; hi-le = le_trans r.hi-le long }
+row-wider : {rows : List ℕ} {k l r : ℕ} → k ≤ l → NamedRow rows k r → NamedRow rows l r
+row-wider long r = record { inside = r.inside; lo-pos = r.lo-pos; lo-le = le_trans r.lo-le long; hi-pos = r.hi-pos; hi-le = le_trans r.hi-le long }
 
-  pub safe-entries : {marks : List ℕ} → C.regions ≤ length marks → SafeEntries pairs starts marks entries n
-  safe-entries {marks} long =
+module _ {boundaries pairs starts : List ℕ} {count : ℕ} {C : Context} (L : Lists boundaries pairs starts count C) (marks : List ℕ) (long : C.regions ≤ length marks) where
+  pub safe-mouth : {e : Candidate} → Known C e → SafeMouth pairs starts marks e.mouth e.outer
+  safe-mouth {e} K =
       record {
-        few = few;
-        safe = λ k h.
-            record {
-              stretch = shown-stretch L.rows _ (N.mouth k h);
-              rows = λ r l u. wider long ((shown-rows L.rows).named _ (N.mouth k h) r l u);
-              marked = le_trans (N.outer k h) long;
-            };
+        stretch = shown-stretch L.rows _ K.mouth;
+        rows = λ r l u. row-wider long ((shown-rows L.rows).named _ K.mouth r l u);
+        marked = numbered-wider long e.outer K.outer;
       }
 
-  pub all-rows : {l : ℕ} → C.regions ≤ l → NamedRows pairs starts count l
-  all-rows {l} long =
+  pub all-rows : NamedRows pairs starts count (length marks)
+  all-rows =
       let N = shown-rows L.rows in
-      subst (λ n. NamedRows pairs starts n l) L.counted (record { few = N.few; stretch = N.stretch; named = λ i h k a b. wider long (N.named i h k a b) })
+      subst (λ n. NamedRows pairs starts n (length marks)) L.counted (record { few = N.few; stretch = N.stretch; named = λ i h k a b. row-wider long (N.named i h k a b) })
 
 -- ---- the least of what is left is left
 
-least_passes : {P : MouthProposal → Type 0} (lt : MouthProposal → MouthProposal → Bool) (b : Option MouthProposal) {l : List MouthProposal} (p : MouthProposal)
+pub least_passes : {P : MouthProposal → Type 0} (lt : MouthProposal → MouthProposal → Bool) (b : Option MouthProposal) {l : List MouthProposal} (p : MouthProposal)
     → ((q : MouthProposal) → b ≡ Some q → P q) → All P l → least_from lt b l ≡ Some p → P p
 unfolding least_from
 least_passes lt b p h done e = h p e
@@ -153,6 +150,3 @@ fewer-left {C} same T p {was} {now} S U h e =
         let a = count_ext C.count (λ i. not (get_or now i false)) G (λ i l. ap not (U.gone i l)) in
         let b = count_ext C.count (λ i. not (get_or was i false)) F (λ i l. ap not (S.gone i l)) in
         omega (arith, a, b, count_more one C.count h)
-
-pub taken_at : {C : Context} (T : List MouthProposal) {p q : MouthProposal} {removed used : List Bool} {marks : List ℕ} → p ≡ q → TakenState C (T ++ (p ∷ [])) removed used marks → TakenState C (T ++ (q ∷ [])) removed used marks
-taken_at {C} T {removed = removed} {used = used} {marks = marks} e S = subst (λ p. TakenState C (T ++ (p ∷ [])) removed used marks) e S

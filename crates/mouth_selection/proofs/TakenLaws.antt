@@ -1,18 +1,20 @@
 -- One proposal more is taken: what its mouth, its ramp end and its regions add to what is refused is what the code marks. A region outside it was held by no inner
 -- region and no triangle, or the proposal would have been refused. Assumes nothing.
-use Rattle.mouth_proposals.specs.Candidates.{is_triangular, proposal_of}
+use Rattle.mouth_proposals.specs.Candidates.{is_triangular, Numbered, proposal_of}
+use Rattle.mouth_proposals.specs.Rows.{is_outer}
 use Rattle.mouth_proposals.specs.declared.mouths.MouthKind.{MouthKind}
 use Prim.Native.Nat.{ℕ, ◌+◌, ◌-◌, ◌*◌, ◌/◌, ◌%◌, ◌≤◌, ◌<◌, zero-le}
 use native.Mathlib.Omega.{arith}
 use native.Mathlib.Nat.{le_trans}
 use mathlib.Core.Path.{◌≡◌, refl, sym, ap, ap₂, ◌∙◌, subst}
-use mathlib.Core.Bool.{Bool, true, false, not, ◌&&◌, ◌||◌, cond, or-false, true≢false}
+use Rattle.std.specs.Prelude.{Option, None, Some}
+use mathlib.Core.Bool.{Bool, true, false, not, ◌&&◌, ◌||◌, cond, or-false, true≢false, false≢true}
 use mathlib.Core.List.{List, [], ◌∷◌, ◌++◌, map}
 use lib.ListN.{length, get_or, set}
 use lib.Seq.{get_or-set_same, get_or-set_other}
 use lib.Dec.{eqb, ltb, leb}
-use borrow.Author.Tests.{eqb-true, eqb-false, eq-eqb, ne_eqb, ltb-true, ltb-false, lt-ltb, le-ltb}
-use Rattle.definitions.specs.Scan.{any, filter, member}
+use borrow.Author.Tests.{eqb-true, eqb-false, ltb-true, ltb-false, lt-ltb, le-ltb}
+use Rattle.definitions.specs.Scan.{any, member, to_list}
 use Rattle.definitions.specs.Grid.{Pair, Boundary, contains}
 use Rattle.definitions.specs.MouthShapes.{regions_of}
 use Rattle.definitions.specs.Context.{Context}
@@ -22,22 +24,35 @@ use Rattle.laws.specs.ListLaws.NumberLists.{member-append}
 use Rattle.laws.specs.OrderLaws.ListOrder.{eqb_sym}
 use Rattle.laws.specs.RustMouths.Triangles.{any-regions}
 use Rattle.laws.specs.ListLaws.Tests.{neither}
-use Rattle.context.specs.Shown.{ShownBoundaries}
-use Rattle.mouth_selection.specs.Held.{held, is_used, is_held, is_refused, hold_at_lem, mark_held, mark_inner, HeldMarks, same_end_lem, end_mark}
+use Rattle.context.specs.Shown.{ShownBoundaries, ShownPairs}
+use Rattle.mouth_selection.specs.Held.{held, is_used, is_held, is_refused, hold_at_lem, outer_hold, mark_held, mark_outer, mark_inner, held_at, left_at, HeldMarks, TakenState, same_end_lem, end_mark}
 use Rattle.mouth_proposals.proofs.Distinct.{member-inner}
 use Rattle.mouth_proposals.proofs.ApproachLaws.{Named}
 use Rattle.mouth_proposals.proofs.Fitting.{all-named-regions}
-use Rattle.mouth_selection.proofs.Marks.{held-length}
+use Rattle.mouth_selection.proofs.Marks.{held-length, outer-length, held_is}
 
 -- ---- what is left
 
-module _ (C : Context) (taken : List MouthProposal) (m a outer : ℕ) (kind : MouthKind) where
+module _ (C : Context) (taken : List MouthProposal) (m a : ℕ) (outer : Option ℕ) (kind : MouthKind) where
   abbrev p : MouthProposal
   p = proposal_of C m a outer kind
 
   pub left_by : {x y z : Bool} → member m (map (λ q. q.mouth_index) taken) ≡ x → is_used C taken a ≡ y → is_held taken p ≡ z → not (x || (y || z)) ≡ not (is_refused C taken p)
   unfolding is_refused proposal_of
   left_by e f g = sym (λ i. not (e i || (f i || g i)))
+
+  -- a proposal is left exactly where the marks say so
+  pub left_is : {pairs starts marks : List ℕ} {gone ends : List Bool} → ShownPairs C pairs starts → TakenState C taken gone ends marks → m < C.count → a < C.count → Numbered C.regions outer
+      → left_at pairs starts marks gone ends (record { mouth = m; ramp = a; outer = outer; kind = kind }) ≡ not (is_refused C taken p)
+  unfolding left_at
+  left_is {pairs} {starts} {marks} {gone} {ends} P S hm ha h =
+      order (get_or gone m false) (get_or ends a false) (held_at pairs starts marks m outer kind)
+      ∙ left_by (sym (S.gone m hm)) (sym (S.ends a ha)) (sym (held_is C taken marks S.holds P hm a outer kind h))
+    where
+      order : (x y z : Bool) → (not (x || y) && not z) ≡ not (x || (y || z))
+      order true y z = refl
+      order false true z = refl
+      order false false z = refl
 
   pub refused-parts : is_refused C taken p ≡ false → is_held taken p ≡ false
   unfolding is_refused
@@ -116,15 +131,15 @@ hold_at hold marks s r hs ls hr = go (eqb r s) refl
         ∙ ap (λ n. n / 2) (get_or-set_same marks (s - 1) (get_or marks (s - 1) 0 % 2 + 2 * hold) 0 (omega arith)) ∙ half (get_or marks (s - 1) 0) hold
     go false k = ap (λ n. n / 2) (get_or-set_other marks (s - 1) (r - 1) (get_or marks (s - 1) 0 % 2 + 2 * hold) 0 (λ q. eqb-false r s k (omega (arith, q))))
 
-inner_at_lem : (outer : ℕ) {n : ℕ} (marks : List ℕ) {l : List ℕ} (r : ℕ) → 1 ≤ r → n ≤ length marks → All (λ s. (1 ≤ s) × (s ≤ n)) l
-    → hold_at_lem (mark_inner outer marks l) r ≡ cond (not (eqb r outer) && member r l) 2 (hold_at_lem marks r)
+inner_at_lem : (outer : Option ℕ) {n : ℕ} (marks : List ℕ) {l : List ℕ} (r : ℕ) → 1 ≤ r → n ≤ length marks → All (λ s. (1 ≤ s) × (s ≤ n)) l
+    → hold_at_lem (mark_inner outer marks l) r ≡ cond (not (is_outer outer r) && member r l) 2 (hold_at_lem marks r)
 unfolding mark_inner member any
-inner_at_lem outer marks r hr hn done = none (eqb r outer)
+inner_at_lem outer marks r hr hn done = none (is_outer outer r)
   where
     none : (b : Bool) → hold_at_lem marks r ≡ cond (not b && false) 2 (hold_at_lem marks r)
     none true = refl
     none false = refl
-inner_at_lem outer {n} marks r hr hn (more {x = s} {l = l} h t) = next (eqb s outer) refl (λ m k. inner_at_lem outer m r hr k t)
+inner_at_lem outer {n} marks r hr hn (more {x = s} {l = l} h t) = next (is_outer outer s) refl (λ m k. inner_at_lem outer m r hr k t)
   where
     skip : (u v : ℕ) (x y e : Bool) → (e ≡ true → x ≡ true) → cond (not x && y) u v ≡ cond (not x && (e || y)) u v
     skip u v x y false k = refl
@@ -141,15 +156,15 @@ inner_at_lem outer {n} marks r hr hn (more {x = s} {l = l} h t) = next (eqb s ou
     join v false false true k = refl
     join v false false false k = refl
 
-    next : (b : Bool) → eqb s outer ≡ b → ((m : List ℕ) → n ≤ length m → hold_at_lem (mark_inner outer m l) r ≡ cond (not (eqb r outer) && any (eqb r) l) 2 (hold_at_lem m r))
-        → hold_at_lem (mark_inner outer (cond b marks (mark_held 2 marks s)) l) r ≡ cond (not (eqb r outer) && (eqb r s || any (eqb r) l)) 2 (hold_at_lem marks r)
-    next true e ih = ih marks hn ∙ skip 2 (hold_at_lem marks r) (eqb r outer) (any (eqb r) l) (eqb r s) (λ k. eq-eqb r outer (eqb-true r s k ∙ eqb-true s outer e))
+    next : (b : Bool) → is_outer outer s ≡ b → ((m : List ℕ) → n ≤ length m → hold_at_lem (mark_inner outer m l) r ≡ cond (not (is_outer outer r) && any (eqb r) l) 2 (hold_at_lem m r))
+        → hold_at_lem (mark_inner outer (cond b marks (mark_held 2 marks s)) l) r ≡ cond (not (is_outer outer r) && (eqb r s || any (eqb r) l)) 2 (hold_at_lem marks r)
+    next true e ih = ih marks hn ∙ skip 2 (hold_at_lem marks r) (is_outer outer r) (any (eqb r) l) (eqb r s) (λ k. ap (is_outer outer) (eqb-true r s k) ∙ e)
     next false e ih =
         ih (mark_held 2 marks s) (subst (λ k. n ≤ k) (sym (held-length 2 marks s)) hn)
-        ∙ ap (cond (not (eqb r outer) && any (eqb r) l) 2) (hold_at 2 marks s r h.0 (le_trans h.1 hn) hr)
-        ∙ join (hold_at_lem marks r) (eqb r outer) (any (eqb r) l) (eqb r s) (λ k. ne_eqb r outer (λ q. eqb-false s outer e (sym (eqb-true r s k) ∙ q)))
+        ∙ ap (cond (not (is_outer outer r) && any (eqb r) l) 2) (hold_at 2 marks s r h.0 (le_trans h.1 hn) hr)
+        ∙ join (hold_at_lem marks r) (is_outer outer r) (any (eqb r) l) (eqb r s) (λ k. ap (is_outer outer) (eqb-true r s k) ∙ e)
 
-module _ (C : Context) (taken : List MouthProposal) (m a outer : ℕ) (kind : MouthKind) (marks : List ℕ) (H : HeldMarks C taken marks) (long : C.regions ≤ length marks) (named : All (Named C.regions) (C.pairs m)) (inside : outer ≤ C.regions) (free : is_held taken (proposal_of C m a outer kind) ≡ false) where
+module _ (C : Context) (taken : List MouthProposal) (m a : ℕ) (outer : Option ℕ) (kind : MouthKind) (marks : List ℕ) (H : HeldMarks C taken marks) (long : C.regions ≤ length marks) (named : All (Named C.regions) (C.pairs m)) (inside : Numbered C.regions outer) (free : is_held taken (proposal_of C m a outer kind) ≡ false) where
   abbrev one : MouthProposal
   one = proposal_of C m a outer kind
 
@@ -157,7 +172,7 @@ module _ (C : Context) (taken : List MouthProposal) (m a outer : ℕ) (kind : Mo
   tri = is_triangular kind
 
   abbrev first : List ℕ
-  first = cond (eqb outer 0) marks (mark_held (cond tri 2 1) marks outer)
+  first = mark_outer (outer_hold kind) outer marks
 
   abbrev hard : ℕ → Bool
   hard r = any (λ q. member r q.inner || q.is_triangle && member r (union_of q)) taken
@@ -166,61 +181,48 @@ module _ (C : Context) (taken : List MouthProposal) (m a outer : ℕ) (kind : Mo
   known r = any (λ q. member r (union_of q)) taken
 
   -- a region outside was held by none that holds it alone
-  outer-free : (r : ℕ) → 1 ≤ r → eqb r outer ≡ true → tri ≡ false → hard r ≡ false
-  unfolding is_held proposal_of held filter any
-  outer-free r hr e t = go (hard outer) refl
+  outer-free : (o : Option ℕ) → is_held taken (proposal_of C m a o kind) ≡ false → (r : ℕ) → is_outer o r ≡ true → tri ≡ false → hard r ≡ false
+  unfolding is_held proposal_of held any
+  outer-free None unheld r e t = absurd (false≢true e)
+  outer-free (Some o) unheld r e t = ap hard (eqb-true r o e) ∙ go (hard o) refl
     where
-      same : r ≡ outer
-      same = eqb-true r outer e
+      open_outer : (leb 3 (held taken o + cond tri 2 1) || false) ≡ false
+      open_outer = (neither _ _ unheld).0
 
-      open_outer : (leb 3 (held taken outer + cond tri 2 1) || false) ≡ false
-      open_outer = sym (ap (λ b. any (λ r. leb 3 (held taken r + cond tri 2 1)) (cond (not b) (outer ∷ []) [])) (ne_eqb outer 0 (λ q. omega (arith, q, same, hr)))) ∙ (neither _ _ free).0
-
-      go : (b : Bool) → hard outer ≡ b → hard r ≡ false
-      go true k = absurd (true≢false (sym (ap₂ (λ b t. leb 3 (cond b 2 (cond (known outer) 1 0) + cond t 2 1) || false) k t) ∙ open_outer))
-      go false k = ap hard same ∙ k
+      go : (b : Bool) → hard o ≡ b → b ≡ false
+      go true k = absurd (true≢false (sym (ap₂ (λ b t. leb 3 (cond b 2 (cond (known o) 1 0) + cond t 2 1) || false) k t) ∙ open_outer))
+      go false k = refl
 
   -- whether region r is inside
   abbrev within : ℕ → Bool
-  within r = not (eqb r outer) && member r (regions_of (C.pairs m))
+  within r = not (is_outer outer r) && member r (regions_of (C.pairs m))
 
-  first_at : (r : ℕ) → 1 ≤ r → r ≤ C.regions → hold_at_lem first r ≡ cond (eqb r outer) (cond tri 2 1) (held taken r)
-  first_at r hr lr = go (eqb outer 0) refl
-    where
-      go : (b : Bool) → eqb outer 0 ≡ b → hold_at_lem (cond b marks (mark_held (cond tri 2 1) marks outer)) r ≡ cond (eqb r outer) (cond tri 2 1) (held taken r)
-      go true k = H.at r hr lr ∙ sym (ap (λ b. cond b (cond tri 2 1) (held taken r)) (ne_eqb r outer (λ q. omega (arith, q, eqb-true outer 0 k, hr))))
-      go false k =
-          hold_at (cond tri 2 1) marks outer r (omega (arith, eqb-false outer 0 k)) (le_trans inside long) hr ∙ ap (cond (eqb r outer) (cond tri 2 1)) (H.at r hr lr)
-
-  first_length : length first ≡ length marks
-  first_length = go (eqb outer 0)
-    where
-      go : (b : Bool) → length (cond b marks (mark_held (cond tri 2 1) marks outer)) ≡ length marks
-      go true = refl
-      go false = held-length (cond tri 2 1) marks outer
+  first_at : (o : Option ℕ) → Numbered C.regions o → (r : ℕ) → 1 ≤ r → r ≤ C.regions → hold_at_lem (mark_outer (outer_hold kind) o marks) r ≡ cond (is_outer o r) (cond tri 2 1) (held taken r)
+  first_at None h r hr lr = H.at r hr lr
+  first_at (Some o) h r hr lr = hold_at (outer_hold kind) marks o r h.0 (le_trans h.1 long) hr ∙ ap (cond (eqb r o) (outer_hold kind)) (H.at r hr lr)
 
   in_one : (r : ℕ) → member r one.inner ≡ within r
   unfolding proposal_of
-  in_one r = member-inner outer r (C.pairs m) ∙ ap (λ b. not (eqb r outer) && b) (sym (member-regions r (C.pairs m)))
+  in_one r = member-inner outer r (C.pairs m) ∙ ap (λ b. not (is_outer outer r) && b) (sym (member-regions r (C.pairs m)))
 
-  of_one : (r : ℕ) → 1 ≤ r → member r (union_of one) ≡ (eqb r outer || within r)
-  unfolding proposal_of filter member any
-  of_one r hr = member-append r one.outer one.inner ∙ ap₂ ◌||◌ (go (eqb outer 0) refl) (in_one r)
+  of_one : (r : ℕ) → member r (union_of one) ≡ (is_outer outer r || within r)
+  unfolding proposal_of member any
+  of_one r = member-append r one.outer one.inner ∙ ap₂ ◌||◌ (go outer) (in_one r)
     where
-      go : (b : Bool) → eqb outer 0 ≡ b → any (eqb r) (cond (not b) (outer ∷ []) []) ≡ eqb r outer
-      go true k = sym (ne_eqb r outer (λ q. omega (arith, q, eqb-true outer 0 k, hr)))
-      go false k = or-false (eqb r outer)
+      go : (o : Option ℕ) → any (eqb r) (to_list o) ≡ is_outer o r
+      go None = refl
+      go (Some o) = or-false (eqb r o)
 
-  held_one : (r : ℕ) → 1 ≤ r → held (taken ++ (one ∷ [])) r ≡ cond (hard r || (within r || tri && (eqb r outer || within r))) 2 (cond (known r || (eqb r outer || within r)) 1 0)
+  held_one : (r : ℕ) → held (taken ++ (one ∷ [])) r ≡ cond (hard r || (within r || tri && (is_outer outer r || within r))) 2 (cond (known r || (is_outer outer r || within r)) 1 0)
   unfolding held any
-  held_one r hr =
+  held_one r =
       (λ i. cond ((any_append (λ q. member r q.inner || q.is_triangle && member r (union_of q)) taken (one ∷ []) ∙ ap (λ b. hard r || b) (or-false _ ∙ new)) i) 2
-      (cond ((any_append (λ q. member r (union_of q)) taken (one ∷ []) ∙ ap (λ b. known r || b) (or-false _ ∙ of_one r hr)) i) 1 0))
+      (cond ((any_append (λ q. member r (union_of q)) taken (one ∷ []) ∙ ap (λ b. known r || b) (or-false _ ∙ of_one r)) i) 1 0))
     where
-      new : (member r one.inner || one.is_triangle && member r (union_of one)) ≡ (within r || tri && (eqb r outer || within r))
-      new = ap₂ (λ x y. x || one.is_triangle && y) (in_one r) (of_one r hr) ∙ kind_is
+      new : (member r one.inner || one.is_triangle && member r (union_of one)) ≡ (within r || tri && (is_outer outer r || within r))
+      new = ap₂ (λ x y. x || one.is_triangle && y) (in_one r) (of_one r) ∙ kind_is
         where
-          kind_is : (within r || one.is_triangle && (eqb r outer || within r)) ≡ (within r || tri && (eqb r outer || within r))
+          kind_is : (within r || one.is_triangle && (is_outer outer r || within r)) ≡ (within r || tri && (is_outer outer r || within r))
           kind_is = unfold proposal_of in refl
 
   pub held-taken : HeldMarks C (taken ++ (one ∷ [])) (mark_inner outer first (regions_of (C.pairs m)))
@@ -228,18 +230,18 @@ module _ (C : Context) (taken : List MouthProposal) (m a outer : ℕ) (kind : Mo
     where
       at : (r : ℕ) → 1 ≤ r → r ≤ C.regions → hold_at_lem (mark_inner outer first (regions_of (C.pairs m))) r ≡ held (taken ++ (one ∷ [])) r
       at r hr lr =
-          inner_at_lem outer first r hr (subst (λ k. C.regions ≤ k) (sym first_length) long) (all-named-regions named)
-          ∙ ap (cond (within r) 2) (first_at r hr lr ∙ ap (cond (eqb r outer) (cond tri 2 1)) split)
-          ∙ order (eqb r outer) refl (member r (regions_of (C.pairs m))) tri refl (hard r) refl (known r) ∙ sym (held_one r hr)
+          inner_at_lem outer first r hr (subst (λ k. C.regions ≤ k) (sym (outer-length (outer_hold kind) outer marks)) long) (all-named-regions named)
+          ∙ ap (cond (within r) 2) (first_at outer inside r hr lr ∙ ap (cond (is_outer outer r) (cond tri 2 1)) split)
+          ∙ order (is_outer outer r) refl (member r (regions_of (C.pairs m))) tri refl (hard r) refl (known r) ∙ sym (held_one r)
         where
           split : held taken r ≡ cond (hard r) 2 (cond (known r) 1 0)
           split = unfold held in refl
 
-          order : (e : Bool) → eqb r outer ≡ e → (i t : Bool) → tri ≡ t → (h : Bool) → hard r ≡ h → (k : Bool)
+          order : (e : Bool) → is_outer outer r ≡ e → (i t : Bool) → tri ≡ t → (h : Bool) → hard r ≡ h → (k : Bool)
               → ◌≡◌ {A = ℕ} (cond (not e && i) 2 (cond e (cond t 2 1) (cond h 2 (cond k 1 0)))) (cond (h || (not e && i || t && (e || not e && i))) 2 (cond (k || (e || not e && i)) 1 0))
           order true d i true f true g k = refl
           order true d i true f false g k = refl
-          order true d i false f true g k = absurd (true≢false (sym g ∙ outer-free r hr d f))
+          order true d i false f true g k = absurd (true≢false (sym g ∙ outer-free outer free r d f))
           order true d i false f false g true = refl
           order true d i false f false g false = refl
           order false d true t f true g k = refl

@@ -1,9 +1,14 @@
 -- What taken proposals keep from others, as the code marks it: a mouth, a ramp end, and regions. Definitions only; assumes nothing.
-use Rattle.std.specs.Prelude.{ℕ, ◌+◌, ◌-◌, ◌*◌, ◌/◌, ◌%◌, ◌≤◌, ◌<◌, ◌≡◌, Bool, false, ◌&&◌, ◌||◌, cond, List, [], ◌∷◌, map, get_or, set, eqb, ltb, leb}
+use Rattle.std.specs.Prelude.{ℕ, ◌+◌, ◌-◌, ◌*◌, ◌/◌, ◌%◌, ◌≤◌, ◌<◌, ◌≡◌, Bool, false, not, ◌&&◌, ◌||◌, cond, List, [], ◌∷◌, map, get_or, set, eqb, ltb, leb, Option, None, Some}
 use Rattle.definitions.specs.Limits.{numbers_per_boundary}
 use Rattle.definitions.specs.Scan.{any, member}
+use Rattle.definitions.specs.Grid.{Pair}
 use Rattle.definitions.specs.Context.{Context}
 use Rattle.definitions.specs.RampMouths.{MouthProposal, union_of}
+use Rattle.mouth_proposals.specs.Rows.{is_outer, rows_of}
+use Rattle.mouth_proposals.specs.Candidates.{is_triangular}
+use Rattle.mouth_proposals.specs.declared.candidates.MouthProposal as declared
+use Rattle.mouth_proposals.specs.declared.mouths.MouthKind.{MouthKind}
 
 -- How the taken proposals hold region r: 2 where it is an inner region of one, or any region of a triangle; 1 where it lies outside others only; 0 where none
 -- names it.
@@ -31,13 +36,44 @@ is_refused C taken p = member p.mouth_index (map (λ q. q.mouth_index) taken) ||
 abbrev pub hold_at_lem : List ℕ → ℕ → ℕ
 hold_at_lem marks r = get_or marks (r - 1) 0 / 2
 
+-- how a proposal of this kind holds the region outside
+abbrev pub outer_hold : MouthKind → ℕ
+outer_hold kind = cond (is_triangular kind) 2 1
+
 unfoldable pub mark_held : ℕ → List ℕ → ℕ → List ℕ
 mark_held hold marks r = set marks (r - 1) (get_or marks (r - 1) 0 % 2 + 2 * hold)
 
-unfoldable pub mark_inner : ℕ → List ℕ → List ℕ → List ℕ
+abbrev pub mark_outer : ℕ → Option ℕ → List ℕ → List ℕ
+mark_outer hold None marks = marks
+mark_outer hold (Some r) marks = mark_held hold marks r
+
+unfoldable pub mark_inner : Option ℕ → List ℕ → List ℕ → List ℕ
 unfolding mark_held
 mark_inner outer marks [] = marks
-mark_inner outer marks (r ∷ l) = mark_inner outer (cond (eqb r outer) marks (mark_held 2 marks r)) l
+mark_inner outer marks (r ∷ l) = mark_inner outer (cond (is_outer outer r) marks (mark_held 2 marks r)) l
+
+-- ---- whether marks hold a region of a proposal
+
+module _ (marks : List ℕ) where
+  abbrev pub outer_held : Option ℕ → ℕ → Bool
+  outer_held None hold = false
+  outer_held (Some r) hold = leb 3 (hold_at_lem marks r + hold)
+
+  abbrev pub inner_held : Option ℕ → ℕ → Bool
+  inner_held outer r = not (is_outer outer r) && leb 3 (hold_at_lem marks r + 2)
+
+  abbrev pub row_held : Option ℕ → Pair → Bool
+  row_held outer p = inner_held outer p.lo || inner_held outer p.hi
+
+module _ (pairs starts marks : List ℕ) where
+  unfoldable pub held_at : ℕ → Option ℕ → MouthKind → Bool
+  unfolding any
+  held_at m outer kind = outer_held marks outer (outer_hold kind) || any (row_held marks outer) (rows_of pairs starts m)
+
+  -- as the marks say, the proposal conflicts with none taken
+  unfoldable pub left_at : List Bool → List Bool → declared.MouthProposal → Bool
+  unfolding held_at
+  left_at gone ends p = not (get_or gone p.mouth false || get_or ends p.ramp false) && not (held_at p.mouth p.outer p.kind)
 
 pub record HeldMarks (C : Context) (taken : List MouthProposal) (marks : List ℕ) : Type 0 where
   pub at : (r : ℕ) → 1 ≤ r → r ≤ C.regions → hold_at_lem marks r ≡ held taken r

@@ -1,13 +1,12 @@
 -- The first least of what conflicts with none taken, and what may be known of it from before. Definitions only; assumes nothing.
 use Rattle.mouth_proposals.specs.declared.candidates.Candidate.{Candidate}
-use Rattle.std.specs.Prelude.{ℕ, ◌≡◌, Bool, false, List, [], ◌∷◌, get_or, Option, None, Some}
-use Rattle.std.proofs.Math.Bool.{not, cond}
-use Rattle.definitions.specs.Scan.{filter}
+use Rattle.std.specs.Prelude.{ℕ, ◌≡◌, Bool, false, List, [], ◌∷◌, Option, None, Some}
+use Rattle.std.proofs.Math.Bool.{not, ◌&&◌, cond}
+use Rattle.definitions.specs.Scan.{filter, collect}
 use Rattle.definitions.specs.Context.{Context}
 use Rattle.definitions.specs.RampMouths.{MouthProposal, ranks_before, corners_near_lem}
 use Rattle.mouth_selection.specs.Held.{is_refused}
 use Rattle.mouth_proposals.specs.Listed.{entry_at}
-use Rattle.mouth_selection.specs.Entries.{marked_entries}
 
 module _ {A : Type 0} (lt : A → A → Bool) where
   -- of two elements that are level the earlier
@@ -29,18 +28,16 @@ module _ {A : Type 0} (lt : A → A → Bool) where
     same : {o : Option A} → Under p o o
     over : {x : A} {o : Option A} → p x ≡ false → NotBefore x o → Under p (Some x) o
 
-module _ (C : Context) where
-  unfoldable pub least_among : List MouthProposal → List MouthProposal → Option MouthProposal
+module _ (C : Context) (taken : List MouthProposal) where
+  unfoldable pub least_among : List MouthProposal → Option MouthProposal
   unfolding least_from filter is_refused ranks_before
-  least_among taken l = least_from (ranks_before C) None (filter (λ p. not (is_refused C taken p)) l)
+  least_among l = least_from (ranks_before C) None (filter (λ p. not (is_refused C taken p)) l)
 
-  -- with entry k, if it is marked
-  unfoldable pub better_of : List Candidate → List Bool → ℕ → Option MouthProposal → Option MouthProposal
-  unfolding ranks_before
-  better_of entries marked k b =
-      cond (get_or marked k false) (better (ranks_before C) b (entry_at C entries k)) b
+  -- the better one of b and p, if p conflicts with none taken and its inner regions are near
+  abbrev pub better_near : Option MouthProposal → MouthProposal → Option MouthProposal
+  better_near b p = cond (corners_near_lem C p && not (is_refused C taken p)) (better (ranks_before C) b p) b
 
-  -- the first least of the first k entries that are marked and whose inner regions are near
-  unfoldable pub near_least : List Candidate → List Bool → ℕ → Option MouthProposal
-  unfolding least_from filter ranks_before corners_near_lem marked_entries
-  near_least entries marked k = least_from (ranks_before C) None (filter (corners_near_lem C) (marked_entries C entries marked k))
+  -- the first least of those of the first k entries that conflict with none taken and whose inner regions are near
+  unfoldable pub near_least : List Candidate → ℕ → Option MouthProposal
+  unfolding least_among collect filter corners_near_lem
+  near_least entries k = least_among (filter (corners_near_lem C) (collect k (λ i. Some (entry_at C entries i))))

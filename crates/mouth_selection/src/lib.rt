@@ -5,4 +5,4 @@
 pub mod bests;
 pub mod held;
 pub mod keys;
-pub mod selection;
+pub mod taken;

@@ -1,4 +1,3 @@
-pub mod Copying
 pub mod Numbers
 pub mod Proposing
 pub mod Exits

@@ -3,15 +3,17 @@
 
 #![tactic(auto)]
 
-ghost use Rattle.std.specs.Prelude.{◌≡◌, ◌*◌, ◌≤◌, length, take};
+ghost use Rattle.std.specs.Prelude.{◌≡◌, ◌*◌, ◌≤◌, length};
 ghost use Rattle.definitions.specs.Lists.{overwrite, zeroed};
 ghost use Rattle.ranked_list.specs.RankedList.{numbers_per_ranked};
 ghost use Rattle.pass_lists.specs.Finished.{Finishes};
-ghost use Rattle.ranked_finish.specs.Ends.{RankedRefused, RankedFinished};
+ghost use Rattle.ranked_finish.specs.Ends.{ranked_form, RankedRefused, RankedFinished};
+ghost use Rattle.refusals.specs.Refusals.{number_of};
 
 use call_partition::scratch::clear_scratch;
 use pass_lists::finish;
 use ranked_rows::NUMBERS_PER_RANKED;
+use refusals::{Cause, Refusal};
 
 // The number is 0, the value how many rows are kept and there are so many proposals, or they are a refusal's number and place, and 0.
 #[repr(C)]
@@ -22,14 +24,22 @@ pub struct RankedAnswer {
     pub proposals: u64,
 }
 
-// Writes the first `size` numbers of a list into the one that was lent.
-fn put_listed(listed: &[u32], size: usize, lent: &mut [u32])
-    requires { (size ≤ length listed.now) × (size ≤ length lent.old) }
-    ensures { lent.new ≡ overwrite (take size listed.now) lent.old }
+pub fn refused(refusal: Refusal) -> RankedAnswer
+    ensures { ranked_form result ≡ record { number = number_of refusal.cause; value = refusal.place; proposals = 0 } }
 {
-    for i in 0..size {
-        lent[i] = listed[i];
+    RankedAnswer {
+        number: refusal.cause.number(),
+        value: refusal.place as u64,
+        proposals: 0,
     }
+}
+
+// Writes a list in front of the one that was lent.
+fn put_listed(listed: &[u32], lent: &mut [u32])
+    requires { length listed.now ≤ length lent.old }
+    ensures { lent.new ≡ overwrite listed.now lent.old }
+{
+    lent[..listed.len()].copy_from_slice(listed);
 }
 
 // 21: the lent list is zero, and so are masks and queue over the needed length.
@@ -45,11 +55,10 @@ fn refuse_list(
 {
     clear_scratch(masks, queue, needed);
     lent.fill(0);
-    RankedAnswer {
-        number: 21,
-        value: 0,
-        proposals: 0,
-    }
+    refused(Refusal {
+        cause: Cause::Ranked,
+        place: 0,
+    })
 }
 
 // The list holds the rows of n proposals. Where the lent one has room for them, they are written there, the rows of the `count` boundaries that are not removed go
@@ -76,7 +85,7 @@ pub fn finish_ranked(
         return refuse_list(needed, masks, queue, lent);
     }
     let kept = finish(needed, count, boundaries, removed, masks, queue, output);
-    put_listed(listed, NUMBERS_PER_RANKED * n, lent);
+    put_listed(&listed[..NUMBERS_PER_RANKED * n], lent);
     RankedAnswer {
         number: 0,
         value: kept as u64,

@@ -21,6 +21,7 @@ use Rattle.ranked_list.specs.RankedList.{Listed, blocks, judged, judged_after, f
 use Rattle.ranked_list.proofs.RankedLaws.{row_at_lem, judged-length}
 use Rattle.ranked_rows.specs.Contract.{Listing, RankOf, ranked_row, listed_from, blocks_at, Following}
 use Rattle.ranked_rows.proofs.Judging.{judged_more, flat_more, flat-length, taken-number, row_written}
+use Rattle.context.specs.declared.pairs.Pair as declared
 
 -- ---- the rows that an order names
 
@@ -62,12 +63,12 @@ alike : {f g : ℕ → Bool} {n m : ℕ} → ((i : ℕ) → i < n → f i ≡ g 
 alike e q None s = λ j a h. sym (e j (omega arith)) ∙ s j a (omega arith)
 alike e q (Some r) s = (s.0, omega (arith, s.1), sym (e r s.1) ∙ s.2, λ j a h. sym (e j (omega (arith, s.1))) ∙ s.3 j a h)
 
-module _ (smaller larger : List ℕ) (rows : List Candidate) (order : List ℕ) (count k p : ℕ) where
+module _ (full : List (Option declared.Pair)) (rows : List Candidate) (order : List ℕ) (count k p : ℕ) where
   abbrev clash : Proposal → Proposal → Bool
-  clash = conflict_at smaller larger count
+  clash = conflict_at full count
 
   abbrev before : List (Listed Proposal)
-  before = listed_from smaller larger count (order_of rows order k)
+  before = listed_from full count (order_of rows order k)
 
   before-length : length before ≡ k
   unfolding listed_from
@@ -79,8 +80,8 @@ module _ (smaller larger : List ℕ) (rows : List Candidate) (order : List ℕ) 
       sym (order_at rows order k i d.item h)
       ∙ sym (ap (λ r. r.item) (row_at_lem clash [] (order_of rows order k) i d d.item (omega (arith, order-length rows order k))))
 
-  pub row-follows : {was now : List ℕ} {n : ℕ} (found : Option ℕ) → Listing rows order was count n → RankOf order n k p → FirstIn (blocks_at smaller larger count rows order was p) 0 k found → now ≡ sets was (6 * k) (ranked_row (row_at rows p) found)
-      → Following smaller larger count rows order k p was now
+  pub row-follows : {was now : List ℕ} {n : ℕ} (found : Option ℕ) → Listing rows order was count n → RankOf order n k p → FirstIn (blocks_at full count rows order was p) 0 k found → now ≡ sets was (6 * k) (ranked_row (row_at rows p) found)
+      → Following full count rows order k p was now
   row-follows {was} {now} {n} found listing rank first stored old e =
       stored ∙ ap (λ l. sets l (6 * k) (ranked_row (row_at rows p) found)) e ∙ ap₂ (sets (overwrite (flat_ranked before) old)) place written
       ∙ overwrite_more (flat_ranked before) (flat_ranked (judged clash before (row_at rows p) ∷ [])) old room
@@ -89,7 +90,7 @@ module _ (smaller larger : List ℕ) (rows : List Candidate) (order : List ℕ) 
       nobody : Listed Proposal
       nobody = record { item = row_at rows 0; taken = false; by = 0 }
 
-      held : (i : ℕ) → i < k → blocks_at smaller larger count rows order was p i ≡ blocks clash (row_at rows p) (get_or before i nobody)
+      held : (i : ℕ) → i < k → blocks_at full count rows order was p i ≡ blocks clash (row_at rows p) (get_or before i nobody)
       held i h = ap₂ (λ t q. t && clash q (row_at rows p)) said item
         where
           said : eqb (get_or was (6 * i + 4) 0) 1 ≡ (get_or before i nobody).taken
@@ -107,7 +108,7 @@ module _ (smaller larger : List ℕ) (rows : List Candidate) (order : List ℕ) 
       place : 6 * k ≡ length (flat_ranked before)
       place = omega (arith, flat-length before, before-length)
 
-      grown : listed_from smaller larger count (order_of rows order k ++ (row_at rows p ∷ [])) ≡ before ++ (judged clash before (row_at rows p) ∷ [])
+      grown : listed_from full count (order_of rows order k ++ (row_at rows p ∷ [])) ≡ before ++ (judged clash before (row_at rows p) ∷ [])
       grown = unfold listed_from in judged_more clash [] (order_of rows order k) (row_at rows p)
 
       room : length (flat_ranked before) + length (flat_ranked (judged clash before (row_at rows p) ∷ [])) ≤ length old
@@ -128,23 +129,23 @@ module _ (smaller larger : List ℕ) (rows : List Candidate) (order : List ℕ) 
 -- ---- rank by rank
 
 -- the rows of the first k ranks are written
-pub record ListedTo (smaller larger : List ℕ) (rows : List Candidate) (order : List ℕ) (count m : ℕ) (was listed : List ℕ) (k : ℕ) : Type 0 where
+pub record ListedTo (full : List (Option declared.Pair)) (rows : List Candidate) (order : List ℕ) (count m : ℕ) (was listed : List ℕ) (k : ℕ) : Type 0 where
   pub upto : k ≤ m
-  pub is : listed ≡ overwrite (flat_ranked (listed_from smaller larger count (order_of rows order k))) was
+  pub is : listed ≡ overwrite (flat_ranked (listed_from full count (order_of rows order k))) was
   pub long : length listed ≡ length was
 
-pub listed_none : (smaller larger : List ℕ) (rows : List Candidate) (order : List ℕ) (count m : ℕ) (was : List ℕ) → ListedTo smaller larger rows order count m was was 0
+pub listed_none : (full : List (Option declared.Pair)) (rows : List Candidate) (order : List ℕ) (count m : ℕ) (was : List ℕ) → ListedTo full rows order count m was was 0
 unfolding listed_from order_of judged_after flat_ranked collect
-listed_none smaller larger rows order count m was = record { upto = zero-le; is = refl; long = refl }
+listed_none full rows order count m was = record { upto = zero-le; is = refl; long = refl }
 
-pub listed_more : {smaller larger : List ℕ} {rows : List Candidate} {order was listed listed' : List ℕ} {count m k p : ℕ} → ListedTo smaller larger rows order count m was listed k → k < m → p ≡ get_or order k 0
-    → Following smaller larger count rows order k p listed listed' → length listed' ≡ length listed → ListedTo smaller larger rows order count m was listed' (k + 1)
-listed_more {smaller} {larger} {rows} {order} {was} {listed} {listed'} {count} {m} {k} {p} h l e f s =
+pub listed_more : {full : List (Option declared.Pair)} {rows : List Candidate} {order was listed listed' : List ℕ} {count m k p : ℕ} → ListedTo full rows order count m was listed k → k < m → p ≡ get_or order k 0
+    → Following full count rows order k p listed listed' → length listed' ≡ length listed → ListedTo full rows order count m was listed' (k + 1)
+listed_more {full} {rows} {order} {was} {listed} {listed'} {count} {m} {k} {p} h l e f s =
     record {
       upto = omega arith;
       is =
           f was h.is
-          ∙ ap (λ o. overwrite (flat_ranked (listed_from smaller larger count o)) was)
+          ∙ ap (λ o. overwrite (flat_ranked (listed_from full count o)) was)
           (ap (λ q. order_of rows order k ++ (row_at rows q ∷ [])) e ∙ sym (order_next rows order k));
       long = s ∙ h.long;
     }
@@ -155,8 +156,8 @@ listing_of listed h e =
     record { few = h.few; whole = h.whole; small = h.small; below = h.below; ordered = h.ordered; room = omega (arith, h.room) }
 
 -- as many rows as the order names
-pub listed-count : (smaller larger : List ℕ) (count : ℕ) (rows : List Candidate) (order : List ℕ) (m : ℕ) (all : List Proposal) → order_of rows order m ≡ all
-    → m ≡ length (listed_from smaller larger count all)
+pub listed-count : (full : List (Option declared.Pair)) (count : ℕ) (rows : List Candidate) (order : List ℕ) (m : ℕ) (all : List Proposal) → order_of rows order m ≡ all
+    → m ≡ length (listed_from full count all)
 unfolding listed_from
-listed-count smaller larger count rows order m all e =
-    sym (judged-length (conflict_at smaller larger count) [] all ∙ ap length (sym e) ∙ order-length rows order m)
+listed-count full count rows order m all e =
+    sym (judged-length (conflict_at full count) [] all ∙ ap length (sym e) ∙ order-length rows order m)

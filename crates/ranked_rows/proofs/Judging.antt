@@ -1,32 +1,27 @@
 -- The ranked list grows by one row at its end, a row's numbers say whether it was taken, and the first rank that blocks is what a row names. Assumes nothing.
-use Prim.Native.Nat.{ℕ, zero, suc, ◌+◌, ◌*◌, ◌<◌}
+use Prim.Native.Nat.{ℕ, zero, suc, ◌+◌, ◌-◌, ◌*◌, ◌≤◌, ◌<◌}
 use native.Mathlib.Omega.{arith}
 use mathlib.Core.Path.{◌≡◌, refl, sym, ap, ap₂, ◌∙◌}
-use mathlib.Core.Bool.{Bool, true, false, not, ◌||◌, cond, false≢true}
+use mathlib.Core.Bool.{Bool, true, false, not, ◌||◌, cond}
 use mathlib.Core.List.{List, [], ◌∷◌, ◌++◌, append-nil, append_assoc}
-use lib.ListN.{length, get_or, set}
-use lib.Seq.{sets}
+use lib.ListN.{length, take, drop, get_or}
+use lib.Seq.{sets, sets-eq, drop-drop}
+use borrow.Rule.Slice.PartMut.{put_mid}
 use lib.Dec.{eqb}
-use borrow.Author.Tests.{eq-eqb, ne_eqb}
 use Rattle.std.specs.Prelude.{Option, None, Some}
 use Rattle.std.specs.Option.{is_some, unwrap_or, option_map}
 use Rattle.definitions.specs.Scan.{any, bit}
 use Rattle.definitions.specs.Junctions.{Proposal}
-use Rattle.laws.specs.ListLaws.Tests.{eqb_same}
 use Rattle.laws.specs.ListLaws.Flags.{bit-is_one}
 use Rattle.junction_proposals.specs.Bridges.{FirstIn}
 use Rattle.ranked_list.specs.RankedList.{Listed, first_place, blocks, judged, judged_after, flat_ranked}
 use Rattle.ranked_rows.specs.Contract.{ranked_row}
 
-pub six-stored : (l : List ℕ) (k u v w x y z : ℕ)
-    → set (set (set (set (set (set l k u) (k + 1) v) (k + 2) w) (k + 3) x) (k + 4) y) (k + 5) z ≡ sets l k (u ∷ v ∷ w ∷ x ∷ y ∷ z ∷ [])
-six-stored l k u v w x y z =
-    let one : k + 1 ≡ suc k = omega arith in
-    let two : k + 2 ≡ suc (suc k) = omega arith in
-    let three : k + 3 ≡ suc (suc (suc k)) = omega arith in
-    let four : k + 4 ≡ suc (suc (suc (suc k))) = omega arith in
-    let five : k + 5 ≡ suc (suc (suc (suc (suc k)))) = omega arith in
-    (λ i. set (set (set (set (set (set l k u) (one i) v) (two i) w) (three i) x) (four i) y) (five i) z)
+-- a row in the place of as many numbers
+pub row_copied : (old row : List ℕ) (at : ℕ) {part : List ℕ} → at + length row ≤ length old → part ≡ row → put_mid at (at + length row - at) old part ≡ sets old at row
+row_copied old row at h e =
+    let behind : drop (at + length row - at) (drop at old) ≡ drop (at + length row) old = drop-drop _ at old ∙ ap (λ n. drop n old) (omega arith) in
+    ap₂ (λ l r. take at old ++ (l ++ r)) e behind ∙ sym (sets-eq row old at h ∙ append_assoc (take at old) row (drop (at + length row) old))
 
 -- ---- one row more
 

@@ -1,5 +1,6 @@
 -- The list of the rows that are allowed is the ranked junction list of the context that the lists show: the rows in rank order are the ranked proposals, and rows conflict as
 -- proposals do. Assumes that the lists show a context of a map.
+use Rattle.std.specs.Prelude.{Option}
 use Prim.Native.Nat.{ℕ, suc, ◌<◌}
 use mathlib.Core.Path.{◌≡◌, refl, sym, ap, ap₂, ◌∙◌}
 use mathlib.Core.Bool.{Bool, false, not, ◌&&◌, ◌||◌, cond}
@@ -18,6 +19,7 @@ use Rattle.junction_selection.proofs.Removing.{conflict_is, ranked_is, all-ranke
 use Rattle.junction_selection.proofs.ReservedPorts.{proposals_reserve}
 use Rattle.ranked_list.specs.RankedList.{Listed, first_place, blocks, judged, judged_after, ranked_rows}
 use Rattle.ranked_rows.specs.Contract.{listed_from, allowed_list}
+use Rattle.context.specs.declared.pairs.Pair as declared
 
 -- ---- conflicts that agree
 
@@ -48,14 +50,14 @@ module _ {A : Type 0} (P : A → Type 0) (c d : A → A → Bool) (same : (x y :
 
 -- ---- of a context
 
-pub listed_is : (boundaries smaller larger counts marks : List ℕ) (rows : List Candidate) (verdicts : List Bool) (count regions n : ℕ) (C : Context) → Shows boundaries smaller larger counts marks count regions C
+pub listed_is : (boundaries : List ℕ) (full : List (Option declared.Pair)) (counts marks : List ℕ) (rows : List Candidate) (verdicts : List Bool) (count regions n : ℕ) (C : Context) → Shows boundaries full counts marks count regions C
     → filter (is_allowed C) (rows_of rows n) ≡ proposals C → ((k : ℕ) → k < n → get_or verdicts k false ≡ is_allowed C (row_at rows k))
-    → allowed_list smaller larger count boundaries rows verdicts n ≡ ranked_rows C
+    → allowed_list full count boundaries rows verdicts n ≡ ranked_rows C
 unfolding allowed_list listed_from ranked_rows
-listed_is boundaries smaller larger counts marks rows verdicts count regions n C S are judged =
+listed_is boundaries full counts marks rows verdicts count regions n C S are judged =
     let own = shows-own S in
-    let formed = proposals_reserve boundaries smaller larger counts marks C own in
-    ap (λ m. allowed_list smaller larger m boundaries rows verdicts n) (sym S.counted)
-    ∙ ap (judged_after (conflict_at smaller larger C.count) []) (ranked_is boundaries smaller larger counts marks C own formed rows verdicts n are judged)
-    ∙ sym (list_same (Reserving boundaries smaller larger counts marks C own) (conflict C) (conflict_at smaller larger C.count) (conflict_is boundaries smaller larger counts marks C own) done
-    (all-ranked boundaries smaller larger counts marks C own formed rows verdicts n are judged))
+    let formed = proposals_reserve boundaries full counts marks C own in
+    ap (λ m. allowed_list full m boundaries rows verdicts n) (sym S.counted)
+    ∙ ap (judged_after (conflict_at full C.count) []) (ranked_is boundaries full counts marks C own formed rows verdicts n are judged)
+    ∙ sym (list_same (Reserving boundaries full counts marks C own) (conflict C) (conflict_at full C.count) (conflict_is boundaries full counts marks C own) done
+    (all-ranked boundaries full counts marks C own formed rows verdicts n are judged))

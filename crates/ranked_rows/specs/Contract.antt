@@ -12,6 +12,7 @@ use Rattle.junction_proposals.specs.declared.proposals.Candidate.{Candidate}
 use Rattle.junction_proposals.specs.Rows.{max_proposals, row_at}
 use Rattle.junction_selection.specs.Ranks.{ranks_at, allowed_of, order_of, conflict_at, Rows}
 use Rattle.ranked_list.specs.RankedList.{Listed, judged_after, numbers_per_ranked, flat_ranked}
+use Rattle.context.specs.declared.pairs.Pair as declared
 
 -- rows q and p are whole, and their boundaries are among the first `count`
 pub record TwoRows (rows : List Candidate) (count q p : ℕ) : Type 0 where
@@ -50,15 +51,15 @@ pub record Allowed (boundaries : List ℕ) (rows : List Candidate) (verdicts : L
 abbrev pub ranked_row : Proposal → Option ℕ → List ℕ
 ranked_row p by = p.kind ∷ p.index ∷ p.first ∷ p.second ∷ bit (not (is_some by)) ∷ unwrap_or by 0 ∷ []
 
-module _ (smaller larger : List ℕ) (count : ℕ) where
+module _ (full : List (Option declared.Pair)) (count : ℕ) where
   -- the list that comes of proposals in rank order
   unfoldable pub listed_from : List Proposal → List (Listed Proposal)
   unfolding judged_after conflict_at
-  listed_from l = judged_after (conflict_at smaller larger count) [] l
+  listed_from l = judged_after (conflict_at full count) [] l
 
   -- rank r is said to be taken, and conflicts with row p
   abbrev pub blocks_at : List Candidate → List ℕ → List ℕ → ℕ → ℕ → Bool
-  blocks_at rows order listed p r = eqb (get_or listed (numbers_per_ranked * r + 4) 0) 1 && conflict_at smaller larger count (row_at rows (get_or order r 0)) (row_at rows p)
+  blocks_at rows order listed p r = eqb (get_or listed (numbers_per_ranked * r + 4) 0) 1 && conflict_at full count (row_at rows (get_or order r 0)) (row_at rows p)
 
   -- row p went in behind those of the first k ranks
   abbrev pub Following : List Candidate → List ℕ → ℕ → ℕ → List ℕ → List ℕ → Type 0

@@ -1,9 +1,10 @@
 -- The choice of the pass in `removed_marks`: what each pass is lent, from what all are lent, and the marks of each as those of the pass of its number. Assumes nothing.
-use Prim.Native.Nat.{ℕ, zero, suc, ◌<◌}
+use Prim.Native.Nat.{ℕ, ◌<◌}
 use native.Mathlib.Omega.{arith}
 use mathlib.Core.Path.{◌≡◌, refl, sym, ap, ◌∙◌}
 use mathlib.Core.Bool.{Bool, false}
 use mathlib.Core.List.{List}
+use Rattle.std.specs.Prelude.{Option}
 use lib.ListN.{get_or}
 use Rattle.definitions.specs.Scan.{member}
 use Rattle.definitions.specs.Context.{Context}
@@ -12,21 +13,14 @@ use Rattle.definitions.specs.RampMouths as mouths
 use Rattle.definitions.specs.RampInteriors as interiors
 use Rattle.definitions.specs.Junctions as junctions
 use Rattle.context.specs.declared.Region.{Region}
+use Rattle.context.specs.declared.pairs.Pair.{Pair}
 use Rattle.topology.specs.Interiors.{Collapses, Collapsed}
 use Rattle.topology.specs.Mouths.{Replaces, NoMarks, Replaced}
 use Rattle.topology.specs.Proposals.{Passes, Unmarked, Removes}
-use Rattle.topology.specs.Marks.{IsPass, Shows, Removed}
+use Rattle.topology.specs.Marks.{Shows, Removed}
 
--- the third pass is that which is neither of the others
-third : (pass : ℕ) → IsPass pass → (pass ≡ 1 → ⊥) → (pass ≡ 2 → ⊥) → pass ≡ 3
-third zero h a b = absurd (omega (arith, h.0))
-third (suc zero) h a b = absurd (a refl)
-third (suc (suc zero)) h a b = absurd (b refl)
-third (suc (suc (suc zero))) h a b = refl
-third (suc (suc (suc (suc n)))) h a b = absurd (omega (arith, h.1))
-
-module _ (C : Context) {records : List Region} {regions count : ℕ} {boundaries tallies pairs starts smaller larger marks counts : List ℕ}
-    (S : Shows C records regions count boundaries tallies pairs starts smaller larger marks counts) where
+module _ (C : Context) {records : List Region} {regions count : ℕ} {boundaries tallies pairs starts marks counts : List ℕ} {full : List (Option Pair)}
+    (S : Shows C records regions count boundaries tallies pairs starts full marks counts) where
   -- ---- what a pass is lent
 
   pub clear-marks : {removed : List Bool} → NoMarks removed → Unmarked removed count
@@ -75,7 +69,7 @@ module _ (C : Context) {records : List Region} {regions count : ℕ} {boundaries
         pixels = S.on_map.pixels;
       }
 
-  pub junctions-lent : Passes C records boundaries smaller larger counts marks count regions
+  pub junctions-lent : Passes C records boundaries full counts marks count regions
   junctions-lent =
       record {
         shown =
@@ -84,7 +78,7 @@ module _ (C : Context) {records : List Region} {regions count : ℕ} {boundaries
               labelled = S.labelled;
               labels = omega (arith, S.on_map.few, S.labelled);
               bounds = S.bounds;
-              pairs = S.full;
+              pairs = S.shown_full;
               incidents = S.incidents;
               anchored = S.anchored;
               sound = S.on_map.sound;
@@ -96,19 +90,19 @@ module _ (C : Context) {records : List Region} {regions count : ℕ} {boundaries
 
   -- ---- the marks that it leaves
 
-  -- those of the boundaries in l, which are what pass k removes
-  marked : {removed : List Bool} (pass k : ℕ) (l : List ℕ) → removed_by k C ≡ l → pass ≡ k → ((j : ℕ) → j < count → get_or removed j false ≡ member j l) → Removed pass C removed
-  marked pass k l r e h = record { marked = λ i less. h i (omega (arith, S.counted, less)) ∙ ap (member i) (sym (ap (λ p. removed_by p C) e ∙ r)) }
+  -- those of the boundaries in l, which are what the pass removes
+  marked : {removed : List Bool} (pass : ℕ) (l : List ℕ) → removed_by pass C ≡ l → ((j : ℕ) → j < count → get_or removed j false ≡ member j l) → Removed pass C removed
+  marked pass l r h = record { marked = λ i less. h i (omega (arith, S.counted, less)) ∙ ap (member i) (sym r) }
 
-  module _ {pass : ℕ} {removed : List Bool} where
-    pub marked-mouths : pass ≡ 1 → Replaced C count removed → Removed pass C removed
+  module _ {removed : List Bool} where
+    pub marked-mouths : Replaced C count removed → Removed 1 C removed
     unfolding removed_by
-    marked-mouths e r = marked _ 1 (mouths.removed C) refl e r.at
+    marked-mouths r = marked 1 (mouths.removed C) refl r.at
 
-    pub marked-interiors : pass ≡ 2 → Collapsed C count removed → Removed pass C removed
+    pub marked-interiors : Collapsed C count removed → Removed 2 C removed
     unfolding removed_by
-    marked-interiors e r = marked _ 2 (interiors.removed C) refl e r.at
+    marked-interiors r = marked 2 (interiors.removed C) refl r.at
 
-    pub marked-junctions : IsPass pass → (pass ≡ 1 → ⊥) → (pass ≡ 2 → ⊥) → Removes C count removed → Removed pass C removed
+    pub marked-junctions : Removes C count removed → Removed 3 C removed
     unfolding removed_by
-    marked-junctions h a b r = marked _ 3 (junctions.removed C) refl (third pass h a b) r.at
+    marked-junctions r = marked 3 (junctions.removed C) refl r.at

@@ -5,6 +5,7 @@ use native.Mathlib.Omega.{arith}
 use mathlib.Core.Path.{◌≡◌, refl, sym, ap, ◌∙◌}
 use mathlib.Core.Bool.{Bool}
 use mathlib.Core.List.{List, ◌++◌}
+use Rattle.std.specs.Prelude.{Option}
 use lib.ListN.{length, get_or, take, drop}
 use lib.Dec.{eqb}
 use lib.Seq.{length-take-le, length_front, get_or-take, drop-drop, drop_at}
@@ -13,6 +14,7 @@ use Rattle.definitions.specs.Grid.{Map}
 use Rattle.definitions.specs.Context.{Context, context_of}
 use Rattle.laws.specs.ListLaws.Beyond.{Beyond}
 use Rattle.context.specs.declared.Region.{Region}
+use Rattle.context.specs.declared.pairs.Pair.{Pair}
 use Rattle.pass_lists.specs.Contract.{Viewed}
 use Rattle.pass_lists.proofs.Viewing.{regions-within}
 use Rattle.topology.specs.Marks.{Shows, Removed, Lent, MarkedFor}
@@ -40,14 +42,14 @@ module _ (M : Map) {records : List Region} {w needed : ℕ} {labels anchors : Li
   pub unmarked_lent : {pass : ℕ} {m q : List ℕ} {was : List Bool} → (length boundaries / numbers_per_boundary ≡ count → ⊥) → MarkedFor pass M needed count boundaries m q m q was was
   unmarked_lent d = record { equal = λ e. absurd (d e); differ = λ _. refl; masks = record { long = refl; rest = refl }; queue = record { long = refl; rest = refl } }
 
-  module _ {m q m' q' starts smaller larger : List ℕ} (same : length boundaries / numbers_per_boundary ≡ count) (S : Viewed M needed pairs m q m' q' starts smaller larger) where
+  module _ {m q m' q' starts : List ℕ} {full : List (Option Pair)} (same : length boundaries / numbers_per_boundary ≡ count) (S : Viewed M needed pairs m q m' q' starts full) where
     pub marks_long_lem : regions ≤ length m'
     marks_long_lem = omega (arith, labelled, S.shown_anchored.long)
 
     pub counts_long_lem : regions ≤ length q'
     counts_long_lem = omega (arith, labelled, S.shown_incidents.long)
 
-    pub lent-shows : Shows C records regions count boundaries tallies pairs starts smaller larger (take regions m') (take regions q')
+    pub lent-shows : Shows C records regions count boundaries tallies pairs starts full (take regions m') (take regions q')
     lent-shows =
         record {
           on_map = L.on_map;
@@ -57,7 +59,7 @@ module _ (M : Map) {records : List Region} {w needed : ℕ} {labels anchors : Li
           bounds = L.bounds same;
           tallied = L.partitioned.tallied;
           paired = S.shown_pairs;
-          full = S.shown_full;
+          shown_full = S.shown_full;
           anchored =
               record {
                 long = omega (arith, labelled, length-take-le regions m' marks_long_lem);

@@ -4,12 +4,14 @@ use native.Mathlib.Omega.{arith}
 use mathlib.Core.Path.{◌≡◌, ◌∙◌}
 use mathlib.Core.Logic.{⊎_elim}
 use mathlib.Core.Bool.{Bool, false}
+use Rattle.std.specs.Prelude.{Option}
 use mathlib.Core.List.{List}
 use lib.ListN.{length, get_or, set, length-set}
 use lib.Seq.{get_or-set_same, get_or-set_other}
 use Rattle.definitions.specs.Context.{Context}
 use Rattle.laws.specs.NumberLaws.Comparisons.{last_or}
 use Rattle.context.specs.declared.Region.{Region}
+use Rattle.context.specs.declared.pairs.Pair.{Pair}
 use Rattle.junction_proposals.specs.declared.proposals.Candidate.{Candidate}
 use Rattle.junction_proposals.specs.Rows.{max_proposals, row_at, RowFits, is_allowed}
 use Rattle.junction_selection.specs.Taken.{Judged, removed_at}
@@ -41,7 +43,7 @@ allowed_more {C} {rows} {k} {allowed} r l h e = record { long = length-set allow
     there : (j : ℕ) → j < k → get_or (set allowed k r) j false ≡ is_allowed C (row_at rows j)
     there j b = get_or-set_other allowed k j r false (λ s. omega (arith, s)) ∙ h.at j b
 
-module _ {C : Context} {records : List Region} {boundaries smaller larger counts marks : List ℕ} {rows : List Candidate} {count regions n : ℕ} (h : Passes C records boundaries smaller larger counts marks count regions)
+module _ {C : Context} {records : List Region} {boundaries : List ℕ} {full : List (Option Pair)} {counts marks : List ℕ} {rows : List Candidate} {count regions n : ℕ} (h : Passes C records boundaries full counts marks count regions)
     (few : n ≤ max_proposals) (room : max_proposals ≤ length rows) (fits : (k : ℕ) → k < n → RowFits count regions (row_at rows k)) where
   pub pass_allows : Allows C records boundaries marks rows n
   pass_allows =
@@ -54,8 +56,8 @@ module _ {C : Context} {records : List Region} {boundaries smaller larger counts
       }
 
 -- the rows are what pass 3 proposes
-module _ {C : Context} {records : List Region} {boundaries smaller larger counts marks : List ℕ} {rows : List Candidate} {allowed : List Bool} {count regions n : ℕ}
-    (h : Passes C records boundaries smaller larger counts marks count regions) (p : Proposed C count regions rows allowed n) where
+module _ {C : Context} {records : List Region} {boundaries : List ℕ} {full : List (Option Pair)} {counts marks : List ℕ} {rows : List Candidate} {allowed : List Bool} {count regions n : ℕ}
+    (h : Passes C records boundaries full counts marks count regions) (p : Proposed C count regions rows allowed n) where
   pub pass-judged : {marked : List Bool} → max_proposals ≤ length rows → Unmarked marked count → Judged boundaries rows allowed marked count n
   pass-judged room u =
       record {
@@ -69,5 +71,5 @@ module _ {C : Context} {records : List Region} {boundaries smaller larger counts
         clear = u.clear;
       }
 
-  pub pass-removes : {marked : List Bool} → ((j : ℕ) → j < count → get_or marked j false ≡ removed_at boundaries smaller larger rows allowed count n j) → Removes C count marked
-  pass-removes {marked} selected = record { at = pass-removed boundaries smaller larger counts marks rows allowed marked count regions n C h.shown p.are p.judged.at selected }
+  pub pass-removes : {marked : List Bool} → ((j : ℕ) → j < count → get_or marked j false ≡ removed_at boundaries full rows allowed count n j) → Removes C count marked
+  pass-removes {marked} selected = record { at = pass-removed boundaries full counts marks rows allowed marked count regions n C h.shown p.are p.judged.at selected }

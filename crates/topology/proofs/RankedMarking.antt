@@ -9,7 +9,9 @@ use Rattle.definitions.specs.Limits.{numbers_per_boundary}
 use Rattle.definitions.specs.Grid.{Map}
 use Rattle.definitions.specs.Context.{Context, context_of}
 use Rattle.definitions.specs.Rows.{removed_by}
+use Rattle.std.specs.Prelude.{Option}
 use Rattle.context.specs.declared.Region.{Region}
+use Rattle.context.specs.declared.pairs.Pair.{Pair}
 use Rattle.pass_lists.specs.Contract.{Viewed}
 use Rattle.ranked_list.specs.RankedList.{flat_ranked}
 use Rattle.topology.specs.Mouths.{NoMarks}
@@ -39,8 +41,8 @@ module _ (M : Map) {records : List Region} {w needed : ℕ} {labels anchors : Li
     pub unmarked_here : {removed : List Bool} → NoMarks removed → Unmarked removed count
     unmarked_here n = record { long = omega (arith, n.long, (L.bounds same).few, counted); clear = λ j _. n.clear j }
 
-    module _ {m q m' q' starts smaller larger : List ℕ} (S : Viewed M needed pairs m q m' q' starts smaller larger) where
-      pub lent-passes : Passes C records boundaries smaller larger q' m' count regions
+    module _ {m q m' q' starts : List ℕ} {full : List (Option Pair)} (S : Viewed M needed pairs m q m' q' starts full) where
+      pub lent-passes : Passes C records boundaries full q' m' count regions
       lent-passes =
           record {
             shown =

@@ -1,5 +1,5 @@
 -- The words of the contracts of `removed_marks` and `mark_removed`: what a pass is lent, and what it leaves. Definitions only; assumes nothing.
-use Rattle.std.specs.Prelude.{ℕ, ◌/◌, ◌≤◌, ◌≡◌, Bool, List, length}
+use Rattle.std.specs.Prelude.{ℕ, ◌/◌, ◌≤◌, ◌≡◌, Bool, List, length, Option}
 use Rattle.definitions.specs.Limits.{numbers_per_boundary}
 use Rattle.definitions.specs.Grid.{Map}
 use Rattle.definitions.specs.Context.{Context, context_of}
@@ -7,7 +7,9 @@ use Rattle.laws.specs.FloatLaws.Pixels.{PixelContext}
 use Rattle.laws.specs.RustContext.SoundContext.{Sound}
 use Rattle.laws.specs.RustContext.CheckedContext.{Checked}
 use Rattle.laws.specs.ListLaws.Beyond.{Beyond}
+pub use Rattle.checks.specs.Passes.{IsPass}
 use Rattle.context.specs.declared.Region.{Region}
+use Rattle.context.specs.declared.pairs.Pair.{Pair}
 use Rattle.context.specs.Records.{max_cells, Counted}
 use Rattle.context.specs.Shown.{ShownBoundaries, ShownTallies, ShownPairs, ShownFullPairs, ShownAnchored, ShownIncidents}
 use Rattle.pass_lists.specs.Contract.{Partitioned, FreshMarks}
@@ -24,11 +26,8 @@ pub record MapContext (C : Context) : Type 0 where
 
 -- ---- one pass
 
-abbrev pub IsPass : ℕ → Type 0
-IsPass pass = (1 ≤ pass) × (pass ≤ 3)
-
 -- the records and the lists show the context C, of so many regions and boundaries
-pub record Shows (C : Context) (records : List Region) (regions count : ℕ) (boundaries tallies pairs starts smaller larger marks counts : List ℕ) : Type 0 where
+pub record Shows (C : Context) (records : List Region) (regions count : ℕ) (boundaries tallies pairs starts : List ℕ) (full : List (Option Pair)) (marks counts : List ℕ) : Type 0 where
   pub on_map : MapContext C
   pub labelled : C.regions ≡ regions
   pub counted : C.count ≡ count
@@ -36,7 +35,7 @@ pub record Shows (C : Context) (records : List Region) (regions count : ℕ) (bo
   pub bounds : ShownBoundaries C boundaries
   pub tallied : ShownTallies C tallies
   pub paired : ShownPairs C pairs starts
-  pub full : ShownFullPairs C smaller larger
+  pub shown_full : ShownFullPairs C full
   pub anchored : ShownAnchored C marks
   pub fresh : FreshMarks C marks
   pub incidents : ShownIncidents C counts

@@ -2,14 +2,25 @@
 ghost use Rattle.std.specs.Prelude.{◌≡◌, ◌≤◌, length};
 ghost use Rattle.definitions.specs.Context.{Context};
 ghost use Rattle.junction_proposals.specs.Rows.{max_proposals};
-ghost use Rattle.topology.specs.Proposals.{Allows, Allowed, Passes, Proposed, Unmarked, Removes};
+ghost use Rattle.topology.specs.Proposals.{Allows, Allowed, Passes, PassesIn, Proposed, Unmarked, Removes};
 
 use crate::entries::put_allowed;
 use crate::slice::record_at;
 use context::Region;
+use context::pairs::Pair;
+use junction_proposals::lists::JunctionLists;
 use junction_proposals::proposals::{Candidate, Kind, MAX_PROPOSALS, find_proposals};
 use junction_regions::{first_place, is_allowed, second_place};
+use junction_selection::found::FoundRows;
 use junction_selection::selection::select_proposals;
+
+// What stands where no row was put.
+pub const NO_ROW: Candidate = Candidate {
+    index: 0,
+    kind: Kind::Union,
+    first: 0,
+    second: 0,
+};
 
 // Which of the n proposals of pass 3 the records of their regions allow.
 pub fn allow_proposals(
@@ -35,29 +46,44 @@ pub fn allow_proposals(
 }
 
 // The proposals of pass 3, as rows, and which of them the records of their regions allow; gives how many rows there are.
-pub fn allowed_proposals(
+fn allowed_proposals(
     records: &[Region],
-    regions: usize,
-    count: usize,
-    boundaries: &[u64],
-    smaller: &[u32; 256],
-    larger: &[u32; 256],
-    counts: &[u32],
-    marks: &[u16],
+    lists: &JunctionLists,
     rows: &mut [Candidate],
     allowed: &mut [bool; MAX_PROPOSALS],
 ) -> usize
-    requires lists_show { (C : Context) × Passes C records.now boundaries.now smaller.now larger.now counts.now marks.now count regions }
+    requires lists_show { (C : Context) × PassesIn C records.now lists.now }
     requires room { (max_proposals ≤ length rows.old) × (length allowed.old ≡ max_proposals) }
-    ensures { (C : Context)
-        → Passes C records.now boundaries.now smaller.now larger.now counts.now marks.now
-        count regions
-        → Proposed C count regions rows.new allowed.new result }
+    ensures { (C : Context) → PassesIn C records.now lists.now → Proposed C lists.now.count lists.now.regions rows.new allowed.new result }
 {
-    let n = find_proposals(
-        boundaries, smaller, larger, counts, marks, count, regions, rows,
-    );
-    allow_proposals(records, boundaries, marks, rows, n, allowed);
+    let n = find_proposals(lists, rows);
+    allow_proposals(records, lists.boundaries, lists.marks, rows, n, allowed);
+    n
+}
+
+// These, and marks the boundaries of those that are selected. No boundary is marked before.
+pub fn select_junctions(
+    records: &[Region],
+    lists: &JunctionLists,
+    rows: &mut [Candidate],
+    allowed: &mut [bool; MAX_PROPOSALS],
+    removed: &mut [bool; 256],
+) -> usize
+    requires lists_show { (C : Context) × PassesIn C records.now lists.now }
+    requires room { (max_proposals ≤ length rows.old) × (length allowed.old ≡ max_proposals) }
+    requires none_marked { Unmarked removed.old lists.now.count }
+    ensures proposed { (C : Context) → PassesIn C records.now lists.now → Proposed C lists.now.count lists.now.regions rows.new allowed.new result }
+    ensures removes { (C : Context) → PassesIn C records.now lists.now → Removes C lists.now.count removed.new }
+{
+    let n = allowed_proposals(records, lists, rows, allowed);
+    let found = FoundRows {
+        boundaries: lists.boundaries,
+        full: lists.full,
+        rows,
+        count: lists.count,
+        n,
+    };
+    select_proposals(&found, allowed, removed);
     n
 }
 
@@ -67,39 +93,26 @@ pub fn remove_junction_boundaries(
     regions: usize,
     count: usize,
     boundaries: &[u64],
-    smaller: &[u32; 256],
-    larger: &[u32; 256],
+    full: &[Option<Pair>; 256],
     counts: &[u32],
     marks: &[u16],
     removed: &mut [bool; 256],
 )
-    requires lists_show { (C : Context) × Passes C records.now boundaries.now smaller.now larger.now counts.now marks.now count regions }
+    requires lists_show { (C : Context) × Passes C records.now boundaries.now full.now counts.now marks.now count regions }
     requires none_marked { Unmarked removed.old count }
     ensures { (C : Context) →
-        Passes C records.now boundaries.now smaller.now larger.now counts.now
-        marks.now count regions →
+        Passes C records.now boundaries.now full.now counts.now marks.now count regions →
         Removes C count removed.new }
 {
-    let mut rows = [Candidate {
-        index: 0,
-        kind: Kind::Union,
-        first: 0,
-        second: 0,
-    }; MAX_PROPOSALS];
+    let mut rows = [NO_ROW; MAX_PROPOSALS];
     let mut allowed = [false; MAX_PROPOSALS];
-    let n = allowed_proposals(
-        records,
-        regions,
-        count,
+    let lists = JunctionLists {
         boundaries,
-        smaller,
-        larger,
+        full,
         counts,
         marks,
-        &mut rows,
-        &mut allowed,
-    );
-    select_proposals(
-        boundaries, smaller, larger, &rows, &allowed, removed, count, n,
-    );
+        count,
+        regions,
+    };
+    select_junctions(records, &lists, &mut rows, &mut allowed, removed);
 }

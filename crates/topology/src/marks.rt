@@ -2,55 +2,54 @@
 ghost use Rattle.std.specs.Prelude.{length};
 ghost use Rattle.definitions.specs.Grid.{Map};
 ghost use Rattle.definitions.specs.Context.{Context};
+ghost use Rattle.checks.specs.Passes.{pass_number, IsPass};
 ghost use Rattle.topology.specs.Mouths.{NoMarks};
-ghost use Rattle.topology.specs.Marks.{IsPass, Shows, Removed, Lent, MarkedFor};
+ghost use Rattle.topology.specs.Marks.{Shows, Removed, Lent, MarkedFor};
 
 use crate::interior_pass::collapse_ramp_interiors;
 use crate::junction_pass::remove_junction_boundaries;
 use crate::mouth_pass::replace_ramp_mouths;
 use checks::limits::NUMBERS_PER_BOUNDARY;
-use context::Region;
+use checks::passes::Pass;
+use context::pairs::Pair;
+use context::{PartitionContext, Region};
 use pass_lists::view;
 
 // Marks the boundaries that the pass removes. Marks and counts, which show anchored regions and incidents, are its to work in.
 pub fn removed_marks(
-    pass: u64,
+    pass: Pass,
     records: &[Region],
     regions: usize,
-    count: usize,
-    boundaries: &[u64],
-    tallies: &[u32],
-    pairs: &[u32],
-    starts: &[usize; 257],
-    smaller: &[u32; 256],
-    larger: &[u32; 256],
+    context: PartitionContext,
+    full: &[Option<Pair>; 256],
     marks: &mut [u16],
     counts: &mut [u32],
     removed: &mut [bool; 256],
 )
-    requires lists_show { (C : Context) × Shows C records.now regions count boundaries.now tallies.now pairs.now starts.now smaller.now
-        larger.now marks.old counts.old }
-    requires before_marking { IsPass pass × NoMarks removed.old }
+    requires lists_show { (C : Context) × Shows C records.now regions context.count context.boundaries.now context.tallies.now
+        context.pairs.now context.starts.now full.now marks.old counts.old }
+    requires none_marked { NoMarks removed.old }
     ensures { (C : Context) →
-        Shows C records.now regions count boundaries.now tallies.now pairs.now starts.now
-        smaller.now larger.now marks.old counts.old →
-        Removed pass C removed.new }
+        Shows C records.now regions context.entry.count context.entry.boundaries.now context.entry.tallies.now
+        context.entry.pairs.now context.entry.starts.now full.now marks.old counts.old →
+        Removed (pass_number pass) C removed.new }
 {
-    if pass == 1 {
-        replace_ramp_mouths(
-            records, count, boundaries, tallies, pairs, starts, marks, counts, removed,
-        );
-        return;
+    match pass {
+        Pass::ReplaceRampMouths => replace_ramp_mouths(records, context, marks, counts, removed),
+        Pass::CollapseRampInteriors => {
+            collapse_ramp_interiors(records, regions, context, marks, counts, removed)
+        }
+        Pass::RemoveJunctionBoundaries => remove_junction_boundaries(
+            records,
+            regions,
+            context.count,
+            context.boundaries,
+            full,
+            counts,
+            marks,
+            removed,
+        ),
     }
-    if pass == 2 {
-        collapse_ramp_interiors(
-            records, regions, count, boundaries, tallies, pairs, starts, marks, counts, removed,
-        );
-        return;
-    }
-    remove_junction_boundaries(
-        records, regions, count, boundaries, smaller, larger, counts, marks, removed,
-    );
 }
 
 // Views the partitioned map and marks what the pass removes, where there are as many boundaries as spans, of which there are `count`. The pass is lent as much of masks
@@ -84,9 +83,11 @@ pub fn mark_removed(
     if boundaries.len() / NUMBERS_PER_BOUNDARY != count {
         return;
     }
+    let Some(pass) = Pass::of(pass) else {
+        return;
+    };
     let mut starts = [0usize; 257];
-    let mut smaller = [0u32; 256];
-    let mut larger = [0u32; 256];
+    let mut full: [Option<Pair>; 256] = [None; 256];
     view(
         width,
         needed,
@@ -95,25 +96,27 @@ pub fn mark_removed(
         regions,
         rows,
         count,
+        boundaries,
         tallies,
         pairs,
         masks,
         queue,
         &mut starts,
-        &mut smaller,
-        &mut larger,
+        &mut full,
     );
+    let context = PartitionContext {
+        boundaries,
+        tallies,
+        pairs,
+        starts: &starts,
+        count,
+    };
     removed_marks(
         pass,
         records,
         regions,
-        count,
-        boundaries,
-        tallies,
-        pairs,
-        &starts,
-        &smaller,
-        &larger,
+        context,
+        &full,
         &mut masks[..regions],
         &mut queue[..regions],
         removed,

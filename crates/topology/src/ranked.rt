@@ -5,67 +5,45 @@ ghost use Rattle.definitions.specs.Context.{Context};
 ghost use Rattle.junction_proposals.specs.Rows.{max_proposals};
 ghost use Rattle.ranked_list.specs.RankedList.{numbers_per_ranked};
 ghost use Rattle.ranked_finish.specs.Ends.{ranked_form};
-ghost use Rattle.topology.specs.Proposals.{Passes, Unmarked};
+ghost use Rattle.topology.specs.Proposals.{PassesIn, Unmarked};
 ghost use Rattle.topology.specs.Mouths.{NoMarks};
 ghost use Rattle.topology.specs.Marks.{Lent};
 ghost use Rattle.topology.specs.Ranked.{Ranked, RankedFor, RankedOver};
 
-use crate::junction_pass::allowed_proposals;
+use crate::junction_pass::{NO_ROW, select_junctions};
 use crate::records::fill;
 use call_partition::{Ready, prepare};
 use checks::limits::{NUMBERS_PER_BOUNDARY, NUMBERS_PER_SPAN};
 use context::Region;
-use junction_proposals::proposals::{Candidate, Kind, MAX_PROPOSALS};
-use junction_selection::selection::select_proposals;
+use junction_proposals::lists::JunctionLists;
+use junction_proposals::proposals::MAX_PROPOSALS;
+use junction_selection::found::FoundRows;
 use pass_lists::view;
-use ranked_finish::{RankedAnswer, finish_ranked};
+use ranked_finish::{RankedAnswer, finish_ranked, refused};
 use ranked_rows::{NUMBERS_PER_RANKED, list_ranked};
 
 // Pass 3 with its list: marks the boundaries that it removes, lists the proposals that reach the ranking, and gives how many there are. No boundary is marked before.
 pub fn rank_junctions(
     records: &[Region],
-    regions: usize,
-    count: usize,
-    boundaries: &[u64],
-    smaller: &[u32; 256],
-    larger: &[u32; 256],
-    counts: &[u32],
-    marks: &[u16],
+    lists: &JunctionLists,
     removed: &mut [bool; 256],
     listed: &mut [u32],
 ) -> usize
-    requires lists_show { (C : Context) × Passes C records.now boundaries.now smaller.now larger.now counts.now marks.now count regions }
-    requires before_ranking { Unmarked removed.old count × (numbers_per_ranked * max_proposals ≤ length listed.old) }
-    ensures { (C : Context)
-        → Passes C records.now boundaries.now smaller.now larger.now counts.now marks.now
-        count regions
-        → Ranked C count removed.new listed.old listed.new result }
+    requires lists_show { (C : Context) × PassesIn C records.now lists.now }
+    requires before_ranking { Unmarked removed.old lists.now.count × (numbers_per_ranked * max_proposals ≤ length listed.old) }
+    ensures { (C : Context) → PassesIn C records.now lists.now → Ranked C lists.now.count removed.new listed.old listed.new result }
 {
-    let mut rows = [Candidate {
-        index: 0,
-        kind: Kind::Union,
-        first: 0,
-        second: 0,
-    }; MAX_PROPOSALS];
+    let mut rows = [NO_ROW; MAX_PROPOSALS];
     let mut allowed = [false; MAX_PROPOSALS];
-    let n = allowed_proposals(
-        records,
-        regions,
-        count,
-        boundaries,
-        smaller,
-        larger,
-        counts,
-        marks,
-        &mut rows,
-        &mut allowed,
-    );
-    select_proposals(
-        boundaries, smaller, larger, &rows, &allowed, removed, count, n,
-    );
-    list_ranked(
-        boundaries, smaller, larger, &rows, &allowed, listed, count, n,
-    )
+    let n = select_junctions(records, lists, &mut rows, &mut allowed, removed);
+    let found = FoundRows {
+        boundaries: lists.boundaries,
+        full: lists.full,
+        rows: &rows,
+        count: lists.count,
+        n,
+    };
+    list_ranked(&found, &allowed, listed)
 }
 
 // Views the partitioned map, marks what pass 3 removes and lists its proposals, where there are as many boundaries as spans, of which there are `count`; gives how many
@@ -100,8 +78,7 @@ pub fn mark_ranked(
         return 0;
     }
     let mut starts = [0usize; 257];
-    let mut smaller = [0u32; 256];
-    let mut larger = [0u32; 256];
+    let mut full = [None; 256];
     view(
         width,
         needed,
@@ -110,17 +87,23 @@ pub fn mark_ranked(
         regions,
         rows,
         count,
+        boundaries,
         tallies,
         pairs,
         masks,
         queue,
         &mut starts,
-        &mut smaller,
-        &mut larger,
+        &mut full,
     );
-    rank_junctions(
-        records, regions, count, boundaries, &smaller, &larger, queue, masks, removed, listed,
-    )
+    let lists = JunctionLists {
+        boundaries,
+        full: &full,
+        counts: queue,
+        marks: masks,
+        count,
+        regions,
+    };
+    rank_junctions(records, &lists, removed, listed)
 }
 
 // The call of pass 3 with its list. Nothing is written to the lent list before the proposals are counted.
@@ -175,11 +158,7 @@ pub fn topology_ranked_junctions(
         tallies, pairs,
     );
     match prepared {
-        Err(refusal) => RankedAnswer {
-            number: refusal.cause.number(),
-            value: refusal.place as u64,
-            proposals: 0,
-        },
+        Err(refusal) => refused(refusal),
         Ok(Ready { regions, rows }) => {
             let columns = width as usize;
             let needed = height as usize * columns;

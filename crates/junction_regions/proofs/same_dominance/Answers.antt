@@ -1,13 +1,25 @@
--- `same_dominance` meets its contract, from what `dominance` ensures of both. Assumes nothing.
-use mathlib.Core.Path.{◌∙◌}
-use mathlib.Core.Bool.{◌&&◌}
+-- `same_dominance` meets its contract: two elevations that there may be are compared. Assumes nothing.
+use Prim.Native.Nat.{ℕ}
+use mathlib.Core.Path.{◌≡◌, refl, ◌∙◌}
+use mathlib.Core.Bool.{Bool, true, false, ◌&&◌}
 use lib.Dec.{eqb}
-use Rattle.definitions.specs.RegionRecord.{accepts, same_dominance}
+use Rattle.std.specs.Option.{is_some, option_eq}
+use Rattle.definitions.specs.Scan.{only_if}
+use Rattle.definitions.specs.RegionRecord.{accepts, dominance, same_dominance}
+use Rattle.context.specs.Records.{record_of}
+use Rattle.junction_regions.specs.Tests.{accepted_of}
 use Rattle.junction_regions.proofs.same_dominance.Goals as goal
 
+same : (x y : Bool) (a b : ℕ) → (is_some (only_if x a) && option_eq eqb (only_if x a) (only_if y b)) ≡ (x && y && eqb a b)
+same true true a b = refl
+same true false a b = refl
+same false y a b = refl
+
 pub returns : goal.returns
-unfolding same_dominance
+unfolding same_dominance accepted_of
 returns c =
-    (λ i. c.is_accepted.ensures i && c.is_accepted-2.ensures i && eqb c.dominance-a.result.elevation c.dominance-b.result.elevation)
-    ∙ (λ i. accepts (c.dominance-a.ensures i).share && accepts (c.dominance-b.ensures i).share
-    && eqb (c.dominance-a.ensures i).elevation (c.dominance-b.ensures i).elevation)
+    let a = dominance (record_of c.args.first) in
+    let b = dominance (record_of c.args.second) in
+    (λ i. c.is_some.ensures i && c.eq.ensures i)
+    ∙ (λ i. is_some (c.accepted_elevation-elevation.ensures i) && option_eq eqb (c.accepted_elevation-elevation.ensures i) (c.accepted_elevation-other.ensures i))
+    ∙ same (accepts a.share) (accepts b.share) a.elevation b.elevation

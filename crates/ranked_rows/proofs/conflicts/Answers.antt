@@ -1,9 +1,6 @@
 -- `ranked_rows::conflicts` meets its contract: its parts are those of `conflict_at`. Assumes nothing.
-use Prim.Native.Nat.{ℕ}
-use mathlib.Core.Path.{ap, ◌∙◌}
-use mathlib.Core.Bool.{Bool, ◌||◌}
-use Rattle.junction_proposals.specs.Rows.{row_at}
-use Rattle.junction_selection.specs.Ranks.{reserves_at, conflict_at}
+use mathlib.Core.Bool.{◌||◌}
+use Rattle.junction_selection.specs.Ranks.{conflict_at}
 use Rattle.ranked_rows.proofs.conflicts.Goals as goal
 
 pub returns : goal.returns

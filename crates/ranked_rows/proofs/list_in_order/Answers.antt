@@ -1,4 +1,4 @@
--- `ranked_rows::list_in_order` meets its contract. The loop's invariant: the rows of the first k ranks are written (`ListedTo`). The measure is how many ranks are left. Assumes nothing.
+-- `ranked_rows::list_in_order` meets its contract. The loop's invariant: the rows of the first k ranks are written (`ListedTo`). Assumes nothing.
 use native.Mathlib.Nat.{le_antisymm}
 use native.Mathlib.Omega.{arith}
 use mathlib.Core.Path.{refl, ap, ◌∙◌}
@@ -12,7 +12,7 @@ use Rattle.ranked_rows.proofs.list_in_order.Goals as goal
 pub loop-k-init : goal.loop-k-init
 loop-k-init c =
     let a = c.args in
-    listed_none a.smaller.now a.larger.now a.rows.now a.order.now a.count a.m a.listed.now
+    listed_none a.found.now.full.now a.found.now.rows.now a.order.now a.found.now.count a.m a.listed.now
 
 pub bounds-order-k : goal.bounds-order-k
 bounds-order-k c =
@@ -20,7 +20,7 @@ bounds-order-k c =
 
 pub list_row-requires : goal.list_row-requires
 list_row-requires c =
-    let asked : Listing c.args.rows.now c.args.order.now c.loop-k.listed c.args.count c.args.n = listing_of c.loop-k.listed c.requires.listing c.loop-k.invariant.long in
+    let asked : Listing c.args.found.now.rows.now c.args.order.now c.loop-k.listed c.args.found.now.count c.args.found.now.n = listing_of c.loop-k.listed c.requires.listing c.loop-k.invariant.long in
     let rows_in = c.requires.places.1 in
     let k = c.loop-k.k in record {
       listing = asked;
@@ -43,4 +43,4 @@ returns c =
     let h = c.loop-k.invariant in
     let a = c.args in
     h.is
-    ∙ ap (λ k. overwrite (flat_ranked (listed_from a.smaller.now a.larger.now a.count (order_of a.rows.now a.order.now k))) a.listed.now) (le_antisymm h.upto c.loop-k-test.false)
+    ∙ ap (λ k. overwrite (flat_ranked (listed_from a.found.now.full.now a.found.now.count (order_of a.found.now.rows.now a.order.now k))) a.listed.now) (le_antisymm h.upto c.loop-k-test.false)

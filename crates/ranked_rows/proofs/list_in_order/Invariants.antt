@@ -1,12 +1,7 @@
--- `ranked_rows::list_in_order` meets its contract. The loop's invariant: the rows of the first k ranks are written (`ListedTo`). The measure is how many ranks are left. Assumes nothing.
-use Prim.Native.Nat.{◌-◌}
+-- `ranked_rows::list_in_order` meets its contract. The loop's invariant: the rows of the first k ranks are written (`ListedTo`). Assumes nothing.
 use Rattle.ranked_rows.proofs.Following.{ListedTo}
 use Rattle.ranked_rows.proofs.list_in_order.Given as goal
 
 abbrev pub invariant-loop-k : goal.invariant-loop-k
 invariant-loop-k l =
-    ListedTo l.smaller l.larger l.rows l.order l.count l.m l.initial.listed l.listed l.k
-
-abbrev pub decreases-loop-k : goal.decreases-loop-k
-decreases-loop-k l =
-    l.m - l.k
+    ListedTo l.found.full.now l.found.rows.now l.order l.found.count l.m l.initial.listed l.listed l.k

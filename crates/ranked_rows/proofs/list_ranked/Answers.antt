@@ -20,6 +20,6 @@ unfolding allowed_list
 returns c =
     let a = c.args in
     let ranks = c.rank_proposals-m.ensures.order in record {
-      many = listed-count a.smaller.now a.larger.now a.count a.rows.now _ c.rank_proposals-m.result _ ranks;
-      list = c.list_in_order.ensures ∙ ap (λ all. overwrite (flat_ranked (listed_from a.smaller.now a.larger.now a.count all)) a.listed.now) ranks;
+      many = listed-count a.found.now.full.now a.found.now.count a.found.now.rows.now _ c.rank_proposals-m.result _ ranks;
+      list = c.list_in_order.ensures ∙ ap (λ all. overwrite (flat_ranked (listed_from a.found.now.full.now a.found.now.count all)) a.listed.now) ranks;
     }

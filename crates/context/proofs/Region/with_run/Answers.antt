@@ -14,9 +14,9 @@ use Rattle.context.proofs.RunCounting.{among-few, mask_counted, sums-counted}
 use Rattle.context.proofs.RunLaws.{run-added}
 use Rattle.context.proofs.Region.with_run.Goals as goal
 
-pub sums-counts-requires : goal.sums-counts-requires
-sums-counts-requires c =
-    let fits = c.requires.fitting in record { old_small = (λ e. omega (arith, c.requires.counted.each e, c.requires.counted.few)); more_small = λ e. rw c.run_counts-run.ensures.elevations (omega (arith, among-few c.args.cells.now c.args.from (c.args.end - c.args.from) e, fits.within.narrow)) }
+pub sums-counts-requires-clause-more_small : goal.sums-counts-requires-clause-more_small
+sums-counts-requires-clause-more_small c = λ e.
+    rw c.run_counts-run.ensures.elevations (omega (arith, among-few c.args.cells.now c.args.from (c.args.end - c.args.from) e, c.requires.fitting.within.narrow))
 
 pub overflow_add-result-2 : goal.overflow_add-result-2
 overflow_add-result-2 c =

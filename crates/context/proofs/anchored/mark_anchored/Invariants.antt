@@ -1,11 +1,7 @@
 -- `anchored::mark_anchored` meets its contract. The invariant: the labels of the anchors passed are marked. Assumes nothing.
-use Prim.Native.Nat.{◌-◌, ◌≤◌}
 use mathlib.Core.Path.{◌≡◌}
 use Rattle.context.specs.Anchors.{anchor_cells, mark_cells}
 use Rattle.context.proofs.anchored.mark_anchored.Given as goal
 
 abbrev pub invariant-loop-i : goal.invariant-loop-i
-invariant-loop-i l = (l.i ≤ l.count) × (l.marks ≡ mark_cells l.labels l.initial.marks (anchor_cells l.width l.anchors l.i))
-
-abbrev pub decreases-loop-i : goal.decreases-loop-i
-decreases-loop-i l = l.count - l.i
+invariant-loop-i l = l.marks ≡ mark_cells l.labels l.initial.marks (anchor_cells l.width l.anchors l.i)

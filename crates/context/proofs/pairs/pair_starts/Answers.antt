@@ -8,18 +8,17 @@ use borrow.Author.Rules.{rules}
 use Rattle.context.proofs.pairs.pair_starts.Goals as goal
 
 pub loop-s-init : goal.loop-s-init
-loop-s-init c = (search rules, search rules, search rules, λ C R. (sym (before-zero C), λ j h. absurd (omega arith)))
+loop-s-init c = (search rules, search rules, λ C R. (sym (before-zero C), λ j h. absurd (omega arith)))
 
 pub loop-s-preserved : goal.loop-s-preserved
 loop-s-preserved c =
     let at = c.loop-s in
     let inv = at.invariant in (
-      search rules,
       c.span_end-k.ensures.upto,
-      simp length-set inv.2,
+      simp length-set inv.1,
       λ C R. (
-        next_is R at.s at.k c.span_end-k.result c.loop-s-test.true (inv.3 C R).0 c.span_end-k.ensures,
-        starts_more C at.starts at.s at.k (omega (arith, inv.2, c.requires.sizes.0)) (inv.3 C R).0 (inv.3 C R).1,
+        next_is R at.s at.k c.span_end-k.result c.loop-s-test.true (inv.2 C R).0 c.span_end-k.ensures,
+        starts_more C at.starts at.s at.k (omega (arith, inv.1, c.requires.sizes.0)) (inv.2 C R).0 (inv.2 C R).1,
       ),
     )
 
@@ -28,7 +27,7 @@ returns c =
     let at = c.loop-s in
     let inv = at.invariant in
     λ C R.
-    let done : at.s ≡ c.args.count = omega (arith, inv.0, c.loop-s-test.false) in
-    starts-shown R c.requires.sizes.0 (simp length-set inv.2)
-    (starts_more C at.starts c.args.count at.k (omega (arith, inv.2, c.requires.sizes.0)) ((inv.3 C R).0 ∙ ap (before C) done)
-    (λ j l. (inv.3 C R).1 j (omega (arith, done))))
+    let done : at.s ≡ c.args.count = omega (arith, at.auto.s-end, c.loop-s-test.false) in
+    starts-shown R c.requires.sizes.0 (simp length-set inv.1)
+    (starts_more C at.starts c.args.count at.k (omega (arith, inv.1, c.requires.sizes.0)) ((inv.2 C R).0 ∙ ap (before C) done)
+    (λ j l. (inv.2 C R).1 j (omega (arith, done))))

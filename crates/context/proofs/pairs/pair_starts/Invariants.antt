@@ -1,6 +1,6 @@
 -- `pairs::pair_starts` meets its contract. The invariant: of every context whose rows the list begins with, k is where span s begins, and the beginnings of the spans passed are stored.
 -- Assumes nothing.
-use Prim.Native.Nat.{ℕ, ◌+◌, ◌-◌, ◌≤◌, ◌<◌}
+use Prim.Native.Nat.{ℕ, ◌+◌, ◌≤◌, ◌<◌}
 use mathlib.Core.Path.{◌≡◌}
 use lib.ListN.{length, get_or}
 use Rattle.definitions.specs.Limits.{max_entries}
@@ -11,8 +11,5 @@ use Rattle.context.proofs.pairs.pair_starts.Given as goal
 
 abbrev pub invariant-loop-s : goal.invariant-loop-s
 invariant-loop-s l =
-    (l.s ≤ l.count) × (l.k ≤ l.rows) × (length l.starts ≡ max_entries + 1)
+    (l.k ≤ l.rows) × (length l.starts ≡ max_entries + 1)
     × ((C : Context) → PairRows C l.pairs l.rows l.count → (l.k ≡ before C l.s) × ((j : ℕ) → j < l.s → get_or l.starts j 0 ≡ before C j))
-
-abbrev pub decreases-loop-s : goal.decreases-loop-s
-decreases-loop-s l = l.count - l.s

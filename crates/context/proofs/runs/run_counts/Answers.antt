@@ -1,8 +1,7 @@
 -- `context::runs::run_counts` meets its contract. The loop's invariant is `Counting`: the cells before those that are left are counted. Assumes nothing.
-use Rattle.std.proofs.Common.{arith, rules, tests, ◌≡◌, ap, ◌∙◌, ℕ, zero, suc, ◌*◌, ◌≤◌, ◌-◌, length}
+use Rattle.std.proofs.Common.{arith, rules, tests, ap, ◌∙◌, ℕ, zero, suc, ◌*◌, ◌≤◌, length}
 use Rattle.std.proofs.lemmas.Fn.{always_returns_same}
 use lib.Dec.{eqb}
-use Rattle.context.specs.Runs.{elevations_among, ramps_among}
 use Rattle.context.proofs.RunCounting.{counting-starts, counting-few, counting_each, counting-room, counting-low, counting-goes_on}
 use Rattle.context.proofs.runs.run_counts.Goals as goal
 
@@ -21,11 +20,6 @@ overflow_add-ramps c =
     let inv = c.loop-alike.invariant in
     omega (arith, product (length c.in-Some.alike.now) c.ramp_bit.result c.ramp_bit.ensures.1, c.requires.narrow, counting-room inv c.in-Some.alike.now c.next.new.self.rest.now c.in-Some.ensures.steps.0 _ (counting-few inv))
 
-pub bounds-elevations-e : goal.bounds-elevations-e
-bounds-elevations-e c =
-    let step = c.in-Some.ensures.steps in
-    rw c.elevation_of-e.ensures (counting-low c.loop-alike.invariant _ _ step.0 c.requires step.1)
-
 pub overflow_add-elevations : goal.overflow_add-elevations
 overflow_add-elevations c =
     let inv = c.loop-alike.invariant in
@@ -36,9 +30,3 @@ loop-alike-preserved c =
     let inv = c.loop-alike.invariant in
     let step = c.in-Some.ensures.steps in
     counting-goes_on inv _ _ step.0 step.1 (step.2 eqb (always_returns_same _ _ _ (λ a r f q. search (rules, tests)))).1.0 (counting-low inv _ _ step.0 c.requires step.1) c.elevation_of-e.ensures c.ramp_bit.ensures.0
-
-pub returns : goal.returns
-returns c =
-    let inv = c.loop-alike.invariant in
-    let all : c.args.end - c.args.from - length c.loop-alike.alike-iterator.rest.now ≡ c.args.end - c.args.from = omega (arith, c.in-None.ensures.steps.0) in
-    record { ramps = inv.ramps_are ∙ ap (ramps_among c.args.cells.now c.args.from) all; elevations = inv.elevations_are ∙ ap (elevations_among c.args.cells.now c.args.from) all }

@@ -1,6 +1,6 @@
 -- `junction_proposals::bridges::bridge_if_near` meets its contract, from what its callees ensure. Assumes nothing.
 use Rattle.junction_proposals.proofs.BridgeTests.{all_near, not-near}
-use Rattle.junction_proposals.proofs.Lists.{placed}
+use Rattle.junction_proposals.proofs.Placing.{placed}
 use Rattle.junction_proposals.proofs.bridges.bridge_if_near.Goals as goal
 
 pub is_near_port-own-requires : goal.is_near_port-own-requires
@@ -14,8 +14,8 @@ is_near_port-third-requires c = (placed c.requires.boundaries_lent c.requires.pl
 
 pub returns-then-own-other : goal.returns-then-own-other
 returns-then-own-other c =
-    all_near c.args.boundaries.now c.args.smaller.now c.args.larger.now c.args.r c.args.i c.args.k c.args.t c.is_near_port-own.ensures c.is_near_port-other.ensures c.is_near_port-third.ensures c.if-own-other.true c.region_beyond.ensures
+    all_near c.args.lists.now.boundaries.now c.args.lists.now.full.now c.args.r c.args.i c.args.k c.args.t c.is_near_port-own.ensures c.is_near_port-other.ensures c.is_near_port-third.ensures c.if-own-other.true c.region_beyond.ensures
 
 pub returns-else-own-other : goal.returns-else-own-other
 returns-else-own-other c =
-    not-near c.args.boundaries.now c.args.smaller.now c.args.larger.now c.args.r c.args.i c.args.k c.args.t c.is_near_port-own.ensures c.is_near_port-other.ensures c.is_near_port-third.ensures c.if-own-other.false
+    not-near c.args.lists.now.boundaries.now c.args.lists.now.full.now c.args.r c.args.i c.args.k c.args.t c.is_near_port-own.ensures c.is_near_port-other.ensures c.is_near_port-third.ensures c.if-own-other.false

@@ -14,18 +14,17 @@ use Rattle.junction_proposals.proofs.bridges.bridge_of.Goals as goal
 free : {n : ℕ} {b : Bool} → n ≡ bit b → (n ≡ 1 → ⊥) → b ≡ false
 free {b = b} e h = bit-other b (λ q. h (e ∙ q))
 
-pub bounds-counts-r : goal.bounds-counts-r
-bounds-counts-r c =
+pub bounds-lists-r : goal.bounds-lists-r
+bounds-lists-r c =
     omega (arith, c.requires.r_named, c.requires.lent.counts_long)
 
-pub returns-then-counts-r-ne3 : goal.returns-then-counts-r-ne3
-returns-then-counts-r-ne3 c =
-    let boundaries : List ℕ = c.args.boundaries.now in
-    let smaller : List ℕ = c.args.smaller.now in
-    let larger : List ℕ = c.args.larger.now in
-    let counts : List ℕ = c.args.counts.now in
-    let marks : List ℕ = c.args.marks.now in
-    other-count boundaries smaller larger marks counts c.args.r c.args.count c.if-counts-r-ne3.true
+pub returns-then-lists-r-ne3 : goal.returns-then-lists-r-ne3
+returns-then-lists-r-ne3 c =
+    let boundaries : List ℕ = c.args.lists.now.boundaries.now in
+    let full = c.args.lists.now.full.now in
+    let counts : List ℕ = c.args.lists.now.counts.now in
+    let marks : List ℕ = c.args.lists.now.marks.now in
+    other-count boundaries full marks counts c.args.r c.args.lists.now.count c.if-lists-r-ne3.true
 
 pub anchored_bit-requires : goal.anchored_bit-requires
 anchored_bit-requires c =
@@ -33,40 +32,37 @@ anchored_bit-requires c =
 
 pub returns-then-anchored_bit-eq1 : goal.returns-then-anchored_bit-eq1
 returns-then-anchored_bit-eq1 c =
-    let boundaries : List ℕ = c.args.boundaries.now in
-    let smaller : List ℕ = c.args.smaller.now in
-    let larger : List ℕ = c.args.larger.now in
-    let counts : List ℕ = c.args.counts.now in
-    let marks : List ℕ = c.args.marks.now in
-    is_anchored boundaries smaller larger marks counts c.args.r c.args.count (bit_one (mark_at marks c.args.r) (sym c.anchored_bit.ensures ∙ c.if-anchored_bit-eq1.true))
+    let boundaries : List ℕ = c.args.lists.now.boundaries.now in
+    let full = c.args.lists.now.full.now in
+    let counts : List ℕ = c.args.lists.now.counts.now in
+    let marks : List ℕ = c.args.lists.now.marks.now in
+    is_anchored boundaries full marks counts c.args.r c.args.lists.now.count (bit_one (mark_at marks c.args.r) (sym c.anchored_bit.ensures ∙ c.if-anchored_bit-eq1.true))
 
 pub returns-in_err-i : goal.returns-in_err-i
 returns-in_err-i c =
-    ap (bridge_form c.args.r) c.from_residual.ensures ∙ other_length c.args.boundaries.now c.args.smaller.now c.args.larger.now c.args.marks.now c.args.counts.now c.args.r c.args.count c.if-counts-r-ne3.false (free c.anchored_bit.ensures c.if-anchored_bit-eq1.false)
-    (none_found (is_pocket_port c.args.smaller.now c.args.larger.now c.args.r c.args.boundaries.now) c.args.count c.in_err-i.ensures.first)
+    ap (bridge_form c.args.r) c.from_residual.ensures ∙ other_length c.args.lists.now.boundaries.now c.args.lists.now.full.now c.args.lists.now.marks.now c.args.lists.now.counts.now c.args.r c.args.lists.now.count c.if-lists-r-ne3.false (free c.anchored_bit.ensures c.if-anchored_bit-eq1.false)
+    (none_found (is_pocket_port c.args.lists.now.full.now c.args.r c.args.lists.now.boundaries.now) c.args.lists.now.count c.in_err-i.ensures.first)
 
 pub returns-in_err-j : goal.returns-in_err-j
 returns-in_err-j c =
-    ap (bridge_form c.args.r) c.from_residual-in_err-j.ensures ∙ other_length c.args.boundaries.now c.args.smaller.now c.args.larger.now c.args.marks.now c.args.counts.now c.args.r c.args.count c.if-counts-r-ne3.false (free c.anchored_bit.ensures c.if-anchored_bit-eq1.false)
-    (one_found (is_pocket_port c.args.smaller.now c.args.larger.now c.args.r c.args.boundaries.now) c.args.count c.in_ok-i.ensures.first c.in_err-j.ensures.first)
+    ap (bridge_form c.args.r) c.from_residual-in_err-j.ensures ∙ other_length c.args.lists.now.boundaries.now c.args.lists.now.full.now c.args.lists.now.marks.now c.args.lists.now.counts.now c.args.r c.args.lists.now.count c.if-lists-r-ne3.false (free c.anchored_bit.ensures c.if-anchored_bit-eq1.false)
+    (one_found (is_pocket_port c.args.lists.now.full.now c.args.r c.args.lists.now.boundaries.now) c.args.lists.now.count c.in_ok-i.ensures.first c.in_err-j.ensures.first)
 
 pub returns-in_err-k : goal.returns-in_err-k
 returns-in_err-k c =
-    ap (bridge_form c.args.r) c.from_residual-in_err-k.ensures ∙ other_length c.args.boundaries.now c.args.smaller.now c.args.larger.now c.args.marks.now c.args.counts.now c.args.r c.args.count c.if-counts-r-ne3.false (free c.anchored_bit.ensures c.if-anchored_bit-eq1.false)
-    (two_found (is_pocket_port c.args.smaller.now c.args.larger.now c.args.r c.args.boundaries.now) c.args.count c.in_ok-i.ensures.first c.in_ok-j.ensures.first c.in_err-k.ensures.first)
+    ap (bridge_form c.args.r) c.from_residual-in_err-k.ensures ∙ other_length c.args.lists.now.boundaries.now c.args.lists.now.full.now c.args.lists.now.marks.now c.args.lists.now.counts.now c.args.r c.args.lists.now.count c.if-lists-r-ne3.false (free c.anchored_bit.ensures c.if-anchored_bit-eq1.false)
+    (two_found (is_pocket_port c.args.lists.now.full.now c.args.r c.args.lists.now.boundaries.now) c.args.lists.now.count c.in_ok-i.ensures.first c.in_ok-j.ensures.first c.in_err-k.ensures.first)
 
 pub returns-in-Some : goal.returns-in-Some
 returns-in-Some c =
-    other_length c.args.boundaries.now c.args.smaller.now c.args.larger.now c.args.marks.now c.args.counts.now c.args.r c.args.count c.if-counts-r-ne3.false (free c.anchored_bit.ensures c.if-anchored_bit-eq1.false)
-    (more_found (is_pocket_port c.args.smaller.now c.args.larger.now c.args.r c.args.boundaries.now) c.args.count c.in_ok-i.ensures.first c.in_ok-j.ensures.first c.in_ok-k.ensures.first c.in-Some.ensures.first)
+    other_length c.args.lists.now.boundaries.now c.args.lists.now.full.now c.args.lists.now.marks.now c.args.lists.now.counts.now c.args.r c.args.lists.now.count c.if-lists-r-ne3.false (free c.anchored_bit.ensures c.if-anchored_bit-eq1.false)
+    (more_found (is_pocket_port c.args.lists.now.full.now c.args.r c.args.lists.now.boundaries.now) c.args.lists.now.count c.in_ok-i.ensures.first c.in_ok-j.ensures.first c.in_ok-k.ensures.first c.in-Some.ensures.first)
 
 pub bridge_of_three-requires : goal.bridge_of_three-requires
 bridge_of_three-requires c =
-    let port = port_at_lem c.args.boundaries.now c.args.smaller.now c.args.larger.now c.args.r c.args.count in
+    let port = port_at_lem c.args.lists.now.boundaries.now c.args.lists.now.full.now c.args.r c.args.lists.now.count in
     record {
-      boundaries_lent = c.requires.lent.bounds;
-      pairs_lent = c.requires.lent.pairs;
-      marks_room = c.requires.lent.marks_long;
+      lent = c.requires.lent;
       i_is_port = port _ c.in_ok-i.ensures.first.1 c.in_ok-i.ensures.first.2;
       j_is_port = port _ c.in_ok-j.ensures.first.1 c.in_ok-j.ensures.first.2;
       k_is_port = port _ c.in_ok-k.ensures.first.1 c.in_ok-k.ensures.first.2;
@@ -74,6 +70,6 @@ bridge_of_three-requires c =
 
 pub returns-in-None : goal.returns-in-None
 returns-in-None c =
-    of_three c.args.boundaries.now c.args.smaller.now c.args.larger.now c.args.marks.now c.args.counts.now c.args.r c.args.count c.if-counts-r-ne3.false (free c.anchored_bit.ensures c.if-anchored_bit-eq1.false) _ _ _
-    (three-found (is_pocket_port c.args.smaller.now c.args.larger.now c.args.r c.args.boundaries.now) c.args.count c.in_ok-i.ensures.first c.in_ok-j.ensures.first c.in_ok-k.ensures.first c.in-None.ensures.first)
+    of_three c.args.lists.now.boundaries.now c.args.lists.now.full.now c.args.lists.now.marks.now c.args.lists.now.counts.now c.args.r c.args.lists.now.count c.if-lists-r-ne3.false (free c.anchored_bit.ensures c.if-anchored_bit-eq1.false) _ _ _
+    (three-found (is_pocket_port c.args.lists.now.full.now c.args.r c.args.lists.now.boundaries.now) c.args.lists.now.count c.in_ok-i.ensures.first c.in_ok-j.ensures.first c.in_ok-k.ensures.first c.in-None.ensures.first)
     c.bridge_of_three.ensures

@@ -6,8 +6,7 @@ use Rattle.junction_proposals.proofs.bridges.bridge_of_three.Goals as goal
 
 pub is_shared-requires : goal.is_shared-requires
 is_shared-requires c = record {
-  sizes = (c.requires.boundaries_lent.few, c.requires.marks_room);
-  pairs_lent = c.requires.pairs_lent;
+  lent = c.requires.lent;
   i_is_port = c.requires.i_is_port;
   k_is_port = c.requires.j_is_port;
   t_is_port = c.requires.k_is_port;
@@ -16,7 +15,7 @@ is_shared-requires c = record {
 pub pick_bridge-requires : goal.pick_bridge-requires
 pick_bridge-requires c =
     record {
-      boundaries_lent = c.requires.boundaries_lent;
+      boundaries_lent = c.requires.lent.bounds;
       places = (c.requires.i_is_port.below, (c.requires.j_is_port.below, c.requires.k_is_port.below));
     }
 
@@ -27,8 +26,7 @@ returns-then-is_shared c = chosen _ c.is_shared.ensures c.if-is_shared.true c.pi
 pub is_shared-requires-2 : goal.is_shared-requires-2
 is_shared-requires-2 c =
     record {
-      sizes = (c.requires.boundaries_lent.few, c.requires.marks_room);
-      pairs_lent = c.requires.pairs_lent;
+      lent = c.requires.lent;
       i_is_port = c.requires.i_is_port;
       k_is_port = c.requires.k_is_port;
       t_is_port = c.requires.j_is_port;
@@ -37,7 +35,7 @@ is_shared-requires-2 c =
 pub pick_bridge-requires-then-is_shared-2 : goal.pick_bridge-requires-then-is_shared-2
 pick_bridge-requires-then-is_shared-2 c =
     record {
-      boundaries_lent = c.requires.boundaries_lent;
+      boundaries_lent = c.requires.lent.bounds;
       places = (c.requires.i_is_port.below, (c.requires.k_is_port.below, c.requires.j_is_port.below));
     }
 
@@ -49,8 +47,7 @@ returns-then-is_shared-2 c =
 pub is_shared-requires-3 : goal.is_shared-requires-3
 is_shared-requires-3 c =
     record {
-      sizes = (c.requires.boundaries_lent.few, c.requires.marks_room);
-      pairs_lent = c.requires.pairs_lent;
+      lent = c.requires.lent;
       i_is_port = c.requires.j_is_port;
       k_is_port = c.requires.k_is_port;
       t_is_port = c.requires.i_is_port;
@@ -59,7 +56,7 @@ is_shared-requires-3 c =
 pub pick_bridge-requires-then-is_shared-3 : goal.pick_bridge-requires-then-is_shared-3
 pick_bridge-requires-then-is_shared-3 c =
     record {
-      boundaries_lent = c.requires.boundaries_lent;
+      boundaries_lent = c.requires.lent.bounds;
       places = (c.requires.j_is_port.below, (c.requires.k_is_port.below, c.requires.i_is_port.below));
     }
 

@@ -8,4 +8,4 @@ use Rattle.junction_proposals.proofs.bridges.next_port.Goals as goal
 pub returns : goal.returns
 unfolding is_pocket_port names
 returns c =
-    record { first = first_from_Range _ _ _ c.find.result (λ j. is_pocket_port c.args.smaller.now c.args.larger.now c.args.r c.args.boundaries.now j ≡ true) (λ j. is_pocket_port c.args.smaller.now c.args.larger.now c.args.r c.args.boundaries.now j ≡ false) c.find.ensures.ran (λ x q k. search (rules, tests)) (λ x q k. search (rules, tests)) }
+    record { first = first_from_Range _ _ _ c.find.result (λ j. is_pocket_port c.args.lists.now.full.now c.args.r c.args.lists.now.boundaries.now j ≡ true) (λ j. is_pocket_port c.args.lists.now.full.now c.args.r c.args.lists.now.boundaries.now j ≡ false) c.find.ensures.ran (λ x q k. search (rules, tests)) (λ x q k. search (rules, tests)) }

@@ -1,5 +1,4 @@
--- `junction_proposals::proposals::find_bridges` meets its contract. The loop's invariant: behind the first rows stand the bridges of the regions up to k. The measure is
--- how many regions are left. Assumes nothing.
+-- `junction_proposals::proposals::find_bridges` meets its contract. The loop's invariant: behind the first rows stand the bridges of the regions up to k. Assumes nothing.
 use Prim.Native.Nat.{ℕ, ◌+◌, ◌≤◌}
 use native.Mathlib.Numerals.{add-one}
 use native.Mathlib.Nat.{le_antisymm, add-zero}
@@ -8,6 +7,7 @@ use mathlib.Core.Path.{◌≡◌, refl, sym, ap, ap₂, ◌∙◌}
 use Rattle.std.specs.Prelude.{Option}
 use mathlib.Core.List.{List, ◌++◌, append-nil, append_assoc}
 use lib.ListN.{length, length-append}
+use Rattle.context.specs.declared.pairs.Pair as declared
 use Rattle.definitions.specs.Scan.{collect, to_list}
 use Rattle.definitions.specs.Limits.{max_entries}
 use Rattle.definitions.specs.Junctions.{Proposal}
@@ -18,20 +18,20 @@ use Rattle.junction_proposals.proofs.Counting.{bridges, bridges-few}
 use borrow.Author.Rules.{rules}
 use Rattle.junction_proposals.proofs.proposals.find_bridges.Goals as goal
 
-module _ (boundaries smaller larger marks counts : List ℕ) (count : ℕ) where
+module _ (boundaries : List ℕ) (full : List (Option declared.Pair)) (marks counts : List ℕ) (count : ℕ) where
   -- the same of a number as the code counts
-  found_at : (k : ℕ) → is_bridge_at boundaries smaller larger marks (k + 1) counts count ≡ bridges boundaries smaller larger marks counts count k
-  found_at k = ap (λ r. is_bridge_at boundaries smaller larger marks r counts count) (add-one k)
+  found_at : (k : ℕ) → is_bridge_at boundaries full marks (k + 1) counts count ≡ bridges boundaries full marks counts count k
+  found_at k = ap (λ r. is_bridge_at boundaries full marks r counts count) (add-one k)
 
   -- one bridge more is still few
-  few : {unions : ℕ} → unions ≤ count → count ≤ max_entries → (k : ℕ) → unions + length (collect k (bridges boundaries smaller larger marks counts count)) + length (to_list (bridges boundaries smaller larger marks counts count k)) ≤ max_proposals
+  few : {unions : ℕ} → unions ≤ count → count ≤ max_entries → (k : ℕ) → unions + length (collect k (bridges boundaries full marks counts count)) + length (to_list (bridges boundaries full marks counts count k)) ≤ max_proposals
   few u f k =
-      let found : ℕ → Option Proposal = bridges boundaries smaller larger marks counts count in
+      let found : ℕ → Option Proposal = bridges boundaries full marks counts count in
       omega (
         arith,
         u,
         f,
-        bridges-few boundaries smaller larger marks counts count (k + 1),
+        bridges-few boundaries full marks counts count (k + 1),
         ap length (collect_next found k),
         length-append (collect k found) (to_list (found k)),
       )
@@ -45,25 +45,23 @@ pub overflow_cast-k : goal.overflow_cast-k
 overflow_cast-k c =
     omega (arith, c.loop-k-test.true, c.requires.lent.labels)
 
-pub add_bridge-n-requires : goal.add_bridge-n-requires
-add_bridge-n-requires c =
-    record {
-      lent = c.requires.lent;
-      r_named = (omega arith, omega (arith, c.loop-k-test.true));
-      proposals_room = omega (arith, few c.args.boundaries.now c.args.smaller.now c.args.larger.now c.args.marks.now c.args.counts.now c.args.count c.requires.unions_within c.requires.lent.bounds.few c.loop-k.k, c.loop-k.invariant.1.1.0, ap (λ o. length (to_list o)) (found_at c.args.boundaries.now c.args.smaller.now c.args.larger.now c.args.marks.now c.args.counts.now c.args.count c.loop-k.k));
-      rows_room = omega (arith, c.requires.rows_room, c.loop-k.invariant.1.0);
-    }
+pub add_row-n-requires : goal.add_row-n-requires
+add_row-n-requires c =
+    let l = c.args.lists.now in
+    omega (arith, few l.boundaries.now l.full.now l.marks.now l.counts.now l.count c.requires.unions_within c.requires.lent.bounds.few c.loop-k.k, c.loop-k.invariant.1.1.0, c.requires.rows_room, c.loop-k.invariant.1.0, ap (λ o. length (to_list o)) (c.bridge_row.ensures ∙ found_at l.boundaries.now l.full.now l.marks.now l.counts.now l.count c.loop-k.k))
 
 pub loop-k-preserved : goal.loop-k-preserved
 loop-k-preserved c =
-    let found : ℕ → Option Proposal = bridges c.args.boundaries.now c.args.smaller.now c.args.larger.now c.args.marks.now c.args.counts.now c.args.count in
-    let a = c.add_bridge-n in (
+    let l = c.args.lists.now in
+    let found : ℕ → Option Proposal = bridges l.boundaries.now l.full.now l.marks.now l.counts.now l.count in
+    let a = c.add_row-n in
+    let e = c.bridge_row.ensures ∙ found_at l.boundaries.now l.full.now l.marks.now l.counts.now l.count c.loop-k.k in (
       search rules,
       (
         a.auto.rows ∙ c.loop-k.invariant.1.0,
         (
-          omega (arith, a.ensures.answer, c.loop-k.invariant.1.1.0, ap (λ o. length (to_list o)) (found_at c.args.boundaries.now c.args.smaller.now c.args.larger.now c.args.marks.now c.args.counts.now c.args.count c.loop-k.k), ap length (collect_next found c.loop-k.k), length-append (collect c.loop-k.k found) (to_list (found c.loop-k.k))),
-          a.ensures.rows ∙ ap₂ (λ m o. m ++ to_list o) c.loop-k.invariant.1.1.1 (found_at c.args.boundaries.now c.args.smaller.now c.args.larger.now c.args.marks.now c.args.counts.now c.args.count c.loop-k.k) ∙ append_assoc (rows_of c.args.rows.now c.args.unions) (collect c.loop-k.k found) (to_list (found c.loop-k.k))
+          omega (arith, a.ensures.answer, c.loop-k.invariant.1.1.0, ap (λ o. length (to_list o)) e, ap length (collect_next found c.loop-k.k), length-append (collect c.loop-k.k found) (to_list (found c.loop-k.k))),
+          a.ensures.rows ∙ ap₂ (λ m o. m ++ to_list o) c.loop-k.invariant.1.1.1 e ∙ append_assoc (rows_of c.args.rows.now c.args.unions) (collect c.loop-k.k found) (to_list (found c.loop-k.k))
               ∙ ap (λ m. rows_of c.args.rows.now c.args.unions ++ m) (sym (collect_next found c.loop-k.k)),
         ),
       ),
@@ -74,8 +72,9 @@ shape_of-rows c = c.loop-k.invariant.1.0
 
 pub returns : goal.returns
 returns c =
-    let found : ℕ → Option Proposal = bridges c.args.boundaries.now c.args.smaller.now c.args.larger.now c.args.marks.now c.args.counts.now c.args.count in
+    let l = c.args.lists.now in
+    let found : ℕ → Option Proposal = bridges l.boundaries.now l.full.now l.marks.now l.counts.now l.count in
     record {
       rows = c.loop-k.invariant.1.1.1 ∙ ap (λ k. rows_of c.args.rows.now c.args.unions ++ collect k found) (le_antisymm c.loop-k.invariant.0 c.loop-k-test.false);
-      bound = omega (arith, c.loop-k.invariant.1.1.0, few c.args.boundaries.now c.args.smaller.now c.args.larger.now c.args.marks.now c.args.counts.now c.args.count c.requires.unions_within c.requires.lent.bounds.few c.loop-k.k);
+      bound = omega (arith, c.loop-k.invariant.1.1.0, few l.boundaries.now l.full.now l.marks.now l.counts.now l.count c.requires.unions_within c.requires.lent.bounds.few c.loop-k.k);
     }

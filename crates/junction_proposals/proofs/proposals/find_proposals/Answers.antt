@@ -4,7 +4,7 @@ use native.Mathlib.Omega.{arith}
 use mathlib.Core.Path.{ap, ◌∙◌}
 use mathlib.Core.List.{◌++◌}
 use Rattle.definitions.specs.Scan.{collect}
-use Rattle.junction_proposals.specs.Bridges.{is_bridge_at}
+use Rattle.junction_proposals.specs.Rows.{bridge_in}
 use Rattle.junction_proposals.proofs.Proposing.{rows_fit, rows-proposed}
 use Rattle.junction_proposals.proofs.proposals.find_proposals.Goals as goal
 
@@ -18,9 +18,9 @@ find_bridges-requires c =
 
 pub returns : goal.returns
 returns c =
-    let a = c.args in
-    let e = c.find_bridges.ensures.rows ∙ ap (λ l. l ++ collect a.regions (λ k. is_bridge_at a.boundaries.now a.smaller.now a.larger.now a.marks.now (suc k) a.counts.now a.count)) c.find_unions-unions.ensures.rows in record {
+    let l = c.args.lists.now in
+    let e = c.find_bridges.ensures.rows ∙ ap (λ m. m ++ collect l.regions (λ k. bridge_in l (suc k))) c.find_unions-unions.ensures.rows in record {
       bound = c.find_bridges.ensures.bound;
-      rows_fit = rows_fit a.boundaries.now a.smaller.now a.larger.now a.counts.now a.marks.now _ a.count a.regions _ e c.requires.lent.pairs;
-      allowed = rows-proposed a.boundaries.now a.smaller.now a.larger.now a.counts.now a.marks.now _ a.count a.regions _ e;
+      rows_fit = rows_fit l.boundaries.now l.full.now l.counts.now l.marks.now _ l.count l.regions _ e c.requires.lent.pairs;
+      allowed = rows-proposed l.boundaries.now l.full.now l.counts.now l.marks.now _ l.count l.regions _ e;
     }

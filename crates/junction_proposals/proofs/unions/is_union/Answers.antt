@@ -1,178 +1,57 @@
 -- `junction_proposals::unions::is_union` meets its contract, from what its callees ensure: each return by the tests that led there. Assumes nothing.
-use Prim.Native.Nat.{ℕ, ◌≤◌, ◌<◌, ◌+◌}
+use Prim.Native.Nat.{◌<◌, ◌+◌}
 use native.Mathlib.Omega.{arith}
 use mathlib.Core.Path.{◌≡◌, sym, ap, ap₂, ◌∙◌}
-use mathlib.Core.List.{List}
-use mathlib.Core.Bool.{true}
-use lib.ListN.{length, get_or}
+use mathlib.Core.Bool.{true, true≢false}
 use lib.Dec.{eqb}
 use borrow.Author.Tests.{eq-eqb, ne_eqb, ltb-true}
-use Rattle.definitions.specs.Grid.{Pair}
-use Rattle.junction_proposals.specs.Unions.{mark_at, marks_of, no_ramp_at, ports_pass}
-use Rattle.junction_proposals.proofs.Shapes.{no_pair_lem, has_ramp_lem, both-anchored, few-incidents, is_unfit_lem, too_few, by_ports}
-use Rattle.laws.specs.ListLaws.Flags.{bit_le}
+use Rattle.context.specs.Rows.{pair_form}
+use Rattle.junction_proposals.specs.Unions.{no_ramp_at, marks_of, ports_pass}
+use Rattle.junction_proposals.proofs.Shapes.{has_ramp_lem, both-anchored, few-incidents, fit_fails, three_fail, by_ports}
 use Rattle.junction_proposals.proofs.unions.is_union.Goals as goal
-
-pub returns-then-lo-eq0 : goal.returns-then-lo-eq0
-returns-then-lo-eq0 c =
-    let boundaries : List ℕ = c.args.boundaries.now in
-    let smaller : List ℕ = c.args.smaller.now in
-    let larger : List ℕ = c.args.larger.now in
-    let counts : List ℕ = c.args.counts.now in
-    let marks : List ℕ = c.args.marks.now in
-    no_pair_lem boundaries smaller larger counts marks c.args.count c.args.index c.if-lo-eq0.true
+use Rattle.junction_proposals.proofs.unions.is_union.Goals.{then-ports_fit, else-ports_fit}
 
 pub returns-then-kind_at-ne0 : goal.returns-then-kind_at-ne0
 returns-then-kind_at-ne0 c =
-    let boundaries : List ℕ = c.args.boundaries.now in
-    let smaller : List ℕ = c.args.smaller.now in
-    let larger : List ℕ = c.args.larger.now in
-    let counts : List ℕ = c.args.counts.now in
-    let marks : List ℕ = c.args.marks.now in
-    has_ramp_lem boundaries smaller larger counts marks c.args.count c.args.index c.if-lo-eq0.false (ap (λ k. eqb k 0) (sym c.kind_at.ensures) ∙ ne_eqb _ 0 c.if-kind_at-ne0.true)
-
-pub anchored_bit-requires : goal.anchored_bit-requires
-anchored_bit-requires c =
-    let smaller : List ℕ = c.args.smaller.now in
-    let larger : List ℕ = c.args.larger.now in
-    let lo : ℕ = get_or smaller c.args.index 0 in
-    let hi : ℕ = get_or larger c.args.index 0 in
-    let named : (lo ≡ 0 → ⊥) → (1 ≤ lo) × ((lo < hi) × (hi ≤ c.args.regions)) = λ e. (omega arith, c.requires.lent.pairs.named c.args.index c.requires.index_within (omega arith)) in
-    omega (arith, named c.if-lo-eq0.false, c.requires.lent.marks_long)
-
-pub anchored_bit-requires-2 : goal.anchored_bit-requires-2
-anchored_bit-requires-2 c =
-    let smaller : List ℕ = c.args.smaller.now in
-    let larger : List ℕ = c.args.larger.now in
-    let lo : ℕ = get_or smaller c.args.index 0 in
-    let hi : ℕ = get_or larger c.args.index 0 in
-    let named : (lo ≡ 0 → ⊥) → (1 ≤ lo) × ((lo < hi) × (hi ≤ c.args.regions)) = λ e. (omega arith, c.requires.lent.pairs.named c.args.index c.requires.index_within (omega arith)) in
-    omega (arith, named c.if-lo-eq0.false, c.requires.lent.marks_long)
-
-pub overflow_add-anchored : goal.overflow_add-anchored
-overflow_add-anchored c =
-    let smaller : List ℕ = c.args.smaller.now in
-    let larger : List ℕ = c.args.larger.now in
-    let marks : List ℕ = c.args.marks.now in
-    let lo : ℕ = get_or smaller c.args.index 0 in
-    let hi : ℕ = get_or larger c.args.index 0 in
-    omega (arith, c.anchored_bit-2.ensures, c.anchored_bit.ensures, bit_le (mark_at marks lo), bit_le (mark_at marks hi))
+    let l = c.args.lists.now in
+    has_ramp_lem l.boundaries.now l.full.now l.counts.now l.marks.now l.count c.args.index (pair_form c.args.union) (ap (λ k. eqb k 0) (sym c.kind_at.ensures) ∙ ne_eqb _ 0 c.if-kind_at-ne0.true)
 
 pub returns-then-anchored-ge2 : goal.returns-then-anchored-ge2
 returns-then-anchored-ge2 c =
-    let boundaries : List ℕ = c.args.boundaries.now in
-    let smaller : List ℕ = c.args.smaller.now in
-    let larger : List ℕ = c.args.larger.now in
-    let counts : List ℕ = c.args.counts.now in
-    let marks : List ℕ = c.args.marks.now in
-    let without-ramp : no_ramp_at boundaries c.args.index ≡ true = ap (λ k. eqb k 0) (sym c.kind_at.ensures) ∙ eq-eqb _ 0 c.if-kind_at-ne0.false in
-    both-anchored boundaries smaller larger counts marks c.args.count c.args.index c.if-lo-eq0.false without-ramp (omega (arith, c.if-anchored-ge2.true, c.anchored_bit-2.ensures, c.anchored_bit.ensures))
-
-pub has_few_incidents-requires : goal.has_few_incidents-requires
-has_few_incidents-requires c =
-    let smaller : List ℕ = c.args.smaller.now in
-    let larger : List ℕ = c.args.larger.now in
-    let counts : List ℕ = c.args.counts.now in
-    let lo : ℕ = get_or smaller c.args.index 0 in
-    let hi : ℕ = get_or larger c.args.index 0 in
-    let named : (lo ≡ 0 → ⊥) → (1 ≤ lo) × ((lo < hi) × (hi ≤ c.args.regions)) = λ e. (omega arith, c.requires.lent.pairs.named c.args.index c.requires.index_within (omega arith)) in
-    let pair : lo ≡ 0 → ⊥ = c.if-lo-eq0.false in
-    let counted : ((1 ≤ lo) × (lo ≤ length counts)) × ((1 ≤ hi) × (hi ≤ length counts)) = let n = named pair in
-    ((n.0, omega (arith, n, c.requires.lent.counts_long)), (omega (arith, n), omega (arith, n, c.requires.lent.counts_long))) in
-    record { lo_named = counted.0; hi_named = counted.1 }
+    let l = c.args.lists.now in
+    both-anchored l.boundaries.now l.full.now l.counts.now l.marks.now l.count c.args.index (pair_form c.args.union) (ap (λ k. eqb k 0) (sym c.kind_at.ensures) ∙ eq-eqb _ 0 c.if-kind_at-ne0.false)
+    (omega (arith, c.if-anchored-ge2.true, c.anchored_bit-2.ensures, c.anchored_bit.ensures))
 
 pub returns-then-has_few_incidents : goal.returns-then-has_few_incidents
 returns-then-has_few_incidents c =
-    let boundaries : List ℕ = c.args.boundaries.now in
-    let smaller : List ℕ = c.args.smaller.now in
-    let larger : List ℕ = c.args.larger.now in
-    let counts : List ℕ = c.args.counts.now in
-    let marks : List ℕ = c.args.marks.now in
-    let lo : ℕ = get_or smaller c.args.index 0 in
-    let hi : ℕ = get_or larger c.args.index 0 in
-    let union : Pair = record { lo = lo; hi = hi } in
-    let without-ramp : no_ramp_at boundaries c.args.index ≡ true = ap (λ k. eqb k 0) (sym c.kind_at.ensures) ∙ eq-eqb _ 0 c.if-kind_at-ne0.false in
-    let pair : lo ≡ 0 → ⊥ = c.if-lo-eq0.false in
-    let plain : no_ramp_at boundaries c.args.index ≡ true = without-ramp in
-    let marked : c.anchored_bit.result + c.anchored_bit-2.result ≡ marks_of marks union = ap₂ ◌+◌ c.anchored_bit.ensures c.anchored_bit-2.ensures in
-    let anchored : marks_of marks union < 2 = omega (arith, c.if-anchored-ge2.false, marked) in
-    few-incidents boundaries smaller larger counts marks c.args.count c.args.index pair plain anchored c.requires.index_within
+    let l = c.args.lists.now in
+    few-incidents l.boundaries.now l.full.now l.counts.now l.marks.now l.count c.args.index (pair_form c.args.union) (ap (λ k. eqb k 0) (sym c.kind_at.ensures) ∙ eq-eqb _ 0 c.if-kind_at-ne0.false)
+    (omega (arith, c.if-anchored-ge2.false, c.anchored_bit-2.ensures, c.anchored_bit.ensures)) c.requires.union_full c.requires.index_within
     (ltb-true _ 5 (sym c.has_few_incidents.ensures ∙ c.if-has_few_incidents.true))
 
-pub ports_fit-requires : goal.ports_fit-requires
-ports_fit-requires c =
-    let smaller : List ℕ = c.args.smaller.now in
-    let larger : List ℕ = c.args.larger.now in
-    let counts : List ℕ = c.args.counts.now in
-    let lo : ℕ = get_or smaller c.args.index 0 in
-    let hi : ℕ = get_or larger c.args.index 0 in
-    let named : (lo ≡ 0 → ⊥) → (1 ≤ lo) × ((lo < hi) × (hi ≤ c.args.regions)) = λ e. (omega arith, c.requires.lent.pairs.named c.args.index c.requires.index_within (omega arith)) in
-    let pair : lo ≡ 0 → ⊥ = c.if-lo-eq0.false in
-    let counted : ((1 ≤ lo) × (lo ≤ length counts)) × ((1 ≤ hi) × (hi ≤ length counts)) = let n = named pair in
-    ((n.0, omega (arith, n, c.requires.lent.counts_long)), (omega (arith, n), omega (arith, n, c.requires.lent.counts_long))) in
-    record {
-      few = (c.requires.lent.bounds.few, c.requires.index_within);
-      smaller_named = counted.0;
-      larger_named = counted.1;
-      incidents_listed = c.find_incidents-n.ensures;
-    }
+pub returns-then-has_three_exteriors : goal.returns-then-has_three_exteriors
+returns-then-has_three_exteriors c =
+    let l = c.args.lists.now in
+    let p = pair_form c.args.union in
+    let plain : no_ramp_at l.boundaries.now c.args.index ≡ true = ap (λ k. eqb k 0) (sym c.kind_at.ensures) ∙ eq-eqb _ 0 c.if-kind_at-ne0.false in
+    let marked : c.anchored_bit.result + c.anchored_bit-2.result ≡ marks_of l.marks.now p = ap₂ ◌+◌ c.anchored_bit.ensures c.anchored_bit-2.ensures in
+    let anchored : marks_of l.marks.now p < 2 = omega (arith, c.if-anchored-ge2.false, marked) in
+    elim c.if-ports_fit.branch [
+      | then-ports_fit w ↦
+          by_ports l.boundaries.now l.full.now l.counts.now l.marks.now l.count c.args.index p plain anchored c.ports_fit.ensures w.if-ports_fit.true w.has_three_exteriors.ensures (sym w.value-is ∙ c.if-has_three_exteriors.true)
+          (c.ports_pass.ensures ∙ ap (λ n. ports_pass l.boundaries.now l.full.now l.count c.args.index p (eqb n 1)) marked)
+      | else-ports_fit w ↦ absurd (true≢false (sym c.if-has_three_exteriors.true ∙ w.value-is ∙ w.if-ports_fit.false))
+    ]
 
-pub returns-then-not-ports_fit : goal.returns-then-not-ports_fit
-returns-then-not-ports_fit c =
-    let boundaries : List ℕ = c.args.boundaries.now in
-    let smaller : List ℕ = c.args.smaller.now in
-    let larger : List ℕ = c.args.larger.now in
-    let counts : List ℕ = c.args.counts.now in
-    let marks : List ℕ = c.args.marks.now in
-    let lo : ℕ = get_or smaller c.args.index 0 in
-    let hi : ℕ = get_or larger c.args.index 0 in
-    let union : Pair = record { lo = lo; hi = hi } in
-    let without-ramp : no_ramp_at boundaries c.args.index ≡ true = ap (λ k. eqb k 0) (sym c.kind_at.ensures) ∙ eq-eqb _ 0 c.if-kind_at-ne0.false in
-    let pair : lo ≡ 0 → ⊥ = c.if-lo-eq0.false in
-    let plain : no_ramp_at boundaries c.args.index ≡ true = without-ramp in
-    let marked : c.anchored_bit.result + c.anchored_bit-2.result ≡ marks_of marks union = ap₂ ◌+◌ c.anchored_bit.ensures c.anchored_bit-2.ensures in
-    let anchored : marks_of marks union < 2 = omega (arith, c.if-anchored-ge2.false, marked) in
-    is_unfit_lem boundaries smaller larger counts marks c.args.count c.args.index pair plain anchored c.ports_fit.ensures c.if-not-ports_fit.true-raw
-
-pub returns-then-not-has_three_exteriors : goal.returns-then-not-has_three_exteriors
-returns-then-not-has_three_exteriors c =
-    let boundaries : List ℕ = c.args.boundaries.now in
-    let smaller : List ℕ = c.args.smaller.now in
-    let larger : List ℕ = c.args.larger.now in
-    let counts : List ℕ = c.args.counts.now in
-    let marks : List ℕ = c.args.marks.now in
-    let lo : ℕ = get_or smaller c.args.index 0 in
-    let hi : ℕ = get_or larger c.args.index 0 in
-    let union : Pair = record { lo = lo; hi = hi } in
-    let without-ramp : no_ramp_at boundaries c.args.index ≡ true = ap (λ k. eqb k 0) (sym c.kind_at.ensures) ∙ eq-eqb _ 0 c.if-kind_at-ne0.false in
-    let pair : lo ≡ 0 → ⊥ = c.if-lo-eq0.false in
-    let plain : no_ramp_at boundaries c.args.index ≡ true = without-ramp in
-    let marked : c.anchored_bit.result + c.anchored_bit-2.result ≡ marks_of marks union = ap₂ ◌+◌ c.anchored_bit.ensures c.anchored_bit-2.ensures in
-    let anchored : marks_of marks union < 2 = omega (arith, c.if-anchored-ge2.false, marked) in
-    too_few boundaries smaller larger counts marks c.args.count c.args.index pair plain anchored c.ports_fit.ensures c.if-not-ports_fit.false-raw c.has_three_exteriors.ensures c.if-not-has_three_exteriors.true-raw
-
-pub ports_pass-requires : goal.ports_pass-requires
-ports_pass-requires c =
-    record {
-      boundaries_lent = c.requires.lent.bounds;
-      index_within = c.requires.index_within;
-      incidents_listed = c.find_incidents-n.ensures;
-    }
-
-pub returns : goal.returns
-returns c =
-    let boundaries : List ℕ = c.args.boundaries.now in
-    let smaller : List ℕ = c.args.smaller.now in
-    let larger : List ℕ = c.args.larger.now in
-    let counts : List ℕ = c.args.counts.now in
-    let marks : List ℕ = c.args.marks.now in
-    let lo : ℕ = get_or smaller c.args.index 0 in
-    let hi : ℕ = get_or larger c.args.index 0 in
-    let union : Pair = record { lo = lo; hi = hi } in
-    let without-ramp : no_ramp_at boundaries c.args.index ≡ true = ap (λ k. eqb k 0) (sym c.kind_at.ensures) ∙ eq-eqb _ 0 c.if-kind_at-ne0.false in
-    let pair : lo ≡ 0 → ⊥ = c.if-lo-eq0.false in
-    let plain : no_ramp_at boundaries c.args.index ≡ true = without-ramp in
-    let marked : c.anchored_bit.result + c.anchored_bit-2.result ≡ marks_of marks union = ap₂ ◌+◌ c.anchored_bit.ensures c.anchored_bit-2.ensures in
-    let anchored : marks_of marks union < 2 = omega (arith, c.if-anchored-ge2.false, marked) in
-    by_ports boundaries smaller larger counts marks c.args.count c.args.index pair plain anchored c.ports_fit.ensures c.if-not-ports_fit.false-raw c.has_three_exteriors.ensures c.if-not-has_three_exteriors.false-raw
-    (c.ports_pass.ensures ∙ ap (λ n. ports_pass boundaries smaller larger c.args.count c.args.index union (eqb n 1)) marked)
+pub returns-else-has_three_exteriors : goal.returns-else-has_three_exteriors
+returns-else-has_three_exteriors c =
+    let l = c.args.lists.now in
+    let p = pair_form c.args.union in
+    let plain : no_ramp_at l.boundaries.now c.args.index ≡ true = ap (λ k. eqb k 0) (sym c.kind_at.ensures) ∙ eq-eqb _ 0 c.if-kind_at-ne0.false in
+    let marked : c.anchored_bit.result + c.anchored_bit-2.result ≡ marks_of l.marks.now p = ap₂ ◌+◌ c.anchored_bit.ensures c.anchored_bit-2.ensures in
+    let anchored : marks_of l.marks.now p < 2 = omega (arith, c.if-anchored-ge2.false, marked) in
+    c.if-has_three_exteriors.false
+    ∙ elim c.if-ports_fit.branch [
+      | then-ports_fit w ↦ three_fail l.boundaries.now l.full.now l.counts.now l.marks.now l.count c.args.index p plain anchored c.ports_fit.ensures w.if-ports_fit.true w.has_three_exteriors.ensures (sym w.value-is ∙ c.if-has_three_exteriors.false)
+      | else-ports_fit w ↦ fit_fails l.boundaries.now l.full.now l.counts.now l.marks.now l.count c.args.index p plain anchored c.ports_fit.ensures w.if-ports_fit.false
+    ]

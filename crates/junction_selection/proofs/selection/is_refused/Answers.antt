@@ -6,8 +6,8 @@ use Rattle.junction_proposals.specs.Rows.{row_at}
 use Rattle.junction_selection.proofs.Standings.{refused}
 use Rattle.junction_selection.proofs.selection.is_refused.Goals as goal
 
-pub bounds-reserved-rows : goal.bounds-reserved-rows
-bounds-reserved-rows c =
+pub bounds-reserved-found : goal.bounds-reserved-found
+bounds-reserved-found c =
     omega (arith, c.requires.selecting.below c.args.p c.requires.places.1, c.requires.selecting.reserved_long)
 
 pub port_taken-ports-requires : goal.port_taken-ports-requires
@@ -18,11 +18,11 @@ port_taken-ports-requires c =
 pub region_taken-requires : goal.region_taken-requires
 region_taken-requires c =
     record {
-      sizes = (c.requires.selecting.whole, (c.requires.places.1, omega (arith, c.requires.places.0, c.requires.selecting.few, c.requires.selecting.room)));
-      taken_rows = c.requires.listed;
+      sizes = (omega (arith, c.requires.selecting.whole, c.requires.places.1), omega (arith, c.requires.places.0, c.requires.selecting.few, c.requires.selecting.room));
+      taken_rows = λ k l. omega (arith, c.requires.listed k l, c.requires.selecting.whole);
     }
 
 pub returns : goal.returns
 returns c chosen st =
-    refused c.args.smaller.now c.args.larger.now c.args.rows.now c.args.taken.now c.args.removed.now c.args.reserved.now c.args.count c.args.n c.args.t chosen st c.args.p c.requires.selecting.below c.requires.places.1
-    c.port_taken-ports.ensures (λ i. get_or c.args.reserved.now (row_at c.args.rows.now c.args.p).index false) c.region_taken.ensures
+    refused c.args.found.now.full.now c.args.found.now.rows.now c.args.taken.now c.args.removed.now c.args.reserved.now c.args.found.now.count c.args.found.now.n c.args.t chosen st c.args.p c.requires.selecting.below c.requires.places.1
+    c.port_taken-ports.ensures (λ i. get_or c.args.reserved.now (row_at c.args.found.now.rows.now c.args.p).index false) c.region_taken.ensures

@@ -1,4 +1,4 @@
--- `junction_selection::selection::reserve_ports` meets its contract. The loop's invariant: the ports below j are marked. The measure is how many boundaries are left.
+-- `junction_selection::selection::reserve_ports` meets its contract. The loop's invariant: the ports below j are marked.
 -- Assumes nothing.
 use native.Mathlib.Omega.{arith}
 use Rattle.junction_selection.proofs.Standings.{marked_start, marked_more}

@@ -1,6 +1,6 @@
--- `junction_selection::selection::reserve_ports` meets its contract. The loop's invariant: the ports below j are marked. The measure is how many boundaries are left.
+-- `junction_selection::selection::reserve_ports` meets its contract. The loop's invariant: the ports below j are marked.
 -- Assumes nothing.
-use Prim.Native.Nat.{◌-◌, ◌≤◌}
+use Prim.Native.Nat.{◌≤◌}
 use Rattle.junction_proposals.specs.Rows.{row_at}
 use Rattle.junction_selection.specs.Ranks.{reserves_at}
 use Rattle.junction_selection.proofs.Standings.{Marked}
@@ -8,8 +8,4 @@ use Rattle.junction_selection.proofs.selection.reserve_ports.Given as goal
 
 abbrev pub invariant-loop-j : goal.invariant-loop-j
 invariant-loop-j l =
-    (l.j ≤ l.count) × Marked l.initial.reserved l.reserved (reserves_at l.smaller l.larger (row_at l.rows l.p)) l.j
-
-abbrev pub decreases-loop-j : goal.decreases-loop-j
-decreases-loop-j l =
-    l.count - l.j
+    (l.j ≤ l.found.count) × Marked l.initial.reserved l.reserved (reserves_at l.found.full.now (row_at l.found.rows.now l.p)) l.j

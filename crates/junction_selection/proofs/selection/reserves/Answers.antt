@@ -10,4 +10,4 @@ pub returns : goal.returns
 unfolding reserves_at names
 returns c =
     λ t. (c.names_region-first.ensures t || c.is_union-union.ensures t && c.names_region-second.ensures t)
-    && not (c.is_union-union.ensures t && eqb c.args.j (row_at c.args.rows.now c.args.p).index)
+    && not (c.is_union-union.ensures t && eqb c.args.j (row_at c.args.found.now.rows.now c.args.p).index)

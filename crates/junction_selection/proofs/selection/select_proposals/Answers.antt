@@ -24,4 +24,4 @@ select_ranked-requires c =
 pub returns : goal.returns
 unfolding removed_at selected_of
 returns c j l =
-    c.select_ranked.ensures j l ∙ ap (λ m. any (λ q. eqb j q.index) (select (conflict_at c.args.smaller.now c.args.larger.now c.args.count) [] m)) c.rank_proposals-m.ensures.order
+    c.select_ranked.ensures j l ∙ ap (λ m. any (λ q. eqb j q.index) (select (conflict_at c.args.found.now.full.now c.args.found.now.count) [] m)) c.rank_proposals-m.ensures.order

@@ -1,5 +1,4 @@
--- `junction_selection::selection::select_ranked` meets its contract. The loop's invariant: the state stands for what is selected of the first k. The measure is how many are
--- left. Assumes nothing.
+-- `junction_selection::selection::select_ranked` meets its contract. The loop's invariant: the state stands for what is selected of the first k.  Assumes nothing.
 use native.Mathlib.Nat.{le_antisymm}
 use native.Mathlib.Omega.{arith}
 use mathlib.Core.Path.{refl, sym, ap, ◌∙◌}
@@ -12,7 +11,7 @@ use Rattle.junction_selection.proofs.selection.select_ranked.Goals as goal
 
 pub loop-k-init : goal.loop-k-init
 loop-k-init c =
-    (omega arith, (omega arith, (refl, (refl, (refl, standing-start _ _ _ _ c.args.order.now _ _ _ _ c.requires.removed_clear c.requires.reserved_clear)))))
+    (omega arith, (omega arith, (refl, (refl, (refl, standing-start _ _ _ c.args.order.now _ _ _ _ c.requires.removed_clear c.requires.reserved_clear)))))
 
 pub bounds-order-k : goal.bounds-order-k
 bounds-order-k c =
@@ -40,7 +39,7 @@ loop-k-preserved c =
             (
               a.auto.taken ∙ i.1.1.1.1.0,
               standing_as (a.ensures.standing _ i.1.1.1.1.1)
-                  (sym (selected_next c.args.smaller.now c.args.larger.now c.args.rows.now c.args.order.now c.args.count c.loop-k.k)),
+                  (sym (selected_next c.args.found.now.full.now c.args.found.now.rows.now c.args.order.now c.args.found.now.count c.loop-k.k)),
             ),
           ),
         ),
@@ -59,4 +58,4 @@ shape_of-taken c = c.loop-k.invariant.1.1.1.1.0
 pub returns : goal.returns
 returns c j h =
     c.loop-k.invariant.1.1.1.1.1.removed_at_lem j h
-    ∙ ap (λ k. any (λ q. eqb j q.index) (selected_of c.args.smaller.now c.args.larger.now c.args.rows.now c.args.order.now c.args.count k)) (le_antisymm c.loop-k.invariant.0 c.loop-k-test.false)
+    ∙ ap (λ k. any (λ q. eqb j q.index) (selected_of c.args.found.now.full.now c.args.found.now.rows.now c.args.order.now c.args.found.now.count k)) (le_antisymm c.loop-k.invariant.0 c.loop-k-test.false)

@@ -15,12 +15,12 @@ is_refused-requires c =
 pub returns-then-is_refused : goal.returns-then-is_refused
 returns-then-is_refused c =
     record {
-      standing = λ chosen st. standing-kept c.args.smaller.now c.args.larger.now c.args.rows.now c.args.taken.now c.args.removed.now c.args.reserved.now c.args.count c.args.n c.args.t chosen st c.args.p (c.is_refused.ensures chosen st) c.if-is_refused.true;
+      standing = λ chosen st. standing-kept c.args.found.now.full.now c.args.found.now.rows.now c.args.taken.now c.args.removed.now c.args.reserved.now c.args.found.now.count c.args.found.now.n c.args.t chosen st c.args.p (c.is_refused.ensures chosen st) c.if-is_refused.true;
       bound = omega arith;
     }
 
-pub bounds-removed-rows : goal.bounds-removed-rows
-bounds-removed-rows c =
+pub bounds-removed-found : goal.bounds-removed-found
+bounds-removed-found c =
     omega (arith, c.requires.selecting.below c.args.p c.requires.places.1, c.requires.selecting.removed-long)
 
 pub reserve_ports-requires : goal.reserve_ports-requires
@@ -39,7 +39,7 @@ pub returns : goal.returns
 returns c =
     record {
       standing = λ chosen st.
-          standing-taken c.args.smaller.now c.args.larger.now c.args.rows.now c.args.taken.now c.args.removed.now c.args.reserved.now c.args.count c.args.n c.args.t chosen st c.args.p _ _ (c.is_refused.ensures chosen st) c.if-is_refused.false (omega (arith, c.requires.selecting.few, c.requires.selecting.room, c.requires.places)) c.requires.places.1 refl
+          standing-taken c.args.found.now.full.now c.args.found.now.rows.now c.args.taken.now c.args.removed.now c.args.reserved.now c.args.found.now.count c.args.found.now.n c.args.t chosen st c.args.p _ _ (c.is_refused.ensures chosen st) c.if-is_refused.false (omega (arith, c.requires.selecting.few, c.requires.selecting.room, c.requires.places)) c.requires.places.1 refl
           (omega (arith, c.requires.selecting.below c.args.p c.requires.places.1, c.requires.selecting.removed-long)) c.reserve_ports.ensures;
       bound = omega arith;
     }

@@ -9,19 +9,6 @@ use Rattle.mouth_proposals.specs.Candidates.{approach_of}
 use Rattle.mouth_proposals.proofs.ApproachLaws.{full-pairs, all_of_one}
 use Rattle.mouth_proposals.proofs.approaches.approach_of.Goals as goal
 
-pub returns-in_err-q : goal.returns-in_err-q
-returns-in_err-q c =
-    let s = c.args in
-    λ C T P l k. c.from_residual.ensures ∙ ap (λ o. approach_of o (mouth_shape true (C.pairs s.m))) (sym (ap full_pair_of c.in_err-q.was) ∙ c.full_pair.ensures C T P k)
-
-pub returns-in_err-s : goal.returns-in_err-s
-returns-in_err-s c =
-    let s = c.args in
-    λ C T P l k.
-    let pair = sym (ap full_pair_of c.in_ok-q.was) ∙ c.full_pair.ensures C T P k in
-    let shape = sym (ap (shape_form (rows_of s.pairs.now s.starts.now s.m)) c.in_err-s.was) ∙ c.star.ensures ∙ sym (ap (mouth_shape true) (P.at s.m l)) in
-    c.from_residual-in_err-s.ensures ∙ (λ i. approach_of (pair i) (shape i))
-
 pub returns : goal.returns
 returns c =
     let s = c.args in
@@ -29,5 +16,5 @@ returns c =
     let e = sym (ap full_pair_of c.in_ok-q.was) ∙ c.full_pair.ensures C T P k in
     c.approach_from.ensures C P l (all_of_one (full-pairs C s.a _ e) (P.named s.a k)).1.0
     (ap (λ r. shape_form r (Some c.in_ok-s.s)) (P.at s.m l)
-    ∙ sym (ap (shape_form (rows_of s.pairs.now s.starts.now s.m)) c.in_ok-s.was) ∙ c.star.ensures ∙ sym (ap (mouth_shape true) (P.at s.m l)))
+    ∙ sym (ap (shape_form (rows_of s.context.pairs.now s.context.starts.now s.m)) c.in_ok-s.was) ∙ c.star.ensures ∙ sym (ap (mouth_shape true) (P.at s.m l)))
     ∙ ap (λ o. approach_of o (mouth_shape true (C.pairs s.m))) e

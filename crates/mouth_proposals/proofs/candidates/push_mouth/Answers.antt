@@ -6,29 +6,16 @@ use lib.Ieee.{binary64, lt, to_bits}
 use Rattle.definitions.specs.RampMouths.{max_mouth_distance}
 use Rattle.mouth_proposals.specs.Candidates.{candidate_form}
 use Rattle.mouth_proposals.specs.Listed.{candidate}
-use Rattle.mouth_proposals.proofs.SafeLists.{below, placed_at}
+use Rattle.mouth_proposals.proofs.SafeLists.{below}
 use Rattle.mouth_proposals.proofs.OuterWithin.{outer-inside}
 use Rattle.mouth_proposals.proofs.CandidateLaws.{separation-number, roomy-put, none_found, far-found, near-found, filled_none, filled_more}
 use Rattle.mouth_proposals.proofs.candidates.push_mouth.Goals as goal
 
-pub separation_of-separation-requires : goal.separation_of-separation-requires
-separation_of-separation-requires c =
-    (placed_at c.requires.shown c.requires.places.1.0, placed_at c.requires.shown c.requires.places.1.1)
-
 pub bits_of-requires : goal.bits_of-requires
 bits_of-requires c =
     let L = c.requires.shown in
-    separation-number L.context c.args.m c.args.a
+    separation-number L.context c.args.m c.args.ramp.boundary
     (c.separation_of-separation.ensures L.context L.shows.bounds (below L.shows.counted c.requires.places.1.0) (below L.shows.counted c.requires.places.1.1))
-
-pub of-requires : goal.of-requires
-of-requires c =
-    let L = c.requires.shown in
-    (omega (arith, c.requires.places.1.0, L.shows.counted, L.shows.bounds.few), omega (arith, c.requires.places.1.1, L.shows.counted, L.shows.bounds.few))
-
-pub overflow_add-result : goal.overflow_add-result
-overflow_add-result c =
-    omega (arith, c.requires.places.0)
 
 pub returns-in-None : goal.returns-in-None
 returns-in-None c =
@@ -36,7 +23,7 @@ returns-in-None c =
       bound = (omega arith, omega arith);
       still_roomy = c.requires.roomy;
       filled = λ C l S T ramp cut E F.
-          filled_none F (none_found C c.args.a c.args.m (sym (ap (candidate_form C c.args.m c.args.a) c.in-None.is) ∙ c.mouth_candidate.ensures C S T ramp cut E));
+          filled_none F (none_found C c.args.ramp.boundary c.args.m (sym (ap (candidate_form C c.args.m c.args.ramp.boundary) c.in-None.is) ∙ c.mouth_candidate.ensures C S T ramp cut E));
     }
 
 pub returns-then-is_close : goal.returns-then-is_close
@@ -47,10 +34,10 @@ returns-then-is_close c =
       filled = λ C l S T ramp cut E F.
           let lm = below S.counted c.requires.places.1.0 in
           let la = below S.counted c.requires.places.1.1 in
-          let e = sym (ap (candidate_form C c.args.m c.args.a) c.in-Some.is) ∙ c.mouth_candidate.ensures C S T ramp cut E in
+          let e = sym (ap (candidate_form C c.args.m c.args.ramp.boundary) c.in-Some.is) ∙ c.mouth_candidate.ensures C S T ramp cut E in
           let d = c.separation_of-separation.ensures C S.bounds lm la in
-          rw c.of.ensures (filled_more C (candidate c.args.m c.args.a c.in-Some.found.outer c.in-Some.found.kind c.bits_of.result) F c.requires.roomy c.requires.places.0 lm la (outer-inside C c.args.a c.args.m (S.rows.named c.args.m lm) _ _ e)
-          (c.bits_of.ensures ∙ ap (to_bits binary64) d) (near-found C c.args.a c.args.m _ _ e (sym (ap (λ x. not (lt max_mouth_distance x)) d) ∙ sym c.is_close.ensures ∙ c.if-is_close.true)));
+          rw c.of.ensures (filled_more C (candidate c.args.m c.args.ramp.boundary c.in-Some.found.outer c.in-Some.found.kind c.bits_of.result) F c.requires.roomy c.requires.places.0 lm la (outer-inside C c.args.ramp.boundary c.args.m (S.rows.named c.args.m lm) _ _ e)
+          (c.bits_of.ensures ∙ ap (to_bits binary64) d) (near-found C c.args.ramp.boundary c.args.m _ _ e (sym (ap (λ x. not (lt max_mouth_distance x)) d) ∙ sym c.is_close.ensures ∙ c.if-is_close.true)));
     }
 
 pub returns-else-is_close : goal.returns-else-is_close
@@ -61,6 +48,6 @@ returns-else-is_close c =
       filled = λ C l S T ramp cut E F.
           let lm = below S.counted c.requires.places.1.0 in
           let la = below S.counted c.requires.places.1.1 in
-          let e = sym (ap (candidate_form C c.args.m c.args.a) c.in-Some.is) ∙ c.mouth_candidate.ensures C S T ramp cut E in
-          filled_none F (far-found C c.args.a c.args.m _ _ e (sym (ap (λ x. not (lt max_mouth_distance x)) (c.separation_of-separation.ensures C S.bounds lm la)) ∙ sym c.is_close.ensures ∙ c.if-is_close.false));
+          let e = sym (ap (candidate_form C c.args.m c.args.ramp.boundary) c.in-Some.is) ∙ c.mouth_candidate.ensures C S T ramp cut E in
+          filled_none F (far-found C c.args.ramp.boundary c.args.m _ _ e (sym (ap (λ x. not (lt max_mouth_distance x)) (c.separation_of-separation.ensures C S.bounds lm la)) ∙ sym c.is_close.ensures ∙ c.if-is_close.false));
     }

@@ -11,16 +11,7 @@ use Rattle.mouth_proposals.proofs.candidates.push_mouths.Goals as goal
 
 pub loop-m-init : goal.loop-m-init
 loop-m-init c =
-    (search rules, (omega arith, (c.requires.roomy, λ C S T ramp cut E. filled-start (mouth_candidate C c.args.a))))
-
-pub push_mouth-n-requires : goal.push_mouth-n-requires
-push_mouth-n-requires c =
-    let at = c.loop-m in
-    record {
-      shown = c.requires.shown;
-      roomy = at.invariant.1.1.0;
-      places = (omega (arith, at.invariant.1.0, c.loop-m-test.true, c.requires.shown.shows.bounds.few, c.requires.shown.shows.counted), (c.loop-m-test.true, c.requires.place));
-    }
+    (search rules, (omega arith, (c.requires.roomy, λ C S T ramp cut E. filled-start (mouth_candidate C c.args.ramp.boundary))))
 
 pub loop-m-preserved : goal.loop-m-preserved
 loop-m-preserved c =
@@ -30,7 +21,7 @@ loop-m-preserved c =
         omega (arith, c.push_mouth-n.ensures.bound.1, at.invariant.1.0),
         (
           c.push_mouth-n.ensures.still_roomy,
-          λ C S T ramp cut E. filled_as (c.push_mouth-n.ensures.filled C (collect at.m (mouth_candidate C c.args.a)) S T ramp cut E (at.invariant.1.1.1 C S T ramp cut E)) (sym (collect_next (mouth_candidate C c.args.a) at.m)),
+          λ C S T ramp cut E. filled_as (c.push_mouth-n.ensures.filled C (collect at.m (mouth_candidate C c.args.ramp.boundary)) S T ramp cut E (at.invariant.1.1.1 C S T ramp cut E)) (sym (collect_next (mouth_candidate C c.args.ramp.boundary) at.m)),
         ),
       ),
     )
@@ -41,5 +32,5 @@ returns c =
     let same = le_antisymm at.invariant.0 c.loop-m-test.false in record {
       bound = omega (arith, at.invariant.1.0, at.invariant.0, c.requires.shown.shows.bounds.few, c.requires.shown.shows.counted);
       still_roomy = at.invariant.1.1.0;
-      filled = λ C S T ramp cut E. filled_as (at.invariant.1.1.1 C S T ramp cut E) (ap (λ m. collect m (mouth_candidate C c.args.a)) same);
+      filled = λ C S T ramp cut E. filled_as (at.invariant.1.1.1 C S T ramp cut E) (ap (λ m. collect m (mouth_candidate C c.args.ramp.boundary)) same);
     }

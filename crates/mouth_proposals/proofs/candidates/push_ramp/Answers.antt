@@ -2,7 +2,7 @@
 use native.Mathlib.Omega.{arith}
 use mathlib.Core.Path.{sym, ap, ◌∙◌}
 use lib.Dec.{eqb}
-use borrow.Author.Tests.{eq-eqb, ne_eqb, not-true, not-false}
+use borrow.Author.Tests.{eq-eqb, ne_eqb}
 use Rattle.mouth_proposals.specs.Candidates.{mouth_candidate}
 use Rattle.mouth_proposals.proofs.SafeLists.{below, stretch_at, tallies_at, rows-counted, kind-shown}
 use Rattle.mouth_proposals.proofs.CandidateRoom.{filled-empty, no_ramp_none, no_cut_none}
@@ -13,19 +13,15 @@ returns-then-kind_at-eq0 c =
     record {
       bound = omega arith;
       still_roomy = c.requires.roomy;
-      filled = λ C S T. filled-empty (mouth_candidate C c.args.a) c.args.count (λ m. no_ramp_none C c.args.a m (kind-shown S.bounds c.args.a (below S.counted c.requires.place) ∙ ap (λ k. eqb k 0) (sym c.kind_at.ensures) ∙ eq-eqb _ 0 c.if-kind_at-eq0.true));
+      filled = λ C S T. filled-empty (mouth_candidate C c.args.a) c.args.context.count (λ m. no_ramp_none C c.args.a m (kind-shown S.bounds c.args.a (below S.counted c.requires.place) ∙ ap (λ k. eqb k 0) (sym c.kind_at.ensures) ∙ eq-eqb _ 0 c.if-kind_at-eq0.true));
     }
-
-pub full_cut-requires : goal.full_cut-requires
-full_cut-requires c =
-    tallies_at c.requires.shown c.requires.place
 
 pub returns-then-not-full_cut : goal.returns-then-not-full_cut
 returns-then-not-full_cut c =
     record {
       bound = omega arith;
       still_roomy = c.requires.roomy;
-      filled = λ C S T. filled-empty (mouth_candidate C c.args.a) c.args.count (λ m. no_cut_none C c.args.a m (sym (c.full_cut.ensures C T (below S.counted c.requires.place)) ∙ not-true _ c.if-not-full_cut.true-raw));
+      filled = λ C S T. filled-empty (mouth_candidate C c.args.a) c.args.context.count (λ m. no_cut_none C c.args.a m (sym (c.full_cut.ensures C T (below S.counted c.requires.place)) ∙ c.if-not-full_cut.true));
     }
 
 pub find_other_ends-ends-requires : goal.find_other_ends-ends-requires
@@ -36,14 +32,6 @@ find_other_ends-ends-requires c =
       stretches = λ i l. stretch_at c.requires.shown l;
     }
 
-pub push_mouths-requires : goal.push_mouths-requires
-push_mouths-requires c =
-    record {
-      shown = c.requires.shown;
-      roomy = c.requires.roomy;
-      place = c.requires.place;
-    }
-
 pub returns : goal.returns
 returns c =
     record {
@@ -51,5 +39,5 @@ returns c =
       still_roomy = c.push_mouths.ensures.still_roomy;
       filled = λ C S T.
           let la = below S.counted c.requires.place in
-          c.push_mouths.ensures.filled C S T (kind-shown S.bounds c.args.a la ∙ ap (λ k. eqb k 0) (sym c.kind_at.ensures) ∙ ne_eqb _ 0 c.if-kind_at-eq0.false) (sym (c.full_cut.ensures C T la) ∙ not-false _ c.if-not-full_cut.false-raw) (c.find_other_ends-ends.ensures C S.counted S.bounds T S.rows);
+          c.push_mouths.ensures.filled C S T (kind-shown S.bounds c.args.a la ∙ ap (λ k. eqb k 0) (sym c.kind_at.ensures) ∙ ne_eqb _ 0 c.if-kind_at-eq0.false) (sym (c.full_cut.ensures C T la) ∙ c.if-not-full_cut.false) (c.find_other_ends-ends.ensures C S.counted S.bounds T S.rows);
     }

@@ -1,47 +1,27 @@
 -- `mouths::approach_mouth` meets its contract, by the approach. Assumes nothing.
 use mathlib.Core.Path.{sym, ap, ◌∙◌, subst}
 use Rattle.std.specs.Prelude.{Some}
-use lib.ListN.{length}
 use Rattle.mouth_proposals.specs.Candidates.{Within, candidate_form, approach_mouth}
 use Rattle.mouth_proposals.specs.Ends.{EndKnown}
 use Rattle.mouth_proposals.proofs.mouths.approach_mouth.Goals as goal
 
-pub single_mouth-requires : goal.single_mouth-requires
-single_mouth-requires c =
-    let k = c.in_ok-outer.was ∙ ap Some c.in-Single.is in
-    let n = subst (Within (length c.args.counts.now)) k c.requires.approach_within.0 in
-    let t = subst (Within (length c.args.marks.now)) k c.requires.approach_within.1 in
-    record {
-      outer_named = t.0;
-      r_named = (t.1.0, (t.1.1, n.1.1));
-    }
-
-pub star_mouth-requires : goal.star_mouth-requires
-star_mouth-requires c =
-    let n = subst (Within (length c.args.counts.now)) (c.in_ok-outer.was ∙ ap Some c.in-Star.is) c.requires.approach_within.0 in
-    record {
-      stretch = c.requires.stretch;
-      named_rows = c.requires.named_rows;
-      r_named = n.1;
-    }
-
-pub returns-in_err-outer : goal.returns-in_err-outer
+pub returns-in_err-sides : goal.returns-in_err-sides
 unfolding approach_mouth
-returns-in_err-outer c =
+returns-in_err-sides c =
     let s = c.args in
-    λ C a P I A l n e w o. ap (candidate_form C s.m a) c.from_residual.ensures ∙ ap (approach_mouth C s.m a) (sym c.in_err-outer.was)
+    λ C a P I A l n e M. ap (candidate_form C s.m a) c.from_residual.ensures ∙ ap (approach_mouth C s.m a) (sym c.in_err-sides.was)
 
 pub returns-in-Single : goal.returns-in-Single
 returns-in-Single c =
     let s = c.args in
-    let k = c.in_ok-outer.was ∙ ap Some c.in-Single.is in
-    λ C a P I A l n e w o.
+    let k = c.in_ok-sides.was ∙ ap Some c.in-Single.is in
+    λ C a P I A l n e M.
     let h = subst (Within C.regions) k n in
-    c.single_mouth.ensures C s.m a I A (h.0.1, h.1.1) (c.other_end_at-blocked.ensures ∙ subst (EndKnown C a s.ends) k e) w o ∙ ap (approach_mouth C s.m a) (sym k)
+    c.single_mouth.ensures C s.m a I A (h.0.1, h.1.1) (c.other_end_at-blocked.ensures ∙ subst (EndKnown C a s.ends) k e) M ∙ ap (approach_mouth C s.m a) (sym k)
 
 pub returns-in-Star : goal.returns-in-Star
 returns-in-Star c =
     let s = c.args in
-    let k = c.in_ok-outer.was ∙ ap Some c.in-Star.is in
-    λ C a P I A l n e w o.
-    c.star_mouth.ensures C a P I A l (subst (Within C.regions) k n).1.1 (c.other_end_at-blocked-in-Star.ensures ∙ subst (EndKnown C a s.ends) k e) w o ∙ ap (approach_mouth C s.m a) (sym k)
+    let k = c.in_ok-sides.was ∙ ap Some c.in-Star.is in
+    λ C a P I A l n e M.
+    c.star_mouth.ensures C a P I A l (subst (Within C.regions) k n).1.1 (c.other_end_at-blocked-in-Star.ensures ∙ subst (EndKnown C a s.ends) k e) M ∙ ap (approach_mouth C s.m a) (sym k)

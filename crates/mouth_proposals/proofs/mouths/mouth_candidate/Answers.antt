@@ -2,13 +2,13 @@
 use mathlib.Core.Path.{◌≡◌, refl, sym, ap, ◌∙◌}
 use mathlib.Core.Bool.{true, false, not, false≢true}
 use lib.Dec.{eqb}
-use borrow.Author.Tests.{eq-eqb, ne_eqb, not-true, not-false}
+use borrow.Author.Tests.{eq-eqb, ne_eqb, not-true}
 use Rattle.std.specs.Prelude.{Option, None, Some, is_some}
 use Rattle.definitions.specs.MouthShapes.{mouth_shape}
 use Rattle.definitions.specs.Context.{full_pair}
 use Rattle.laws.specs.ListLaws.Tests.{both}
-use Rattle.mouth_proposals.proofs.FoundMouths.{triangle_two, has_ramp_lem, not_full, no_shape, too_far, by_triangle, by_approach}
-use Rattle.mouth_proposals.proofs.SafeLists.{below, placed_at, stretch_at, tallies_at, named-both, kind-shown, triangle-shown, overlay_only_lem, named_in, approach_named}
+use Rattle.mouth_proposals.proofs.FoundMouths.{triangle_two, has_ramp_lem, not_full, tried, no_shape, too_far, by_triangle, by_approach}
+use Rattle.mouth_proposals.proofs.SafeLists.{below, stretch_at, tallies_at, named-both, kind-shown, named_in, approach_named}
 use Rattle.mouth_proposals.proofs.KnownEnds.{approach_known}
 use Rattle.context.proofs.FullPairs.{between-length}
 use Rattle.mouth_proposals.proofs.mouths.mouth_candidate.Goals as goal
@@ -20,24 +20,13 @@ none_of (Some x) e = absurd (false≢true (sym e))
 pub returns-then-kind_at-ne0 : goal.returns-then-kind_at-ne0
 returns-then-kind_at-ne0 c =
     λ C S T ramp cut E.
-    let m = c.args.m in
-    let a = c.args.a in
-    let lm = below S.counted c.requires.places.0 in
-    let la = below S.counted c.requires.places.1 in
-    has_ramp_lem C a m ramp cut (kind-shown S.bounds m lm ∙ ap (λ k. eqb k 0) (sym c.kind_at.ensures) ∙ ne_eqb _ 0 c.if-kind_at-ne0.true)
-
-pub full_cut-requires : goal.full_cut-requires
-full_cut-requires c =
-    tallies_at c.requires.shown c.requires.places.0
+    has_ramp_lem C c.args.ramp.boundary c.args.m ramp cut (kind-shown S.bounds c.args.m (below S.counted c.requires.places.0) ∙ ap (λ k. eqb k 0) (sym c.kind_at.ensures) ∙ ne_eqb _ 0 c.if-kind_at-ne0.true)
 
 pub returns-then-not-full_cut : goal.returns-then-not-full_cut
 returns-then-not-full_cut c =
     λ C S T ramp cut E.
-    let m = c.args.m in
-    let a = c.args.a in
     let lm = below S.counted c.requires.places.0 in
-    let la = below S.counted c.requires.places.1 in
-    not_full C a m ramp cut (kind-shown S.bounds m lm ∙ ap (λ k. eqb k 0) (sym c.kind_at.ensures) ∙ eq-eqb _ 0 c.if-kind_at-ne0.false) (sym (c.full_cut.ensures C T lm) ∙ not-true _ c.if-not-full_cut.true-raw)
+    not_full C c.args.ramp.boundary c.args.m ramp cut (kind-shown S.bounds c.args.m lm ∙ ap (λ k. eqb k 0) (sym c.kind_at.ensures) ∙ eq-eqb _ 0 c.if-kind_at-ne0.false) (sym (c.full_cut.ensures C T lm) ∙ c.if-not-full_cut.true)
 
 pub triangle_representative-triangle-requires : goal.triangle_representative-triangle-requires
 triangle_representative-triangle-requires c =
@@ -53,83 +42,53 @@ approach_of-approach-requires c =
 pub returns-then-triangle-is_none : goal.returns-then-triangle-is_none
 returns-then-triangle-is_none c =
     λ C S T ramp cut E.
-    let m = c.args.m in
-    let a = c.args.a in
     let lm = below S.counted c.requires.places.0 in
     let la = below S.counted c.requires.places.1 in
     let h = both (not c.triangle_representative-triangle.result) c.is_none.result c.if-triangle-is_none.true in
-    no_shape C a m ramp cut (kind-shown S.bounds m lm ∙ ap (λ k. eqb k 0) (sym c.kind_at.ensures) ∙ eq-eqb _ 0 c.if-kind_at-ne0.false) (sym (c.full_cut.ensures C T lm) ∙ not-false _ c.if-not-full_cut.false-raw) (S.rows.named m lm) c.triangle_representative-triangle.result
-    (triangle-shown S.rows m a lm la c.triangle_representative-triangle.result c.triangle_representative-triangle.ensures) c.approach_of-approach.result (c.approach_of-approach.ensures C T S.rows lm la) (not-true _ h.0) (none_of _ (c.is_none.ensures ∙ ap not h.1))
+    no_shape (tried S lm la ramp cut c.kind_at.ensures c.if-kind_at-ne0.false (sym (c.full_cut.ensures C T lm) ∙ c.if-not-full_cut.false) c.triangle_representative-triangle.ensures (c.approach_of-approach.ensures C T S.rows lm la)) (not-true _ h.0) (none_of _ (c.is_none.ensures ∙ ap not h.1))
 
-pub broad_mouth-wide-requires : goal.broad_mouth-wide-requires
-broad_mouth-wide-requires c =
-    (placed_at c.requires.shown c.requires.places.0, placed_at c.requires.shown c.requires.places.1)
-
-pub nearby_representative-nearby-requires : goal.nearby_representative-nearby-requires
-nearby_representative-nearby-requires c =
-    (placed_at c.requires.shown c.requires.places.0, placed_at c.requires.shown c.requires.places.1)
-
-pub overlay_representative-overlay-requires : goal.overlay_representative-overlay-requires
-overlay_representative-overlay-requires c =
-    (placed_at c.requires.shown c.requires.places.0, placed_at c.requires.shown c.requires.places.1)
-
-pub returns-then-not-wide-nearby : goal.returns-then-not-wide-nearby
-returns-then-not-wide-nearby c =
+pub returns-then-not-any : goal.returns-then-not-any
+returns-then-not-any c =
     λ C S T ramp cut E.
-    let m = c.args.m in
-    let a = c.args.a in
     let lm = below S.counted c.requires.places.0 in
     let la = below S.counted c.requires.places.1 in
-    too_far C a m ramp cut (kind-shown S.bounds m lm ∙ ap (λ k. eqb k 0) (sym c.kind_at.ensures) ∙ eq-eqb _ 0 c.if-kind_at-ne0.false) (sym (c.full_cut.ensures C T lm) ∙ not-false _ c.if-not-full_cut.false-raw) (S.rows.named m lm) c.triangle_representative-triangle.result
-    (triangle-shown S.rows m a lm la c.triangle_representative-triangle.result c.triangle_representative-triangle.ensures) c.approach_of-approach.result (c.approach_of-approach.ensures C T S.rows lm la)
-    c.broad_mouth-wide.result c.nearby_representative-nearby.result c.overlay_representative-overlay.result
-    (sym (c.broad_mouth-wide.ensures C S.bounds lm la)) (sym (c.nearby_representative-nearby.ensures C S.bounds lm la)) (sym (c.overlay_representative-overlay.ensures C S.bounds lm la)) (not-true _ c.if-not-wide-nearby.true-raw)
+    too_far (tried S lm la ramp cut c.kind_at.ensures c.if-kind_at-ne0.false (sym (c.full_cut.ensures C T lm) ∙ c.if-not-full_cut.false) c.triangle_representative-triangle.ensures (c.approach_of-approach.ensures C T S.rows lm la)) (c.of-measures.ensures C S.bounds lm la) (sym c.any.ensures ∙ c.if-not-any.true)
 
 pub triangle_mouth-requires : goal.triangle_mouth-requires
 triangle_mouth-requires c =
-    let h = both c.nearby_representative-nearby.result c.triangle_representative-triangle.result c.if-nearby-triangle.true in record {
+    let h = both c.of-measures.result.nearby c.triangle_representative-triangle.result c.if-measures-triangle.true in record {
       places = (
         (stretch_at c.requires.shown c.requires.places.0).within,
-        sym (between-length c.args.pairs.now _ _)
+        sym (between-length c.args.context.pairs.now _ _)
             ∙ triangle_two _ _ _ _ c.triangle_representative-triangle.ensures h.1,
       );
       named_rows = λ k l u. (named-both c.requires.shown c.requires.places.0 k l u).1;
     }
 
-pub returns-then-nearby-triangle : goal.returns-then-nearby-triangle
-returns-then-nearby-triangle c =
+pub returns-then-measures-triangle : goal.returns-then-measures-triangle
+returns-then-measures-triangle c =
     λ C S T ramp cut E.
-    let m = c.args.m in
-    let a = c.args.a in
     let lm = below S.counted c.requires.places.0 in
     let la = below S.counted c.requires.places.1 in
-    c.triangle_mouth.ensures C a S.rows S.anchored lm
-    ∙ by_triangle C a m ramp cut (kind-shown S.bounds m lm ∙ ap (λ k. eqb k 0) (sym c.kind_at.ensures) ∙ eq-eqb _ 0 c.if-kind_at-ne0.false) (sym (c.full_cut.ensures C T lm) ∙ not-false _ c.if-not-full_cut.false-raw) (S.rows.named m lm) c.triangle_representative-triangle.result
-    (triangle-shown S.rows m a lm la c.triangle_representative-triangle.result c.triangle_representative-triangle.ensures) c.approach_of-approach.result (c.approach_of-approach.ensures C T S.rows lm la)
-    c.broad_mouth-wide.result c.nearby_representative-nearby.result c.overlay_representative-overlay.result
-    (sym (c.broad_mouth-wide.ensures C S.bounds lm la)) (sym (c.nearby_representative-nearby.ensures C S.bounds lm la)) (sym (c.overlay_representative-overlay.ensures C S.bounds lm la)) c.if-nearby-triangle.true
+    c.triangle_mouth.ensures C c.args.ramp.boundary S.rows S.anchored lm
+    ∙ by_triangle (tried S lm la ramp cut c.kind_at.ensures c.if-kind_at-ne0.false (sym (c.full_cut.ensures C T lm) ∙ c.if-not-full_cut.false) c.triangle_representative-triangle.ensures (c.approach_of-approach.ensures C T S.rows lm la)) (c.of-measures.ensures C S.bounds lm la) c.if-measures-triangle.true
 
 pub approach_mouth-requires : goal.approach_mouth-requires
 approach_mouth-requires c =
     record {
       stretch = stretch_at c.requires.shown c.requires.places.0;
       named_rows = named-both c.requires.shown c.requires.places.0;
-      approach_within = named_in c.requires.shown c.requires.places.0 (full_pair c.requires.shown.context c.args.a)
+      approach_within = named_in c.requires.shown c.requires.places.0 (full_pair c.requires.shown.context c.args.ramp.boundary)
           (c.approach_of-approach.ensures c.requires.shown.context c.requires.shown.cuts c.requires.shown.shows.rows (below c.requires.shown.shows.counted c.requires.places.0) (below c.requires.shown.shows.counted c.requires.places.1));
     }
 
 pub returns : goal.returns
 returns c =
     λ C S T ramp cut E.
-    let m = c.args.m in
-    let a = c.args.a in
     let lm = below S.counted c.requires.places.0 in
     let la = below S.counted c.requires.places.1 in
+    let a = c.args.ramp.boundary in
+    let M = c.of-measures.ensures C S.bounds lm la in
     let k = c.approach_of-approach.ensures C T S.rows lm la in
-    c.approach_mouth.ensures C a S.rows S.incidents S.anchored lm (approach_named S.rows m lm (full_pair C a) k) (approach_known C a c.args.ends E (mouth_shape true (C.pairs m)) k)
-    (c.broad_mouth-wide.ensures C S.bounds lm la)
-    (overlay_only_lem C m a (c.broad_mouth-wide.ensures C S.bounds lm la) (c.nearby_representative-nearby.ensures C S.bounds lm la) (c.overlay_representative-overlay.ensures C S.bounds lm la))
-    ∙ by_approach C a m ramp cut (kind-shown S.bounds m lm ∙ ap (λ k. eqb k 0) (sym c.kind_at.ensures) ∙ eq-eqb _ 0 c.if-kind_at-ne0.false) (sym (c.full_cut.ensures C T lm) ∙ not-false _ c.if-not-full_cut.false-raw) (S.rows.named m lm) c.triangle_representative-triangle.result
-    (triangle-shown S.rows m a lm la c.triangle_representative-triangle.result c.triangle_representative-triangle.ensures) c.approach_of-approach.result k
-    c.broad_mouth-wide.result c.nearby_representative-nearby.result c.overlay_representative-overlay.result
-    (sym (c.broad_mouth-wide.ensures C S.bounds lm la)) (sym (c.nearby_representative-nearby.ensures C S.bounds lm la)) (sym (c.overlay_representative-overlay.ensures C S.bounds lm la)) (not-false _ c.if-not-wide-nearby.false-raw) c.if-nearby-triangle.false
+    c.approach_mouth.ensures C a S.rows S.incidents S.anchored lm (approach_named S.rows c.args.m lm (full_pair C a) k) (approach_known C a c.args.ramp.ends E (mouth_shape true (C.pairs c.args.m)) k) M
+    ∙ by_approach (tried S lm la ramp cut c.kind_at.ensures c.if-kind_at-ne0.false (sym (c.full_cut.ensures C T lm) ∙ c.if-not-full_cut.false) c.triangle_representative-triangle.ensures (c.approach_of-approach.ensures C T S.rows lm la)) M (sym c.any.ensures ∙ c.if-not-any.false) c.if-measures-triangle.false

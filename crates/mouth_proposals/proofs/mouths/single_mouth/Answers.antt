@@ -1,50 +1,17 @@
--- `mouths::single_mouth` meets its contract: each return by the tests that led there. Assumes nothing.
-use mathlib.Core.Path.{refl, sym, ◌∙◌}
+-- `mouths::single_mouth` meets its contract, by its tests. Assumes nothing.
+use mathlib.Core.Path.{sym, ap, ◌∙◌}
 use mathlib.Core.Bool.{not, ◌&&◌, ◌||◌}
+use Rattle.mouth_proposals.specs.Candidates.{candidate_form}
 use Rattle.mouth_proposals.proofs.Fitting.{single_by, two_shown, anchored-shown}
 use Rattle.mouth_proposals.proofs.mouths.single_mouth.Goals as goal
 
-pub returns-then-is_anchored : goal.returns-then-is_anchored
-returns-then-is_anchored c =
-    λ C m a I A n b w o.
-    single_by C m a c.args.outer c.args.r
-    (anchored-shown A c.args.r c.requires.r_named.0 n.1 c.is_anchored.ensures ∙ c.if-is_anchored.true)
-    (refl)
-    (refl)
-    (refl)
-
-pub returns-then-overlay-is_anchored : goal.returns-then-overlay-is_anchored
-returns-then-overlay-is_anchored c =
-    λ C m a I A n b w o.
-    single_by C m a c.args.outer c.args.r
-    (anchored-shown A c.args.r c.requires.r_named.0 n.1 c.is_anchored.ensures ∙ c.if-is_anchored.false)
-    ((λ i. sym o i && ((anchored-shown A c.args.outer c.requires.outer_named.0 n.0 c.is_anchored-2.ensures) i || not ((two_shown A I c.args.r c.requires.r_named.0 n.1 c.incident_count-two.ensures) i))) ∙ c.if-overlay-is_anchored.true)
-    (refl)
-    (refl)
-
-pub returns-then-blocked : goal.returns-then-blocked
-returns-then-blocked c =
-    λ C m a I A n b w o.
-    single_by C m a c.args.outer c.args.r
-    (anchored-shown A c.args.r c.requires.r_named.0 n.1 c.is_anchored.ensures ∙ c.if-is_anchored.false)
-    ((λ i. sym o i && ((anchored-shown A c.args.outer c.requires.outer_named.0 n.0 c.is_anchored-2.ensures) i || not ((two_shown A I c.args.r c.requires.r_named.0 n.1 c.incident_count-two.ensures) i))) ∙ c.if-overlay-is_anchored.false)
-    (sym b ∙ c.if-blocked.true)
-    (refl)
-
-pub returns-then-wide-overlay : goal.returns-then-wide-overlay
-returns-then-wide-overlay c =
-    λ C m a I A n b w o.
-    single_by C m a c.args.outer c.args.r
-    (anchored-shown A c.args.r c.requires.r_named.0 n.1 c.is_anchored.ensures ∙ c.if-is_anchored.false)
-    ((λ i. sym o i && ((anchored-shown A c.args.outer c.requires.outer_named.0 n.0 c.is_anchored-2.ensures) i || not ((two_shown A I c.args.r c.requires.r_named.0 n.1 c.incident_count-two.ensures) i))) ∙ c.if-overlay-is_anchored.false)
-    (sym b ∙ c.if-blocked.false)
-    ((λ i. (sym w i || sym o i) && (two_shown A I c.args.r c.requires.r_named.0 n.1 c.incident_count-two.ensures) i) ∙ c.if-wide-overlay.true)
-
-pub returns-else-wide-overlay : goal.returns-else-wide-overlay
-returns-else-wide-overlay c =
-    λ C m a I A n b w o.
-    single_by C m a c.args.outer c.args.r
-    (anchored-shown A c.args.r c.requires.r_named.0 n.1 c.is_anchored.ensures ∙ c.if-is_anchored.false)
-    ((λ i. sym o i && ((anchored-shown A c.args.outer c.requires.outer_named.0 n.0 c.is_anchored-2.ensures) i || not ((two_shown A I c.args.r c.requires.r_named.0 n.1 c.incident_count-two.ensures) i))) ∙ c.if-overlay-is_anchored.false)
-    (sym b ∙ c.if-blocked.false)
-    ((λ i. (sym w i || sym o i) && (two_shown A I c.args.r c.requires.r_named.0 n.1 c.incident_count-two.ensures) i) ∙ c.if-wide-overlay.false)
+pub returns : goal.returns
+returns c =
+    let s = c.args in
+    λ C m a I A n b M.
+    let o = c.overlay_only-overlay.ensures C m a M in
+    let two = two_shown A I s.sides.approach c.requires.approach_named.0 n.1 c.incident_count-two.ensures in
+    ap (candidate_form C m a) c.then_some.ensures
+    ∙ single_by C m a s.sides.outer s.sides.approach (anchored-shown A s.sides.approach c.requires.approach_named.0 n.1 c.is_anchored.ensures)
+    (λ i. sym o i && (anchored-shown A s.sides.outer c.requires.outer_named.0 n.0 c.is_anchored-outer_anchored.ensures i || not (two i))) (sym b) (λ i. (sym M.broad i || sym o i) && two i)
+    c.of_approach.ensures

@@ -1,92 +1,23 @@
--- `mouths::star_mouth` meets its contract: each return by the tests that led there. Assumes nothing.
-use native.Mathlib.Omega.{arith}
-use mathlib.Core.Path.{refl, sym, ap, ◌∙◌}
-use borrow.Author.Tests.{eq-eqb, ne_eqb, not-true, not-false}
+-- `mouths::star_mouth` meets its contract, by its tests. Assumes nothing.
+use mathlib.Core.Path.{sym, ap, ◌∙◌}
 use Rattle.definitions.specs.Scan.{all}
 use Rattle.definitions.specs.MouthShapes.{regions_of}
 use Rattle.mouth_proposals.specs.Outers.{inner_fits}
-use Rattle.mouth_proposals.proofs.Fitting.{star_by, two_shown, fits-shown}
+use Rattle.mouth_proposals.specs.Candidates.{candidate_form}
+use Rattle.mouth_proposals.proofs.Fitting.{star_none, star_when, two_shown, fits-shown}
 use Rattle.mouth_proposals.proofs.mouths.star_mouth.Goals as goal
 
-pub returns-then-overlay : goal.returns-then-overlay
-returns-then-overlay c =
-    λ C a P I A l n b w o.
-    star_by C c.args.m a c.args.outer c.args.r
-    (sym o ∙ c.if-overlay.true)
-    (refl)
-    (refl)
-    (refl)
-    (refl)
+pub returns-then-overlay_only-incident_count : goal.returns-then-overlay_only-incident_count
+returns-then-overlay_only-incident_count c =
+    let s = c.args in
+    λ C a P I A l n b M. star_none C s.m a s.sides.outer s.sides.approach (sym (c.overlay_only.ensures C s.m a M)) (two_shown A I s.sides.approach c.requires.approach_named.0 n c.incident_count.ensures) (sym b) c.if-overlay_only-incident_count.true
 
-pub returns-then-incident_count-ne2 : goal.returns-then-incident_count-ne2
-returns-then-incident_count-ne2 c =
-    λ C a P I A l n b w o.
-    star_by C c.args.m a c.args.outer c.args.r
-    (sym o ∙ c.if-overlay.false)
-    (two_shown A I c.args.r c.requires.r_named.0 n c.incident_count.ensures ∙ ne_eqb _ 2 c.if-incident_count-ne2.true)
-    (refl)
-    (refl)
-    (refl)
-
-pub bounds-starts-m : goal.bounds-starts-m
-bounds-starts-m c =
-    omega (arith, c.requires.stretch.within)
-
-pub bounds-starts-m-2 : goal.bounds-starts-m-2
-bounds-starts-m-2 c =
-    omega (arith, c.requires.stretch.within)
-
-pub inner_fit-requires : goal.inner_fit-requires
-inner_fit-requires c =
-    record {
-      ordered = c.requires.stretch.rising;
-      named_rows = c.requires.named_rows;
-    }
-
-pub returns-then-not-inner_fit : goal.returns-then-not-inner_fit
-returns-then-not-inner_fit c =
-    λ C a P I A l n b w o.
-    star_by C c.args.m a c.args.outer c.args.r
-    (sym o ∙ c.if-overlay.false)
-    (two_shown A I c.args.r c.requires.r_named.0 n c.incident_count.ensures ∙ eq-eqb _ 2 c.if-incident_count-ne2.false)
-    (fits-shown A I c.args.m c.args.outer c.args.r (P.named c.args.m l)
-    ∙ ap (λ l. all (inner_fits c.args.marks.now c.args.counts.now c.args.outer c.args.r) (regions_of l)) (P.at c.args.m l)
-    ∙ sym c.inner_fit.ensures ∙ not-true _ c.if-not-inner_fit.true-raw)
-    (refl)
-    (refl)
-
-pub returns-then-blocked : goal.returns-then-blocked
-returns-then-blocked c =
-    λ C a P I A l n b w o.
-    star_by C c.args.m a c.args.outer c.args.r
-    (sym o ∙ c.if-overlay.false)
-    (two_shown A I c.args.r c.requires.r_named.0 n c.incident_count.ensures ∙ eq-eqb _ 2 c.if-incident_count-ne2.false)
-    (fits-shown A I c.args.m c.args.outer c.args.r (P.named c.args.m l)
-    ∙ ap (λ l. all (inner_fits c.args.marks.now c.args.counts.now c.args.outer c.args.r) (regions_of l)) (P.at c.args.m l)
-    ∙ sym c.inner_fit.ensures ∙ not-false _ c.if-not-inner_fit.false-raw)
-    (sym b ∙ c.if-blocked.true)
-    (refl)
-
-pub returns-then-wide : goal.returns-then-wide
-returns-then-wide c =
-    λ C a P I A l n b w o.
-    star_by C c.args.m a c.args.outer c.args.r
-    (sym o ∙ c.if-overlay.false)
-    (two_shown A I c.args.r c.requires.r_named.0 n c.incident_count.ensures ∙ eq-eqb _ 2 c.if-incident_count-ne2.false)
-    (fits-shown A I c.args.m c.args.outer c.args.r (P.named c.args.m l)
-    ∙ ap (λ l. all (inner_fits c.args.marks.now c.args.counts.now c.args.outer c.args.r) (regions_of l)) (P.at c.args.m l)
-    ∙ sym c.inner_fit.ensures ∙ not-false _ c.if-not-inner_fit.false-raw)
-    (sym b ∙ c.if-blocked.false)
-    (sym w ∙ c.if-wide.true)
-
-pub returns-else-wide : goal.returns-else-wide
-returns-else-wide c =
-    λ C a P I A l n b w o.
-    star_by C c.args.m a c.args.outer c.args.r
-    (sym o ∙ c.if-overlay.false)
-    (two_shown A I c.args.r c.requires.r_named.0 n c.incident_count.ensures ∙ eq-eqb _ 2 c.if-incident_count-ne2.false)
-    (fits-shown A I c.args.m c.args.outer c.args.r (P.named c.args.m l)
-    ∙ ap (λ l. all (inner_fits c.args.marks.now c.args.counts.now c.args.outer c.args.r) (regions_of l)) (P.at c.args.m l)
-    ∙ sym c.inner_fit.ensures ∙ not-false _ c.if-not-inner_fit.false-raw)
-    (sym b ∙ c.if-blocked.false)
-    (sym w ∙ c.if-wide.false)
+pub returns : goal.returns
+returns c =
+    let s = c.args in
+    λ C a P I A l n b M.
+    ap (candidate_form C s.m a) c.then_some.ensures
+    ∙ star_when C s.m a s.sides.outer s.sides.approach (sym (c.overlay_only.ensures C s.m a M)) (two_shown A I s.sides.approach c.requires.approach_named.0 n c.incident_count.ensures) (sym b) c.if-overlay_only-incident_count.false
+    (fits-shown A I s.m s.sides.outer s.sides.approach (P.named s.m l)
+    ∙ ap (λ l. all (inner_fits s.regions.marks.now s.regions.counts.now s.sides.outer s.sides.approach) (regions_of l)) (P.at s.m l)
+    ∙ sym c.inner_fit.ensures) (sym M.broad) c.of_approach.ensures

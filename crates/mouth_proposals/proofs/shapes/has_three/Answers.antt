@@ -8,8 +8,8 @@ use Rattle.mouth_proposals.proofs.shapes.has_three.Goals as goal
 
 pub returns : goal.returns
 returns c =
-    let p = c.args.p in
-    let q = c.args.q in
+    let p = c.args.mouth.first in
+    let q = c.args.mouth.second in
     let second = not (eqb p.hi p.lo) in
     let newer = not (eqb q.hi q.lo) in
     (λ i.

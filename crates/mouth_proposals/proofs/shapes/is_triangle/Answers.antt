@@ -6,4 +6,4 @@ use Rattle.mouth_proposals.proofs.shapes.is_triangle.Goals as goal
 pub returns : goal.returns
 returns c =
     let s = c.args in
-    triangle_by (pair_form s.p) (pair_form s.q) (pair_form s.s) (pair_form s.t) c.has_three.ensures c.all_named.ensures c.one_edge.ensures
+    triangle_by (pair_form s.mouth.first) (pair_form s.mouth.second) (pair_form s.ramp.first) (pair_form s.ramp.second) c.has_three.ensures c.all_named.ensures c.one_edge.ensures

@@ -7,15 +7,10 @@ use Rattle.mouth_proposals.proofs.RowLists.{between-zero}
 use Rattle.context.proofs.FullPairs.{between_one}
 use Rattle.mouth_proposals.proofs.shapes.star.Goals as goal
 
-pub returns-then-end-first-eq0 : goal.returns-then-end-first-eq0
+pub returns-in-0 : goal.returns-in-0
 unfolding mouth_shape
-returns-then-end-first-eq0 c =
-    sym (ap (mouth_shape true) (between-zero c.args.pairs.now _ _ c.if-end-first-eq0.true))
+returns-in-0 c = sym (ap (mouth_shape true) (between-zero c.args.context.pairs.now _ _ c.in-0.is))
 
-pub returns-then-end-first-eq1 : goal.returns-then-end-first-eq1
+pub returns-in-1 : goal.returns-in-1
 unfolding mouth_shape
-returns-then-end-first-eq1 c =
-    sym (ap (mouth_shape true) (between_one c.args.pairs.now _ _ c.if-end-first-eq1.true ∙ ap (λ p. p ∷ []) (sym c.row_at.ensures)))
-
-pub returns : goal.returns
-returns c = c.star_of.ensures
+returns-in-1 c = sym (ap (mouth_shape true) (between_one c.args.context.pairs.now _ _ c.in-1.is ∙ ap (λ p. p ∷ []) (sym c.row_at.ensures)))

@@ -1,16 +1,13 @@
--- `near::region_near` meets its contract: the four corners, each tested against the centres. Assumes nothing.
-use Prim.Native.Nat.{◌*◌}
-use mathlib.Core.Path.{sym, ◌∙◌}
-use lib.Dec.{lit<}
-use Rattle.definitions.specs.Limits.{numbers_per_boundary}
+-- `near::region_near` meets its contract: the corners, each tested against the centres. Assumes nothing.
+use Rattle.std.proofs.Common.{rules, tests, sym, ap, ◌∙◌, true, false}
+use Rattle.std.proofs.lemmas.Iterator.{cases_from_all, YieldsList-from_slice}
 use Rattle.definitions.specs.Scan.{all}
-use Rattle.definitions.specs.Grid.{segment_at}
 use Rattle.definitions.specs.Geometry.{center}
 use Rattle.definitions.specs.RegionRecord.{corners}
 use Rattle.context.specs.Records.{record_of}
 use Rattle.geometry.specs.Forms.{point_form}
 use Rattle.mouth_regions.specs.Near.{corner_near, region_near}
-use Rattle.mouth_regions.proofs.Nearness.{near_at_lem, corner_is, corner-pixel, all-corners}
+use Rattle.mouth_regions.proofs.Nearness.{near_is, Answer, corners-asked}
 use Rattle.mouth_regions.proofs.near.region_near.Goals as goal
 
 pub center_of-ramp-requires : goal.center_of-ramp-requires
@@ -24,17 +21,14 @@ center_of-mouth-requires c =
     record { whole = mouth.whole; pixels = mouth.pixels }
 
 pub returns : goal.returns
-unfolding region_near corners
 returns c =
     let R = record_of c.args.region in
-    let l = c.args.boundaries.now in
-    let ramp = segment_at l (numbers_per_boundary * c.args.a) in
-    let mouth = segment_at l (numbers_per_boundary * c.args.m) in
-    let at = corner_is point_form c.corners-corners.result R c.corners-corners.ensures in
+    let s = c.args.proposal in
+    let b = c.is_broad-broad.result in
+    let p = point_form c.center_of-ramp.result in
+    let q = point_form c.center_of-mouth.result in
     λ C S hm ha h.
-    all-corners (corner_near (center ramp) (center mouth) c.args.broad) R (center ramp) (center ramp) (center ramp) (center ramp)
-    (near_at_lem c.args.broad (at 0 _) c.center_of-ramp.ensures c.center_of-mouth.ensures (corner-pixel R h 0 (lit< tt) (center ramp)) c.requires.1.pixels c.requires.0.pixels c.corner_near.ensures)
-    (near_at_lem c.args.broad (at 1 _) c.center_of-ramp.ensures c.center_of-mouth.ensures (corner-pixel R h 1 (lit< tt) (center ramp)) c.requires.1.pixels c.requires.0.pixels c.corner_near-2.ensures)
-    (near_at_lem c.args.broad (at 2 _) c.center_of-ramp.ensures c.center_of-mouth.ensures (corner-pixel R h 2 (lit< tt) (center ramp)) c.requires.1.pixels c.requires.0.pixels c.corner_near-3.ensures)
-    (near_at_lem c.args.broad (at 3 _) c.center_of-ramp.ensures c.center_of-mouth.ensures (corner-pixel R h 3 (lit< tt) (center ramp)) c.requires.1.pixels c.requires.0.pixels c.corner_near-4.ensures)
-    ∙ sym (λ i. all (corner_near (center (S.at c.args.a ha i).endpoints) (center (S.at c.args.m hm i).endpoints) c.args.broad) (corners R))
+    corners-asked b p q c.center_of-ramp.ensures c.center_of-mouth.ensures c.requires.1.pixels c.requires.0.pixels c.corners.result R c.corners.ensures h c.all.result
+    (cases_from_all _ _ c.all.result (Answer b p q true) (Answer b p q false) c.all.ensures.ran (YieldsList-from_slice _ cc) (λ x f k. search (rules, tests)) (λ x f k. search (rules, tests)))
+    ∙ sym (near_is C s.mouth s.ramp b R ∙ (λ i. all (corner_near (center (S.at s.ramp ha i).endpoints) (center (S.at s.mouth hm i).endpoints) b) (corners R)))
+    ∙ ap (λ b. region_near C s.mouth s.ramp b R) c.is_broad-broad.ensures

@@ -1,195 +1,154 @@
--- `bests::advance` meets its contract. The invariant: what is known of every context that is shown, and what has not risen; the measure is how many mouths are not
+-- `bests::advance` meets its contract. The invariant: what is known of every context that is shown, and what has not risen; the measure is how many boundaries are not
 -- removed. A turn takes the least of the bests, which is the least of all that is left. Assumes nothing.
-use Rattle.mouth_proposals.specs.Listed.{blank, entry_at}
-use Prim.Native.Nat.{ℕ, ◌<◌}
+use Rattle.mouth_proposals.specs.Candidates.{Numbered, proposal_of}
+use Rattle.mouth_proposals.specs.Listed.{proposal_as, proposal_form}
+use Rattle.mouth_proposals.specs.declared.candidates.Candidate.{Candidate}
+use Rattle.mouth_proposals.specs.declared.candidates.MouthProposal as declared
+use Prim.Native.Nat.{ℕ, ◌%◌, ◌≤◌, ◌<◌}
 use native.Mathlib.Omega.{arith}
-use native.Mathlib.Nat.{le_refl, le_trans}
-use mathlib.Core.Path.{◌≡◌, refl, sym, ap, ◌∙◌, subst}
-use mathlib.Core.Bool.{Bool, true, false, not, false≢true}
-use Rattle.std.specs.Prelude.{Some}
-use lib.ListN.{get_or}
-use lib.Arith.{lt_of_le-ne}
-use borrow.Author.Tests.{not-true, not-false}
+use native.Mathlib.Nat.{le_trans}
+use mathlib.Core.Path.{◌≡◌, sym, ap, ◌∙◌, subst}
+use mathlib.Core.Bool.{Bool, true, false, not}
+use mathlib.Core.List.{List, [], ◌∷◌, ◌++◌}
+use Rattle.std.specs.Prelude.{Option, None, Some}
+use lib.ListN.{length, get_or}
+use borrow.Author.Tests.{not-true}
+use Rattle.definitions.specs.Scan.{count_below}
 use Rattle.definitions.specs.Context.{Context}
-use Rattle.definitions.specs.RampMouths.{MouthProposal, proposals}
-use Rattle.mouth_proposals.specs.Candidates.{proposal_of}
-use Rattle.mouth_selection.specs.Held.{is_refused}
+use Rattle.definitions.specs.RampMouths.{proposals}
+use Rattle.laws.specs.ListLaws.Options.{absent, present, on_map_lem}
+use Rattle.mouth_selection.specs.Entries.{SafeMouth, Known}
+use Rattle.context.specs.Shown.{ShownBoundaries, ShownPairs}
+use Rattle.mouth_selection.specs.Held.{is_refused, left_at, TakenState}
 use Rattle.mouth_selection.specs.Rounds.{least_among}
-use Rattle.mouth_selection.specs.Selecting.{Lists, Progress}
-use Rattle.mouth_selection.proofs.SelectionLaws.{safe-keys, safe-entries, all-rows, mouth-left, fewer-left}
-use Rattle.mouth_selection.proofs.BestSteps.{named_count, measured-count, few-count, ended, no_best, best_first, still-anchored, taken-progress, weight-taken}
+use Rattle.mouth_selection.specs.Selecting.{Lists, LeastLeft, NextBest, Progress, Renewed, is_stale}
+use Rattle.mouth_selection.proofs.SelectionLaws.{safe-mouth, all-rows, mouth-left, fewer-left}
+use Rattle.mouth_selection.proofs.RoundLaws.{of_some, safe-key}
+use Rattle.mouth_selection.proofs.BestSteps.{ended, still-anchored, taken-progress, weight-taken}
 use Rattle.mouth_selection.proofs.bests.advance.Goals as goal
-use Rattle.mouth_selection.proofs.bests.advance.Goals.{At-loop-found, After-take_entry}
+use Rattle.mouth_selection.proofs.bests.advance.Goals.{At-loop-best}
 
 -- what is known at the loop's head, of the context that is there
-module _ (c : goal.At-loop-found) where
+module _ (c : goal.At-loop-best) where
   abbrev C₀ : Context
-  C₀ = c.requires.shown.0
+  C₀ = c.requires.0
 
-  abbrev shown : Lists c.args.boundaries.now c.args.pairs.now c.args.starts.now c.args.count C₀
-  shown = c.requires.shown.1.0
+  abbrev shown : Lists c.args.context.boundaries.now c.args.context.pairs.now c.args.context.starts.now c.args.context.count C₀
+  shown = c.requires.1.0
 
-  abbrev known : Progress C₀ (λ i. i < c.args.count) c.loop-found.marks c.loop-found.removed c.loop-found.used c.args.bestof.now c.loop-found.found c.loop-found.fresh
-  known = c.loop-found.invariant.1.1 C₀ shown c.requires.shown.1.1
+  abbrev known : Progress C₀ c.loop-best.taken.marks.now c.loop-best.taken.removed c.loop-best.taken.ramp_ends c.loop-best.bests c.args.context.count
+  known = c.loop-best.invariant.1.1 C₀ shown c.requires.1.1
 
--- the best is left: it is taken
-module _ (c : goal.After-take_entry) where
-  abbrev a : ℕ
-  a = c.least_marked-a.result
+-- p is the next best
+module _ {boundaries pairs starts marks : List ℕ} {gone ends : List Bool} {bests : List (Option Candidate)} {count : ℕ} {C : Context} (L : Lists boundaries pairs starts count C)
+    (P : Progress C marks gone ends bests count) {o : Option Candidate} (N : NextBest C P.chosen bests count o) {e : Candidate} (is : o ≡ Some e) {p : declared.MouthProposal} (same : p ≡ proposal_form e) where
+  of_entry : (Q : declared.MouthProposal → Type 0) → Q (proposal_form e) → Q p
+  of_entry Q = subst Q (sym same)
 
-  below : a < c.args.count
-  below = lt_of_le-ne c.least_marked-a.ensures.bound c.if-a-count.false
+  abbrev listed : Known C e × ((e.ramp < count) × (get_or bests e.ramp None ≡ Some e))
+  listed = of_some is N.listed
 
-  module _ (C : Context) (L : Lists c.args.boundaries.now c.args.pairs.now c.args.starts.now c.args.count C)
-      (P : Progress C (λ i. i < c.args.count) c.loop-found.marks c.loop-found.removed c.loop-found.used c.args.bestof.now c.loop-found.found c.loop-found.fresh) where
-    abbrev entry : MouthProposal
-    entry = entry_at C c.args.bestof.now a
+  safe : SafeMouth pairs starts marks p.mouth p.outer
+  safe = of_entry (λ p. SafeMouth pairs starts marks p.mouth p.outer) (safe-mouth L marks P.anchored.long listed.0)
 
-    within : a < C.count
-    within = subst (λ n. a < n) (sym L.counted) below
+  mouth-in : p.mouth < C.count
+  mouth-in = of_entry (λ p. p.mouth < C.count) listed.0.mouth
 
-    free : is_refused C P.chosen entry ≡ false
-    free =
-        not-true _
-        (sym (c.entry_left.ensures C P.chosen L.rows P.state (P.bests.named.mouth a within) (P.bests.named.ramp a within) (P.bests.named.outer a within))
-        ∙ not-false _ c.if-not-entry_left.false-raw)
+  ramp-in : p.ramp < C.count
+  ramp-in = of_entry (λ p. p.ramp < C.count) listed.0.ramp
 
-    least : Some entry ≡ least_among C P.chosen (proposals C)
-    least = best_first L P a (c.least_marked-a.ensures.best C L.bounds (measured-count L P)).1 below free
+  outer-in : Numbered C.regions p.outer
+  outer-in = of_entry (λ p. Numbered C.regions p.outer) listed.0.outer
 
-pub loop-found-init : goal.loop-found-init
-loop-found-init c = ((refl, c.requires.room), (le_refl _, λ C L P. P))
+  ramp-below : p.ramp < count
+  ramp-below = of_entry (λ p. p.ramp < count) listed.1.0
 
-pub all_gone-requires : goal.all_gone-requires
-all_gone-requires c =
-    let h = (goal.at.all_gone-requires c).At-loop-found in
-    let L = shown h in
-    record { boundaries_room = omega (arith, L.bounds.long, L.counted); rows = all-rows L (named_count L (known h)) (few-count L (known h)) (known h).anchored.long }
+  stale : left_at pairs starts marks gone ends p ≡ false → is_stale pairs starts marks gone ends (get_or bests p.ramp None) ≡ true
+  stale f =
+      ap (is_stale pairs starts marks gone ends) (of_entry (λ p. get_or bests p.ramp None ≡ Some e) listed.1.1)
+      ∙ ap not (of_entry (λ q. left_at pairs starts marks gone ends (proposal_form e) ≡ left_at pairs starts marks gone ends q) (λ i. left_at pairs starts marks gone ends (proposal_form e)) ∙ f)
 
-pub least_marked-a-requires : goal.least_marked-a-requires
-least_marked-a-requires c =
-    let h = (goal.at.least_marked-a-requires c).At-loop-found in
-    safe-keys (shown h) (named_count (shown h) (known h)) (few-count (shown h) (known h))
+  -- it is left, as the code found, and taken
+  module _ {x : Bool} (left : ShownPairs C pairs starts → TakenState C P.chosen gone ends marks → p.mouth < C.count → p.ramp < C.count → Numbered C.regions p.outer → x ≡ not (is_refused C P.chosen (proposal_as C p))) (yes : x ≡ true)
+      {marks' : List ℕ} {gone' ends' : List Bool}
+      (take : C.count ≡ count → ShownBoundaries C boundaries → ShownPairs C pairs starts → C.regions ≤ length marks → TakenState C P.chosen gone ends marks → p.mouth < C.count → Numbered C.regions p.outer
+      → is_refused C P.chosen (proposal_as C p) ≡ false → TakenState C (P.chosen ++ (proposal_as C p ∷ [])) gone' ends' marks') where
+    free : is_refused C P.chosen (proposal_as C p) ≡ false
+    free = not-true _ (sym (left L.rows P.state mouth-in ramp-in outer-in) ∙ yes)
 
-pub shape_of-marks-then-a-count : goal.shape_of-marks-then-a-count
-shape_of-marks-then-a-count c = c.loop-found.invariant.0.0
+    state : TakenState C (P.chosen ++ (proposal_as C p ∷ [])) gone' ends' marks'
+    state = take L.counted L.bounds L.rows P.anchored.long P.state mouth-in outer-in free
 
-pub returns-then-a-count : goal.returns-then-a-count
-returns-then-a-count c =
-    let at = c.loop-found in
-    let s = c.args in
-    record {
-      bound = (le_refl _, λ h. absurd (omega (arith, h)));
-      room = at.invariant.0;
-      weight = at.invariant.1.0;
-      progress = λ C L P₀.
-          let P = at.invariant.1.1 C L P₀ in
-          (P, λ h. no_best L P _ (c.least_marked-a.ensures.best C L.bounds (measured-count L P)).1 c.if-a-count.true);
-    }
+    least : Some (proposal_as C p) ≡ least_among C P.chosen (proposals C)
+    least = of_entry (λ p. is_refused C P.chosen (proposal_as C p) ≡ false → Some (proposal_as C p) ≡ least_among C P.chosen (proposals C)) (subst (LeastLeft C P.chosen) is N.least) free
 
-pub entry_left-requires : goal.entry_left-requires
-entry_left-requires c =
-    let head = (goal.at.entry_left-requires c).At-loop-found in
-    let L = shown head in
+    smaller : count_below count (λ i. not (get_or gone' i false)) < count_below count (λ i. not (get_or gone i false))
+    unfolding proposal_of
+    smaller = fewer-left L.counted P.chosen (proposal_as C p) P.state state mouth-in (mouth-left C P.chosen (proposal_as C p) free)
+
+    on : length marks' ≡ length marks → ((i : ℕ) → i < length marks → get_or marks' i 0 % 2 ≡ get_or marks i 0 % 2) → {bests' : List (Option Candidate)} → Renewed ends' bests bests' count → Progress C marks' gone' ends' bests' count
+    on long odd R = taken-progress P (proposal_as C p) least L.rows (omega (arith, L.counted)) state (still-anchored P.anchored long odd) R
+
+pub next_best-requires-clause-rows : goal.next_best-requires-clause-rows
+next_best-requires-clause-rows c = all-rows (shown c) _ (known c).anchored.long
+
+pub next_best-requires-clause-safe : goal.next_best-requires-clause-safe
+next_best-requires-clause-safe c = λ a h. on_map_lem (λ e F. safe-key (shown c).bounds F.known) ((known c).of_ramps.known a h)
+
+pub is_left-requires-clause-safe : goal.is_left-requires-clause-safe
+is_left-requires-clause-safe c =
+    let head = (goal.at.is_left-requires-clause-safe c).At-loop-best in
     let P = known head in
-    let h = lt_of_le-ne c.least_marked-a.ensures.bound c.if-a-count.false in
-    record { k_within = omega (arith, h, few-count L P); safe = (safe-entries L (named_count L P) (few-count L P) P.anchored.long).safe _ h }
+    safe (shown head) P (c.next_best.ensures (C₀ head) P.chosen (shown head) P.state P.of_ramps) c.in-Some.is c.proposal-proposal.ensures
 
-pub shape_of-marks-then-not-entry_left : goal.shape_of-marks-then-not-entry_left
-shape_of-marks-then-not-entry_left c = c.loop-found.invariant.0.0
-
-pub returns-then-not-entry_left : goal.returns-then-not-entry_left
-returns-then-not-entry_left c =
-    let head = (goal.at.returns-then-not-entry_left c).At-loop-found in
-    let at = c.loop-found in
-    let s = c.args in
-    let h = lt_of_le-ne c.least_marked-a.ensures.bound c.if-a-count.false in
-    let C = C₀ head in
-    let L = shown head in
+pub returns-then-not-is_left-clause-stale : goal.returns-then-not-is_left-clause-stale
+returns-then-not-is_left-clause-stale c =
+    let head = (goal.at.returns-then-not-is_left-clause-stale c).At-loop-best in
     let P = known head in
-    let N = named_count L P in
-    let k = c.least_marked-a.result in
-    record {
-      bound = (
-        c.least_marked-a.ensures.bound,
-        λ h₂.
-            stale _
-            (λ e.
-            false≢true
-            (sym (not-true _ c.if-not-entry_left.true-raw) ∙ c.entry_left.ensures C P.chosen L.rows P.state (N.mouth k h) (N.ramp k h) (N.outer k h)
-            ∙ ap not (P.left k (subst (λ n. k < n) (sym L.counted) h) e ((c.least_marked-a.ensures.best C L.bounds (measured-count L P)).0 h)))),
-      );
-      room = at.invariant.0;
-      weight = at.invariant.1.0;
-      progress = λ C L P₀. (at.invariant.1.1 C L P₀, λ l. absurd (omega (arith, l, h)));
-    }
-  where
-    stale : (b : Bool) → (b ≡ true → ⊥) → b ≡ false
-    stale true f = absurd (f refl)
-    stale false f = refl
+    let N = c.next_best.ensures (C₀ head) P.chosen (shown head) P.state P.of_ramps in
+    present (ramp-below (shown head) P N c.in-Some.is c.proposal-proposal.ensures, stale (shown head) P N c.in-Some.is c.proposal-proposal.ensures (sym c.is_left.ensures.marked ∙ c.if-not-is_left.true))
 
-pub take_entry-requires : goal.take_entry-requires
-take_entry-requires c =
-    let head = (goal.at.take_entry-requires c).At-loop-found in
-    let L = shown head in
+pub take-requires-clause-ramp_within : goal.take-requires-clause-ramp_within
+take-requires-clause-ramp_within c =
+    let head = (goal.at.take-requires-clause-ramp_within c).At-loop-best in
     let P = known head in
-    let room = c.loop-found.invariant.0.1 in
-    let h = lt_of_le-ne c.least_marked-a.ensures.bound c.if-a-count.false in
-    let few = few-count L P in
-    record {
-      boundaries_room = (omega (arith, h, few), (few, omega (arith, L.bounds.long, L.counted)));
-      marks_of_boundaries = (subst (λ n. (get_or c.args.bestof.now c.least_marked-a.result blank).ramp < n) L.counted ((named_count L P).ramp _ h), (room.used_long, room.gone_long));
-      safe = (safe-entries L (named_count L P) few P.anchored.long).safe _ h;
-    }
+    ramp-below (shown head) P (c.next_best.ensures (C₀ head) P.chosen (shown head) P.state P.of_ramps) c.in-Some.is c.proposal-proposal.ensures
 
-pub renew-requires : goal.renew-requires
-renew-requires c =
-    let head = (goal.at.renew-requires c).At-loop-found in
-    let room = c.loop-found.invariant.0.1 in
-    (few-count (shown head) (known head), (room.found_long, room.fresh_long))
-
-pub loop-found-smaller : goal.loop-found-smaller
-unfolding proposal_of
-loop-found-smaller c =
-    let t = (goal.at.loop-found-smaller c).After-take_entry in
-    let head = (goal.at.loop-found-smaller c).At-loop-found in
-    let C = C₀ head in
-    let L = shown head in
+pub take-requires-clause-safe : goal.take-requires-clause-safe
+take-requires-clause-safe c =
+    let head = (goal.at.take-requires-clause-safe c).At-loop-best in
     let P = known head in
-    let state =
-    t.take_entry.ensures.taken C P.chosen L.counted L.bounds L.rows P.anchored.long P.state (P.bests.named.mouth (a t) (within t C L P))
-    (P.bests.named.outer (a t) (within t C L P)) (free t C L P) in
-    fewer-left L.counted P.chosen (entry t C L P) P.state state (P.bests.named.mouth (a t) (within t C L P)) (mouth-left C P.chosen (entry t C L P) (free t C L P))
+    safe (shown head) P (c.next_best.ensures (C₀ head) P.chosen (shown head) P.state P.of_ramps) c.in-Some.is c.proposal-proposal.ensures
 
-pub loop-found-preserved : goal.loop-found-preserved
-loop-found-preserved c =
-    let t = (goal.at.loop-found-preserved c).After-take_entry in
-    let head = (goal.at.loop-found-preserved c).At-loop-found in
-    let at = c.loop-found in
-    let long = c.take_entry.ensures.lengths in (
-      (long.0 ∙ at.invariant.0.0, record { gone_long = long.1.1; used_long = long.1.0; found_long = c.renew.ensures.lengths.0; fresh_long = c.renew.ensures.lengths.1 }),
+pub loop-best-smaller : goal.loop-best-smaller
+loop-best-smaller c =
+    let head = (goal.at.loop-best-smaller c).At-loop-best in
+    let P = known head in
+    smaller (shown head) P (c.next_best.ensures (C₀ head) P.chosen (shown head) P.state P.of_ramps) c.in-Some.is c.proposal-proposal.ensures (c.is_left.ensures.left (C₀ head) P.chosen) c.if-not-is_left.false
+    (c.take.ensures.taken (C₀ head) P.chosen)
+
+pub loop-best-preserved : goal.loop-best-preserved
+loop-best-preserved c =
+    let head = (goal.at.loop-best-preserved c).At-loop-best in
+    let inv = c.loop-best.invariant in
+    let T = c.take.ensures in (
+      (T.same_marks ∙ inv.0.0, T.long ∙ inv.0.1),
       (
-        le_trans (weight-taken _ _ _ _ (few-count (shown head) (known head)) (loop-found-smaller c)) at.invariant.1.0,
+        le_trans (weight-taken _ _ _ _ _ _ _ _ _ _ (omega (arith, (shown head).counted, (shown head).bounds.few)) (loop-best-smaller c)) inv.1.0,
         λ C L P₀.
-            let P = at.invariant.1.1 C L P₀ in
-            taken-progress P L.counted (entry t C L P) (least t C L P) L.rows
-            (c.take_entry.ensures.taken C P.chosen L.counted L.bounds L.rows P.anchored.long P.state (P.bests.named.mouth (a t) (within t C L P))
-            (P.bests.named.outer (a t) (within t C L P)) (free t C L P))
-            (still-anchored P.anchored long.0 c.take_entry.ensures.odd_parts) c.renew.ensures.renewed,
+            let P = inv.1.1 C L P₀ in
+            on L P (c.next_best.ensures C P.chosen L P.state P.of_ramps) c.in-Some.is c.proposal-proposal.ensures (c.is_left.ensures.left C P.chosen) c.if-not-is_left.false
+            (T.taken C P.chosen) T.long T.odd_parts c.renew.ensures,
       ),
     )
 
-pub shape_of-marks : goal.shape_of-marks
-shape_of-marks c = c.loop-found.invariant.0.0
+pub returns-clause-stale : goal.returns-clause-stale
+returns-clause-stale c = absent
 
-pub returns : goal.returns
-returns c =
-    let at = c.loop-found in
+pub returns-clause-progress : goal.returns-clause-progress
+returns-clause-progress c = λ C L P₀.
+    let P = c.loop-best.invariant.1.1 C L P₀ in
     record {
-      bound = (le_refl _, λ h. absurd (omega (arith, h)));
-      room = at.invariant.0;
-      weight = at.invariant.1.0;
-      progress = λ C L P₀.
-          let P = at.invariant.1.1 C L P₀ in
-          (P, λ h. ended L P (c.all_gone.ensures C P.chosen L at.used P.state (not-false _ c.loop-found-test.false-raw)));
+      progress = P;
+      ended = λ e. ended P (subst (LeastLeft C P.chosen) c.in_default.is (c.next_best.ensures C P.chosen L P.state P.of_ramps).least);
     }

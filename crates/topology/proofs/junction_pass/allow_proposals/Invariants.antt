@@ -1,5 +1,5 @@
 -- Of every context that is shown, the marks of the first `k` rows say which are allowed.
-use Rattle.std.proofs.Common.{◌-◌, ◌≤◌, ◌≡◌, length}
+use Rattle.std.proofs.Common.{◌≤◌, ◌≡◌, length}
 use Rattle.definitions.specs.Context.{Context}
 use Rattle.junction_proposals.specs.Rows.{max_proposals}
 use Rattle.topology.specs.Proposals.{Allows, Allowed}
@@ -9,6 +9,3 @@ abbrev pub invariant-loop-k : goal.invariant-loop-k
 invariant-loop-k l =
     (l.k ≤ l.n) × (length l.allowed ≡ max_proposals)
     × ((C : Context) → Allows C l.records l.boundaries l.marks l.rows l.n → Allowed C l.rows l.k l.allowed)
-
-abbrev pub decreases-loop-k : goal.decreases-loop-k
-decreases-loop-k l = l.n - l.k

@@ -12,9 +12,10 @@ places-requires c = shown-stretch c.requires.1.rows _ c.requires.1.mouth
 
 pub returns : goal.returns
 returns c = λ C L.
-    let near : ℕ → Bool = near_at C c.args.pairs.now c.args.starts.now c.args.m c.args.a c.args.outer c.args.kind in
+    let p = c.args.proposal in
+    let near : ℕ → Bool = near_at C c.args.context.pairs.now c.args.context.starts.now p in
     all_is near c.places.result _
     (all_from_range _ _ _ c.all.result (λ k. near k ≡ true) (λ k. near k ≡ false)
     c.all.ensures.ran (λ x q k. search (rules, tests)) (λ x q k. search (rules, tests)))
     ∙ ap (λ n. all_below n near) c.places.ensures
-    ∙ sym (corners-near L.rows c.args.m L.mouth c.args.outer c.args.a c.args.kind)
+    ∙ sym (corners-near L.rows p.mouth L.mouth p.outer p.ramp p.kind)

@@ -11,18 +11,19 @@ pub inner_region-requires : goal.inner_region-requires
 inner_region-requires c = record { stretch = shown-stretch c.requires.located.1.rows _ c.requires.located.1.mouth; k_within = c.requires.k_within }
 
 pub overflow_sub-r : goal.overflow_sub-r
-overflow_sub-r c = (region_named c.args.outer c.args.kind c.requires.located.1 c.requires.k_within (sym c.in-Some.is ∙ c.inner_region.ensures)).0
+overflow_sub-r c = (region_named c.args.proposal c.requires.located.1 c.requires.k_within (sym c.in-Some.is ∙ c.inner_region.ensures)).0
 
 pub record_at-region-requires : goal.record_at-region-requires
-record_at-region-requires c = near-place c.args.outer c.args.kind c.requires.located.1 c.requires.k_within (sym c.in-Some.is ∙ c.inner_region.ensures)
+record_at-region-requires c = near-place c.args.proposal c.requires.located.1 c.requires.k_within (sym c.in-Some.is ∙ c.inner_region.ensures)
 
 pub region_near-requires : goal.region_near-requires
 region_near-requires c = (c.requires.located.1.mouth-placed, c.requires.located.1.ramp-placed)
 
 pub returns-in-Some : goal.returns-in-Some
 returns-in-Some c = λ C L.
-    near-judged c.args.outer c.args.kind L c.requires.k_within (sym c.in-Some.is ∙ c.inner_region.ensures) c.record_at-region.ensures c.is_broad.ensures c.region_near.ensures
+    near-judged c.args.proposal L c.requires.k_within (sym c.in-Some.is ∙ c.inner_region.ensures) c.record_at-region.ensures c.region_near.ensures
 
 pub returns-in-None : goal.returns-in-None
 returns-in-None c = λ C L.
-    ap (passes (λ r. region_near C c.args.m c.args.a (is_broad c.args.kind) (C.region r))) (sym c.in-None.is ∙ c.inner_region.ensures)
+    let p = c.args.proposal in
+    ap (passes (λ r. region_near C p.mouth p.ramp (is_broad p.kind) (C.region r))) (sym c.in-None.is ∙ c.inner_region.ensures)

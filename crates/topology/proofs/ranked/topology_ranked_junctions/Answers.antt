@@ -7,7 +7,7 @@ use Rattle.topology.proofs.RankedCalling.{refused_over, listed-long, ranked-over
 use Rattle.topology.proofs.ranked.topology_ranked_junctions.Goals as goal
 
 pub returns-in-Err : goal.returns-in-Err
-returns-in-Err c = rw c.number.ensures (refused_over _ _ _ c.prepare-prepared.ensures c.in-Err.is refl refl)
+returns-in-Err c = rw c.refused.ensures (refused_over _ _ _ c.prepare-prepared.ensures c.in-Err.is refl refl)
 
 pub overflow_mul-needed : goal.overflow_mul-needed
 overflow_mul-needed c =

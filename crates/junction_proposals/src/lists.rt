@@ -1,0 +1,15 @@
+// The lists that pass 3 reads.
+
+use context::pairs::Pair;
+
+// What pass 3 reads of a partition: the boundaries as lent, the full pair of each, how many incidents each region has, the marks of the regions, odd where one is anchored,
+// and how many boundaries and regions there are.
+#[derive(Clone, Copy)]
+pub struct JunctionLists<'a> {
+    pub boundaries: &'a [u64],
+    pub full: &'a [Option<Pair>; 256],
+    pub counts: &'a [u32],
+    pub marks: &'a [u16],
+    pub count: usize,
+    pub regions: usize,
+}

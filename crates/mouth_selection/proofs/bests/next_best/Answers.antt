@@ -1,0 +1,12 @@
+-- `bests::next_best` meets its contract: nothing is left where no boundary can be a mouth, else the least of the bests is next. Assumes nothing.
+use mathlib.Core.Path.{sym, subst}
+use Rattle.laws.specs.ListLaws.Options.{absent}
+use Rattle.mouth_selection.specs.Selecting.{NextBest}
+use Rattle.mouth_selection.proofs.RoundLaws.{next_is}
+use Rattle.mouth_selection.proofs.bests.next_best.Goals as goal
+
+pub returns-then-all_gone : goal.returns-then-all_gone
+returns-then-all_gone c = λ C T L S B. record { listed = absent; least = c.all_gone.ensures C T L S c.if-all_gone.true }
+
+pub returns : goal.returns
+returns c = λ C T L S B. subst (NextBest C T c.args.bests.now c.args.context.count) (sym c.least_best.ensures) (next_is L.bounds L.counted B)

@@ -1,0 +1,25 @@
+-- `taken::Taken::is_gone` meets its contract, by its tests. Assumes nothing.
+use Prim.Native.Nat.{◌+◌, ◌<◌}
+use mathlib.Core.Path.{sym, ap, ◌∙◌}
+use mathlib.Core.Logic.{⊎_elim}
+use mathlib.Core.Bool.{false, not, ◌||◌}
+use lib.ListN.{get_or}
+use lib.Arith.{lt_of_le-ne}
+use lib.Dec.{eqb}
+use borrow.Author.Tests.{not-true}
+use Rattle.laws.specs.ListLaws.Tests.{or_split}
+use Rattle.mouth_selection.proofs.GoneMouths.{gone-ramp, gone-removed, gone_held}
+use Rattle.mouth_selection.proofs.taken.Taken.is_gone.Goals as goal
+
+pub returns-then-kind_at-self : goal.returns-then-kind_at-self
+returns-then-kind_at-self c =
+    let s = c.args in
+    λ C T B P S hm e.
+    ⊎_elim (λ k. gone-ramp C T s.m (ap (λ b. eqb b.kind 0) (B.at s.m hm) ∙ ap (λ k. eqb k 0) (sym c.kind_at.ensures) ∙ not-true _ k)) (gone-removed C T P hm S)
+    (or_split (not (eqb c.kind_at.result 0)) (get_or s.self.now.removed s.m false) c.if-kind_at-self.true)
+
+pub returns : goal.returns
+returns c =
+    let s = c.args in
+    let some_row : get_or s.context.starts.now s.m 0 < get_or s.context.starts.now (s.m + 1) 0 = lt_of_le-ne (c.requires.rows.stretch s.m c.requires.m_within).rising c.if-first-context.false in
+    λ C T B P S hm e. gone_held C T P hm S some_row c.row_at-lo.ensures (sym (λ i. c.region_full.ensures i || c.region_full-2.ensures i) ∙ e)
