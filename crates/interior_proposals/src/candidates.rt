@@ -51,7 +51,7 @@ fn spoils(context: PartitionContext, known: Components, i: usize, r: u32) -> boo
     }
 }
 
-// How many edges lie whole in the component r.
+// How many boundaries the component r owns: the edges that lie whole in it.
 fn edge_count(owners: &[Owner; 256], count: usize, r: u32) -> usize
     requires { count ≤ max_entries }
     ensures { result ≡ count_below count (λ i. owned_by r (owner_at owners.now i)) }

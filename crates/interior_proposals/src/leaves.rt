@@ -165,6 +165,8 @@ fn expand_rows(
     fit
 }
 
+// Kept: names and marks that are written are two parameters; in a struct each function would promise besides that its fields are the same two lists at exit.
+//
 // The leaves beyond a port, whose rows these are. Whether the port is valid: no row has two regions named r before, and each has exactly one after.
 pub fn expand_port(
     names: &mut [u32],

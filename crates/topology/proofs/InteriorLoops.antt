@@ -1,10 +1,10 @@
 -- The loops of `interior_fits` and `judge_interiors`: what is known when so many places or boundaries are passed, one more, and the end. Assumes nothing.
 use Prim.Native.Nat.{ℕ, ◌+◌, ◌≤◌, ◌<◌}
 use native.Mathlib.Omega.{arith}
-use mathlib.Core.Path.{◌≡◌, refl, sym, ap, ap₂, subst, ◌∙◌}
+use mathlib.Core.Path.{◌≡◌, refl, sym, ap, ap₂, ◌∙◌}
 use mathlib.Core.Bool.{Bool, true, false, not, ◌&&◌, ◌||◌, and-true, or-false}
 use mathlib.Core.List.{List}
-use lib.ListN.{length, get_or}
+use lib.ListN.{get_or}
 use lib.Dec.{leb}
 use borrow.Author.Tests.{le-leb}
 use Rattle.std.proofs.lemmas.Bool.{lt-leb}
@@ -15,28 +15,18 @@ use Rattle.definitions.specs.Context.{Context}
 use Rattle.definitions.specs.RampInteriors.{region_fits}
 use Rattle.laws.specs.ListLaws.Below.{below_none}
 use Rattle.laws.specs.ListLaws.ScanSteps.{any_next, all_next, all_intro}
-use Rattle.laws.specs.FloatLaws.Pixels.{PixelSegment}
 use Rattle.context.specs.declared.Region.{Region}
 use Rattle.interior_proposals.specs.declared.owners.Owner.{Owner}
 use Rattle.interior_proposals.specs.Owners.{owned_by, name_of, owner_at, name_at}
 use Rattle.interior_proposals.specs.declared.ports.Ports.{Ports}
 use Rattle.interior_regions.specs.declared.Interior.{Interior}
-use Rattle.interior_regions.specs.Places.{region_at, Readable, is_named, fits_at, ramp_at, interior_fits_lem}
+use Rattle.interior_regions.specs.Places.{region_at, is_named, fits_at, ramp_at, interior_fits_lem}
 use Rattle.interior_regions.specs.Marks.{accepted, marked_before, Stretched}
 use Rattle.interior_regions.proofs.JudgeLaws.{marked-removed}
-use Rattle.geometry.specs.Placed.{Placed}
 use Rattle.topology.specs.Interiors.{Asks, Judges, Collapsed}
 use Rattle.topology.specs.Proposals.{Unmarked}
 
 -- ---- the places of an interior
-
-pub asks_placed : {C : Context} {records : List Region} {boundaries pairs names : List ℕ} {x : Interior} → Asks C records boundaries pairs names x → (i : ℕ) → i < C.count → Placed boundaries i
-asks_placed A i l = record { whole = omega (arith, A.bounds.long); pixels = subst (λ t. PixelSegment t.endpoints) (A.bounds.at i l) (A.pixels.ends i) }
-
-pub asks_readable : {C : Context} {records : List Region} {boundaries pairs names : List ℕ} {x : Interior} → Asks C records boundaries pairs names x → (k : ℕ) → x.begin ≤ k → k < x.end → Readable pairs (length names) k
-asks_readable A k a b =
-    let h = A.readable k a b in
-    record { whole = h.whole; from = h.from; upto = omega (arith, h.upto, A.long) }
 
 module _ (C : Context) (pairs names : List ℕ) (x : Interior) where
   abbrev asked : ℕ → Bool

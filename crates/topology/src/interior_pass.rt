@@ -31,7 +31,7 @@ pub fn interior_fits(
     let reach = reach_of(context.boundaries, interior.ports);
     let mut fits = true;
     let mut ramp = false;
-    // Kept: one walk gives both answers; by two chains, `all` and `any`, the place and the record of each region would be read twice.
+    // Kept: one walk gives both answers; two chains, `all` and `any`, are no plainer and read each region's record twice.
     for k in interior.begin..interior.end {
         if !is_inside(context.pairs, names, interior.name, k) {
             continue;

@@ -1,5 +1,5 @@
 -- The record at a place is that of the context's region there, so whether it fits, and whether it has a ramp, is what the definition asks of the region (`InteriorLoops`).
-use Rattle.std.proofs.Common.{◌≡◌, ℕ, ◌+◌, ◌-◌, ◌≤◌, ◌<◌, Bool, true, false, ◌&&◌, ◌||◌, List, length, get_or, ap, arith}
+use Rattle.std.proofs.Common.{◌≡◌, ℕ, ◌+◌, ◌-◌, ◌≤◌, ◌<◌, Bool, true, false, ◌&&◌, ◌||◌, List, get_or, ap, arith}
 use Rattle.definitions.specs.RegionRecord.{has_ramp}
 use Rattle.definitions.specs.Context.{Context}
 use Rattle.definitions.specs.RampInteriors.{region_fits}
@@ -11,17 +11,13 @@ use Rattle.interior_proposals.specs.declared.fits.Reach.{Reach}
 use Rattle.interior_proposals.specs.Fits.{Aimed}
 use Rattle.interior_regions.specs.declared.Interior.{Interior}
 use Rattle.interior_regions.specs.Places.{region_at, Readable, is_named, interior_fits_lem}
-use Rattle.geometry.specs.Placed.{Placed}
-use Rattle.topology.specs.Held.{place_in, record_is}
+use Rattle.topology.specs.Held.{record_is}
 use Rattle.topology.specs.Interiors.{Asks}
-use Rattle.topology.proofs.InteriorLoops.{asks_placed, asks_readable, Looking, looking_start, looking_past, looking_more, looking_ends}
+use Rattle.topology.proofs.InteriorLoops.{Looking, looking_start, looking_past, looking_more, looking_ends}
 use Rattle.topology.proofs.interior_pass.interior_fits.Goals as goal
 
 -- what is asked, over plain variables
 module _ {records : List Region} {boundaries pairs names : List ℕ} {x : Interior} (pre : (C : Context) × Asks C records boundaries pairs names x) where
-  reach-asked : Placed boundaries x.ports.first × Placed boundaries x.ports.second
-  reach-asked = (asks_placed pre.1 _ pre.1.first, asks_placed pre.1 _ pre.1.second)
-
   start : (x.begin ≤ x.end) × ((C : Context) → Asks C records boundaries pairs names x → Looking C pairs names x true false x.begin)
   start = (pre.1.rising, λ C A. looking_start C _ _ _)
 
@@ -34,20 +30,11 @@ module _ {records : List Region} {boundaries pairs names : List ℕ} {x : Interi
       here : {C : Context} → Asks C records boundaries pairs names x → Readable pairs C.regions k
       here {C} A = A.readable k (inv.1 C A).from below
 
-      place-asked : (n : ℕ) × Readable pairs n k
-      place-asked = (_, here pre.1)
-
-      named-asked : Readable pairs (length names) k
-      named-asked = asks_readable pre.1 k (inv.1 _ pre.1).from below
-
       module _ {t : Bool} (e : t ≡ is_named pairs names x.name k) where
         past : t ≡ false → (k + 1 ≤ x.end) × ((C : Context) → Asks C records boundaries pairs names x → Looking C pairs names x fits ramp (k + 1))
         past h = (omega (arith, below), λ C A. looking_past C _ _ _ (inv.1 C A) e h)
 
         module _ (h : t ≡ true) {p : ℕ} (at : p ≡ region_at pairs k - 1) where
-          in_records : p < length records
-          in_records = place_in pre.1.held at (here pre.1).from (here pre.1).upto
-
           again : {reach : Reach}
               → ((C : Context) → ShownBoundaries C boundaries → x.ports.first < C.count → x.ports.second < C.count → Aimed C x.ports.first x.ports.second reach)
               → {s : Region} → ((d : Region) → s ≡ get_or records p d)
@@ -61,20 +48,8 @@ module _ {records : List Region} {boundaries pairs names : List ℕ} {x : Interi
                 looking_more C _ _ _ (inv.1 C A) e h (judged C _ _ _ (aimed C A.bounds A.first A.second) r (context-in_range A.pixels)) (ap has_ramp r),
           )
 
-pub reach_of-reach-requires : goal.reach_of-reach-requires
-reach_of-reach-requires c = reach-asked c.requires
-
 pub loop-k-init : goal.loop-k-init
 loop-k-init c = start c.requires
-
-pub is_inside-requires : goal.is_inside-requires
-is_inside-requires c = named-asked c.requires c.loop-k.invariant c.loop-k-test.true
-
-pub record_place-requires : goal.record_place-requires
-record_place-requires c = place-asked c.requires c.loop-k.invariant c.loop-k-test.true
-
-pub record_at-region-requires : goal.record_at-region-requires
-record_at-region-requires c = in_records c.requires c.loop-k.invariant c.loop-k-test.true c.is_inside.ensures c.if-not-is_inside.false c.record_place.ensures
 
 pub loop-k-preserved : goal.loop-k-preserved
 loop-k-preserved c =

@@ -9,7 +9,7 @@ use Rattle.interior_proposals.specs.Owners.{owned_by, owner_at}
 use Rattle.interior_proposals.specs.declared.ports.Ports.{Ports}
 use Rattle.interior_regions.specs.declared.Interior.{Interior}
 use Rattle.interior_regions.specs.Places.{interior_fits_lem}
-use Rattle.interior_regions.specs.Marks.{Interiors, SomeInteriors, accepted, Stretched}
+use Rattle.interior_regions.specs.Marks.{Interiors, accepted, Stretched}
 use Rattle.topology.specs.Interiors.{Asks, Judges, Collapsed}
 use Rattle.topology.specs.Proposals.{Unmarked}
 use Rattle.topology.proofs.InteriorLoops.{judges_asks, Judging, judging_start, judging_past, judging_more, judging_ends}
@@ -29,15 +29,6 @@ module _ {records : List Region} {boundaries pairs starts names : List ℕ} {own
       (inv : Inv records boundaries pairs starts names owners found count removed i) where
     done : count ≤ i → (C : Context) → Judges C records boundaries pairs starts names owners found count → Collapsed C count removed
     done f C J = judging_ends J (omega (arith, f, inv.0)) (inv.2 C J)
-
-    few : count ≤ max_entries
-    few = let I = pre.1.interiors in omega (arith, I.owning.counted, I.owning.given.paired.few)
-
-    mark-asked : (count ≤ max_entries) × (length removed ≡ max_entries)
-    mark-asked = (few, inv.1)
-
-    some_interiors : SomeInteriors pairs starts owners found count
-    some_interiors = (_, (_, (pre.1.tallies, (_, pre.1.interiors))))
 
     module _ (below : i < count) where
       past : ((C : Context) (boundaries tallies names : List ℕ) → Interiors C boundaries tallies pairs starts names owners found count → accepted C owners i ≡ false)
@@ -66,14 +57,8 @@ module _ {records : List Region} {boundaries pairs starts names : List ℕ} {own
 pub loop-i-init : goal.loop-i-init
 loop-i-init c = start c.requires.none_marked
 
-pub interior_at-requires-clause-interiors : goal.interior_at-requires-clause-interiors
-interior_at-requires-clause-interiors c = some_interiors c.requires.interiors_found c.loop-i.invariant
-
 pub interior_fits-fits-requires : goal.interior_fits-fits-requires
 interior_fits-fits-requires c = fits-asked c.requires.interiors_found c.loop-i.invariant c.loop-i-test.true c.in-Some.ensures
-
-pub mark_edges-requires : goal.mark_edges-requires
-mark_edges-requires c = mark-asked c.requires.interiors_found c.loop-i.invariant
 
 pub loop-i-preserved : goal.loop-i-preserved
 loop-i-preserved c =

@@ -1,5 +1,5 @@
 -- Of every context that is shown, the edges of what is accepted at the boundaries before `i` are marked.
-use Rattle.std.proofs.Common.{◌-◌, ◌≤◌, ◌≡◌, length}
+use Rattle.std.proofs.Common.{◌≤◌, ◌≡◌, length}
 use Rattle.definitions.specs.Limits.{max_entries}
 use Rattle.definitions.specs.Context.{Context}
 use Rattle.topology.specs.Interiors.{Judges}
