@@ -1,9 +1,9 @@
 -- The boundary of a bridge is one of its pocket's ports, and its regions are labelled. Assumes nothing.
 use Prim.Native.Nat.{ℕ, ◌-◌, ◌≤◌, ◌<◌}
 use native.Mathlib.Omega.{arith}
-use mathlib.Core.Path.{◌≡◌, refl, sym, subst}
+use mathlib.Core.Path.{◌≡◌, refl}
 use mathlib.Core.Bool.{Bool, true, false, not, ◌&&◌}
-use Rattle.std.specs.Prelude.{Option, Some}
+use Rattle.std.specs.Prelude.{Option}
 use mathlib.Core.List.{List}
 use lib.ListN.{get_or}
 use lib.Dec.{eqb}
@@ -11,7 +11,7 @@ use Rattle.definitions.specs.Scan.{only_if, to_list}
 use Rattle.definitions.specs.Junctions.{Proposal}
 use Rattle.laws.specs.ListLaws.Lists.{All, done, more}
 use Rattle.laws.specs.ListLaws.ScansOfAll.{collect-below}
-use Rattle.laws.specs.ListLaws.Options.{OnO, absent, present, on_only, on_cond}
+use Rattle.laws.specs.ListLaws.Options.{OnO, absent, on_only, on_cond}
 use Rattle.junction_proposals.specs.Lent.{LentPairs}
 use Rattle.junction_proposals.specs.Unions.{mark_at, is_near}
 use Rattle.junction_proposals.specs.Bridges.{PortAt, beyond_at, is_twice_at, is_shared_at, near_at, pick_at, is_pocket_port, bridge_of_three, bridge_of_list, is_bridge_at}
@@ -61,9 +61,3 @@ module _ (boundaries : List ℕ) (full : List (Option declared.Pair)) (marks : L
   pub bridge_fits_lem : (counts : List ℕ) → OnO Fits (is_bridge_at boundaries full marks r counts count)
   unfolding is_bridge_at
   bridge_fits_lem counts = on_cond (not (mark_at marks r) && eqb (get_or counts (r - 1) 0) 3) (list-fits ports_at) absent
-
-  pub bridge-found : (counts : List ℕ) {p : Proposal} → Some p ≡ is_bridge_at boundaries full marks r counts count → Fits p
-  bridge-found counts {p} e = only (subst (λ (o : Option Proposal). OnO Fits o) (sym e) (bridge_fits_lem counts))
-    where
-      only : {q : Proposal} → OnO Fits (Some q) → Fits q
-      only (present h) = h
