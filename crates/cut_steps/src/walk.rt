@@ -26,13 +26,6 @@ const ENDS_AFTER: u64 = 11;
 
 const BEGINS_BEFORE: u64 = 4;
 
-// The first number where the test holds, else the second.
-fn pick(test: bool, first: usize, second: usize) -> usize
-    ensures { result ≡ cond test first second }
-{
-    if test { first } else { second }
-}
-
 // A span on a grid, and its strip.
 #[derive(Clone, Copy)]
 pub struct SpanWalk<'a> {
@@ -48,9 +41,10 @@ impl SpanWalk<'_> {
         ensures x { result.x ≡ cond self.entry.strip.columns k m }
         ensures y { result.y ≡ cond self.entry.strip.columns m k }
     {
-        WalkPosition {
-            x: pick(columns, k, m),
-            y: pick(columns, m, k),
+        if columns {
+            WalkPosition { x: k, y: m }
+        } else {
+            WalkPosition { x: m, y: k }
         }
     }
 
@@ -58,7 +52,8 @@ impl SpanWalk<'_> {
     fn length(self) -> usize
         ensures { result ≡ major_side self.entry.strip self.entry.grid.width self.entry.grid.height }
     {
-        pick(self.strip.columns, self.grid.width, self.grid.height)
+        let TerrainGrid { width, height, .. } = self.grid;
+        if self.strip.columns { width } else { height }
     }
 
     // How many cells each of them has.
@@ -66,7 +61,8 @@ impl SpanWalk<'_> {
         requires { columns ≡ self.strip.columns }
         ensures { result ≡ minor_side self.entry.strip self.entry.grid.width self.entry.grid.height }
     {
-        pick(columns, self.grid.height, self.grid.width)
+        let TerrainGrid { width, height, .. } = self.grid;
+        if columns { height } else { width }
     }
 }
 
