@@ -8,10 +8,9 @@ ghost use Rattle.span_geometry.specs.Strips.{Usable};
 ghost use Rattle.span_geometry.specs.Candidates.{major_side, minor_side};
 ghost use Rattle.grid_steps.specs.Grids.{terrain_of};
 ghost use Rattle.cut_steps.specs.CutSteps.{cut_span};
-ghost use Rattle.cut_steps.specs.Cell.{CutDirections};
 ghost use Rattle.cut_steps.specs.Crossed.{Crossed, CrossedAt, FollowsIn, BetweenAsked, Parted, EndsPart, PartAsked};
 ghost use Rattle.cut_steps.specs.Visits.{VisitLaws};
-ghost use Rattle.cut_steps.specs.Walks.{walk_map, cell_steps, across_steps, column_steps, columns_steps, CellIn, ColumnIn, ColumnsIn, SpanIn, max_cells};
+ghost use Rattle.cut_steps.specs.Walks.{walk_map, cell_steps, across_steps, column_steps, columns_steps, CellIn, ColumnIn, ColumnsIn, SpanIn, CutIn, max_cells};
 
 use super::cell::{cut_directions, is_near, side_changes};
 use super::extents::{near_axis, near_range};
@@ -79,13 +78,12 @@ pub trait StepVisitor {
         requires asked { CellIn walk cell }
         requires crossed { Crossed (segment_of walk.g) (at cell.x cell.y) changes }
         requires is_ready { ready (walk_map walk) (cell_steps walk cell) 1 self.now }
-        ensures { CutDirections walk.entry.grid.width walk.entry.grid.height walk.entry.grid.cells.now (segment_of walk.entry.g) cell.x cell.y result };
+        ensures { CutIn walk.entry cell result };
 
     // Visits the cut steps of a cell, whose directions are given.
     fn visit(&mut self, walk: SpanWalk, cell: WalkPosition, directions: u16)
         requires asked { CellIn walk cell }
-        requires directions { CutDirections walk.grid.width walk.grid.height walk.grid.cells.now
-            (segment_of walk.g) cell.x cell.y directions }
+        requires directions { CutIn walk cell directions }
         requires is_ready { ready (walk_map walk) (cell_steps walk cell) 1 self.old }
         ensures { visited (walk_map walk.entry) (cell_steps walk.entry cell) 1 self.old self.new };
 
@@ -130,7 +128,8 @@ fn is_placed(beyond: usize, limit: usize) -> bool
     beyond - 2 < limit
 }
 
-// Visits the cut steps of the cell at `beyond` - 2 across column, or row, k, if there is one. Its changes of sides are given.
+// Visits the cut steps of the cell at `beyond` - 2 across column, or row, k, if there is one. Its changes of sides are given. Whether the strip goes by columns is a
+// parameter of the type, so that the loop between the span's ends is compiled for either: asked at each cell, it made assessing long spans take a seventh longer.
 fn walk_across<V: StepVisitor, const COLUMNS: bool>(
     walk: SpanWalk,
     visitor: &mut V,
