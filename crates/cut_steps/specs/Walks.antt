@@ -10,7 +10,7 @@ use Rattle.grid_steps.specs.declared.grid.WalkPosition.{WalkPosition}
 use Rattle.grid_steps.specs.Grids.{terrain_of}
 use Rattle.cut_steps.specs.declared.walk.SpanWalk.{SpanWalk}
 use Rattle.cut_steps.specs.CutSteps.{cut_from}
-use Rattle.cut_steps.specs.Cell.{CellAsked}
+use Rattle.cut_steps.specs.Cell.{CellAsked, CutDirections}
 use Rattle.cut_steps.specs.Columns.{ColumnAsked, cut_column}
 use Rattle.cut_steps.specs.Crossed.{ColumnsAsked, cut_two_back, cut_columns}
 
@@ -60,3 +60,9 @@ pub record SpanIn (grid : TerrainGrid) (g : SpanGeometry) : Type 0 where
   pub wide : 1 ≤ grid.width
   pub tall : 1 ≤ grid.height
   pub differ : endpoints_differ (segment_of g) ≡ true
+
+-- ---- what is found of a cell
+
+-- each direction of the mask is that of a cut step, and each cut step onward has its direction there
+abbrev pub CutIn : SpanWalk → WalkPosition → ℕ → Type 0
+CutIn walk cell directions = CutDirections walk.grid.width walk.grid.height walk.grid.cells.now (segment_of walk.g) cell.x cell.y directions

@@ -8,10 +8,9 @@ ghost use Rattle.span_geometry.specs.Strips.{Usable};
 ghost use Rattle.span_geometry.specs.Candidates.{major_side, minor_side};
 ghost use Rattle.grid_steps.specs.Grids.{terrain_of};
 ghost use Rattle.cut_steps.specs.CutSteps.{cut_span};
-ghost use Rattle.cut_steps.specs.Cell.{CutDirections};
 ghost use Rattle.cut_steps.specs.Crossed.{Crossed, CrossedAt, FollowsIn, BetweenAsked, Parted, EndsPart, PartAsked};
 ghost use Rattle.cut_steps.specs.Visits.{VisitLaws};
-ghost use Rattle.cut_steps.specs.Walks.{walk_map, cell_steps, across_steps, column_steps, columns_steps, CellIn, ColumnIn, ColumnsIn, SpanIn, max_cells};
+ghost use Rattle.cut_steps.specs.Walks.{walk_map, cell_steps, across_steps, column_steps, columns_steps, CellIn, ColumnIn, ColumnsIn, SpanIn, CutIn, max_cells};
 
 use super::cell::{cut_directions, is_near, side_changes};
 use super::extents::{near_axis, near_range};
@@ -25,13 +24,6 @@ use span_geometry::{PIXELS_PER_WALK_CELL, SpanGeometry};
 const ENDS_AFTER: u64 = 11;
 
 const BEGINS_BEFORE: u64 = 4;
-
-// The first number where the test holds, else the second.
-fn pick(test: bool, first: usize, second: usize) -> usize
-    ensures { result ≡ cond test first second }
-{
-    if test { first } else { second }
-}
 
 // A span on a grid, and its strip.
 #[derive(Clone, Copy)]
@@ -48,9 +40,10 @@ impl SpanWalk<'_> {
         ensures x { result.x ≡ cond self.entry.strip.columns k m }
         ensures y { result.y ≡ cond self.entry.strip.columns m k }
     {
-        WalkPosition {
-            x: pick(columns, k, m),
-            y: pick(columns, m, k),
+        if columns {
+            WalkPosition { x: k, y: m }
+        } else {
+            WalkPosition { x: m, y: k }
         }
     }
 
@@ -58,7 +51,8 @@ impl SpanWalk<'_> {
     fn length(self) -> usize
         ensures { result ≡ major_side self.entry.strip self.entry.grid.width self.entry.grid.height }
     {
-        pick(self.strip.columns, self.grid.width, self.grid.height)
+        let TerrainGrid { width, height, .. } = self.grid;
+        if self.strip.columns { width } else { height }
     }
 
     // How many cells each of them has.
@@ -66,7 +60,8 @@ impl SpanWalk<'_> {
         requires { columns ≡ self.strip.columns }
         ensures { result ≡ minor_side self.entry.strip self.entry.grid.width self.entry.grid.height }
     {
-        pick(columns, self.grid.height, self.grid.width)
+        let TerrainGrid { width, height, .. } = self.grid;
+        if columns { height } else { width }
     }
 }
 
@@ -83,13 +78,12 @@ pub trait StepVisitor {
         requires asked { CellIn walk cell }
         requires crossed { Crossed (segment_of walk.g) (at cell.x cell.y) changes }
         requires is_ready { ready (walk_map walk) (cell_steps walk cell) 1 self.now }
-        ensures { CutDirections walk.entry.grid.width walk.entry.grid.height walk.entry.grid.cells.now (segment_of walk.entry.g) cell.x cell.y result };
+        ensures { CutIn walk.entry cell result };
 
     // Visits the cut steps of a cell, whose directions are given.
     fn visit(&mut self, walk: SpanWalk, cell: WalkPosition, directions: u16)
         requires asked { CellIn walk cell }
-        requires directions { CutDirections walk.grid.width walk.grid.height walk.grid.cells.now
-            (segment_of walk.g) cell.x cell.y directions }
+        requires directions { CutIn walk cell directions }
         requires is_ready { ready (walk_map walk) (cell_steps walk cell) 1 self.old }
         ensures { visited (walk_map walk.entry) (cell_steps walk.entry cell) 1 self.old self.new };
 
@@ -134,7 +128,8 @@ fn is_placed(beyond: usize, limit: usize) -> bool
     beyond - 2 < limit
 }
 
-// Visits the cut steps of the cell at `beyond` - 2 across column, or row, k, if there is one. Its changes of sides are given.
+// Visits the cut steps of the cell at `beyond` - 2 across column, or row, k, if there is one. Its changes of sides are given. Whether the strip goes by columns is a
+// parameter of the type, so that the loop between the span's ends is compiled for either: asked at each cell, it made assessing long spans take a seventh longer.
 fn walk_across<V: StepVisitor, const COLUMNS: bool>(
     walk: SpanWalk,
     visitor: &mut V,
