@@ -8,7 +8,7 @@ ghost use Rattle.definitions.specs.Grid.{Map};
 ghost use Rattle.pass_lists.specs.Contract.{Partitioned, Viewed};
 ghost use Rattle.pass_lists.specs.Finished.{Finishes, Finished};
 
-use call_partition::scratch::clear_scratch;
+use areas::scratch::clear_scratch;
 use context::PartitionContext;
 use context::anchored::mark_anchored;
 use context::pairs::{Pair, pair_starts};

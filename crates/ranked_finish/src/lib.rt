@@ -9,7 +9,7 @@ ghost use Rattle.ranked_list.specs.RankedList.{numbers_per_ranked};
 ghost use Rattle.pass_lists.specs.Finished.{Finishes};
 ghost use Rattle.ranked_finish.specs.Ends.{RankedRefused, RankedFinished};
 
-use call_partition::scratch::clear_scratch;
+use areas::scratch::clear_scratch;
 use pass_lists::finish;
 use ranked_rows::NUMBERS_PER_RANKED;
 
