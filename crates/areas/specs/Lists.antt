@@ -6,6 +6,10 @@ use Rattle.areas.specs.declared.lists.PartitionLists.{PartitionLists}
 abbrev pub of_lists {ℓ} : {A : Type ℓ} → (List ℕ → List ℕ → List ℕ → List ℕ → List ℕ → A) → PartitionLists → A
 of_lists P x = P x.labels.now x.masks.now x.queue.now x.tallies.now x.pairs.now
 
+-- P of the lengths of labels, masks, queue and tallies, in this order
+abbrev pub of_lengths {ℓ} : {A : Type ℓ} → (ℕ → ℕ → ℕ → ℕ → A) → PartitionLists → A
+of_lengths P x = P (length x.labels.now) (length x.masks.now) (length x.queue.now) (length x.tallies.now)
+
 -- y refers to the lists of x, which are as long as they were
 pub record SameLists (x y : PartitionLists) : Type 0 where
   pub labels : y.labels.ghost_name ≡ x.labels.ghost_name

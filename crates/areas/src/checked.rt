@@ -1,7 +1,8 @@
 // The checks that come before the partition, in the order of the table of SPECIFICATION 4: 1, 2, 3, 5 and 6, 10.
-ghost use Rattle.std.specs.Prelude.{◌≡◌, length};
+ghost use Rattle.std.specs.Prelude.{◌≡◌};
 ghost use Rattle.refusals.specs.Refusals.{refusal_in};
 ghost use Rattle.areas.specs.Contract.{early_refusal};
+ghost use Rattle.areas.specs.Lists.{of_lengths};
 
 use crate::lists::PartitionLists;
 use checks::limits::NUMBERS_PER_SPAN;
@@ -17,8 +18,7 @@ pub fn checks_before(
     spans: &[u64],
     lists: &PartitionLists,
 ) -> Result<(), Refusal>
-    ensures { refusal_in result ≡ early_refusal width height cells.now spans.now
-        (length lists.now.labels.now) (length lists.now.masks.now) (length lists.now.queue.now) (length lists.now.tallies.now) }
+    ensures { refusal_in result ≡ of_lengths (early_refusal width height cells.now spans.now) lists.now }
 {
     ensure(sides_fit(width, height), Cause::Sides)?;
     ensure(cells_fit(width, height, cells), Cause::Cells)?;

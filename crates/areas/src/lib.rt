@@ -7,11 +7,10 @@ pub mod labels;
 pub mod lists;
 pub mod scratch;
 
-ghost use Rattle.std.specs.Prelude.{length};
 ghost use Rattle.areas.specs.Contract.{given, Ran};
 ghost use Rattle.areas.specs.Divided.{Divided};
 ghost use Rattle.areas.specs.Fit.{Fit};
-ghost use Rattle.areas.specs.Lists.{of_lists, SameLists};
+ghost use Rattle.areas.specs.Lists.{of_lists, of_lengths, SameLists};
 
 use assessments::assess_spans;
 use checked::checks_before;
@@ -22,13 +21,8 @@ use refusals::{Cause, Refusal};
 use scratch::clear_scratch;
 
 // The partition of lists that no check before it refuses. Where there are more pairs than rows, the answer is refusal 12.
-fn divide(
-    grid: TerrainGrid,
-    spans: &[u64],
-    lists: &mut PartitionLists,
-) -> Result<usize, Refusal>
-    requires { Fit grid.width grid.height grid.cells.now spans.now
-        (length lists.old.labels.now) (length lists.old.masks.now) (length lists.old.queue.now) (length lists.old.tallies.now) }
+fn divide(grid: TerrainGrid, spans: &[u64], lists: &mut PartitionLists) -> Result<usize, Refusal>
+    requires { of_lengths (Fit grid.width grid.height grid.cells.now spans.now) lists.old }
     ensures divided { of_lists (of_lists (Divided grid.entry.width grid.entry.height grid.entry.cells.now spans.now) lists.old result) lists.new }
     ensures same { SameLists lists.old lists.new }
 {
@@ -36,14 +30,7 @@ fn divide(
     let labels = &mut *lists.labels;
     let masks = &mut *lists.masks;
     let regions = label_regions(grid, spans, labels, masks, lists.queue);
-    let rows = assess_spans(
-        grid,
-        &*masks,
-        spans,
-        &*labels,
-        lists.tallies,
-        lists.pairs,
-    );
+    let rows = assess_spans(grid, &*masks, spans, &*labels, lists.tallies, lists.pairs);
     clear_scratch(masks, lists.queue, needed);
     match rows {
         Some(_) => Ok(regions),

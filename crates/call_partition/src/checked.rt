@@ -1,9 +1,10 @@
 // Checks 1 to 10 of the table of SPECIFICATION 4, in its order.
-ghost use Rattle.std.specs.Prelude.{◌≡◌, ◌&&◌, ◌≤◌, length};
+ghost use Rattle.std.specs.Prelude.{◌≡◌, ◌&&◌, ◌≤◌};
 ghost use Rattle.definitions.specs.Limits.{max_side, numbers_per_span, numbers_per_boundary, numbers_per_anchor};
 ghost use Rattle.definitions.specs.Refusals.{unless, partition_room, output_room};
 ghost use Rattle.definitions.specs.Verdict.{refusal};
 ghost use Rattle.refusals.specs.Refusals.{refusal_in};
+ghost use Rattle.areas.specs.Lists.{of_lengths};
 ghost use Rattle.call_partition.specs.Asking.{of_asked};
 ghost use Rattle.call_partition.specs.Early.{is_whole_of, sizes_refusal, entries_refusal, early_refusal};
 
@@ -29,10 +30,7 @@ fn all_whole(spans: usize, boundaries: usize, anchors: usize) -> bool
 }
 
 // Checks 1 to 4.
-pub fn check_sizes(
-    pass: u64,
-    asked: Asked,
-) -> Result<(), Refusal>
+pub fn check_sizes(pass: u64, asked: Asked) -> Result<(), Refusal>
     ensures { refusal_in result ≡ of_asked (sizes_refusal pass) asked.entry }
 {
     ensure(sides_fit(asked.width, asked.height), Cause::Sides)?;
@@ -48,16 +46,20 @@ pub fn check_sizes(
 }
 
 // Checks 5 to 9.
-pub fn check_entries(
-    asked: Asked,
-) -> Result<(), Refusal>
+pub fn check_entries(asked: Asked) -> Result<(), Refusal>
     requires { (asked.width ≤ max_side) × (asked.height ≤ max_side) }
     ensures { refusal_in result ≡ of_asked entries_refusal asked.entry }
 {
     let Asked { width, height, .. } = asked;
     spans_fault(width, height, asked.spans)?;
-    no_fault(boundaries_fault(width, height, asked.boundaries), Cause::Boundary)?;
-    no_fault(anchors_fault(width, height, asked.anchors), Cause::AnchorOutside)?;
+    no_fault(
+        boundaries_fault(width, height, asked.boundaries),
+        Cause::Boundary,
+    )?;
+    no_fault(
+        anchors_fault(width, height, asked.anchors),
+        Cause::AnchorOutside,
+    )?;
     no_fault(elevations_fault(asked.cells), Cause::Elevation)
 }
 
@@ -69,9 +71,7 @@ pub fn check_room(
     lists: &PartitionLists,
     output: usize,
 ) -> Result<(), Refusal>
-    ensures { refusal_in result ≡ refusal 10 (unless (partition_room cells spans
-        (length lists.now.labels.now) (length lists.now.masks.now) (length lists.now.queue.now) (length lists.now.tallies.now)
-        && output_room boundaries output)) }
+    ensures { refusal_in result ≡ refusal 10 (unless (of_lengths (partition_room cells spans) lists.now && output_room boundaries output)) }
 {
     let partition = partition_has_room(
         cells,
@@ -91,8 +91,7 @@ pub fn checks_before(
     lists: &PartitionLists,
     output: usize,
 ) -> Result<(), Refusal>
-    ensures { refusal_in result ≡ of_asked (early_refusal pass) asked.entry
-        (length lists.now.labels.now) (length lists.now.masks.now) (length lists.now.queue.now) (length lists.now.tallies.now) output }
+    ensures { refusal_in result ≡ of_lengths (of_asked (early_refusal pass) asked.entry) lists.now output }
 {
     check_sizes(pass, asked)?;
     check_entries(asked)?;

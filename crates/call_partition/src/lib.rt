@@ -6,9 +6,8 @@
 pub mod asked;
 pub mod checked;
 
-ghost use Rattle.std.specs.Prelude.{length};
 ghost use Rattle.areas.specs.Fit.{Fit};
-ghost use Rattle.areas.specs.Lists.{of_lists, SameLists};
+ghost use Rattle.areas.specs.Lists.{of_lists, of_lengths, SameLists};
 ghost use Rattle.call_partition.specs.Asking.{of_asked};
 ghost use Rattle.call_partition.specs.Prepared.{PreparedAs, DividedAs};
 
@@ -37,8 +36,7 @@ pub fn divide(
     room: usize,
     lists: &mut PartitionLists,
 ) -> Result<Ready, Refusal>
-    requires { Fit grid.width grid.height grid.cells.now spans.now
-        (length lists.old.labels.now) (length lists.old.masks.now) (length lists.old.queue.now) (length lists.old.tallies.now) }
+    requires { of_lengths (Fit grid.width grid.height grid.cells.now spans.now) lists.old }
     ensures divided { of_lists (of_lists (DividedAs grid.entry.width grid.entry.height grid.entry.cells.now spans.now room) lists.old result) lists.new }
     ensures same { SameLists lists.old lists.new }
 {
@@ -56,14 +54,7 @@ pub fn divide(
             place: 0,
         });
     }
-    let rows = assess_spans(
-        grid,
-        &*masks,
-        spans,
-        &*labels,
-        lists.tallies,
-        lists.pairs,
-    );
+    let rows = assess_spans(grid, &*masks, spans, &*labels, lists.tallies, lists.pairs);
     match rows {
         Some(rows) => Ok(Ready { regions, rows }),
         None => {

@@ -77,7 +77,10 @@ fn check_places(
     let boundaries = desk.boundaries;
     no_fault(boundaries_fault(width, height, boundaries), Cause::Boundary)?;
     no_fault(desk_fault(spans, boundaries), Cause::Desk)?;
-    no_fault(anchors_fault(width, height, desk.anchors), Cause::AnchorOutside)?;
+    no_fault(
+        anchors_fault(width, height, desk.anchors),
+        Cause::AnchorOutside,
+    )?;
     let room = output_has_room(boundaries.len() / NUMBERS_PER_BOUNDARY, output);
     ensure(room, Cause::Room)
 }

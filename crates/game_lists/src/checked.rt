@@ -1,7 +1,7 @@
 // The checks of the call before its first partition, in their order: 1 to 4, 16, and 5 to 10; and this partition.
-ghost use Rattle.std.specs.Prelude.{◌≡◌, length};
+ghost use Rattle.std.specs.Prelude.{◌≡◌};
 ghost use Rattle.refusals.specs.Refusals.{refusal_in};
-ghost use Rattle.areas.specs.Lists.{of_lists, SameLists};
+ghost use Rattle.areas.specs.Lists.{of_lists, of_lengths, SameLists};
 ghost use Rattle.call_partition.specs.Asking.{of_asked};
 ghost use Rattle.game_lists.specs.Early.{game_early};
 ghost use Rattle.game_lists.specs.Prepared.{GamePreparedAs};
@@ -24,8 +24,7 @@ pub fn game_checks(
     output: usize,
     verdicts: usize,
 ) -> Result<(), Refusal>
-    ensures { refusal_in result ≡ of_asked (game_early pass) asked.entry
-        (length lists.now.labels.now) (length lists.now.masks.now) (length lists.now.queue.now) (length lists.now.tallies.now) output verdicts }
+    ensures { refusal_in result ≡ of_lengths (of_asked (game_early pass) asked.entry) lists.now output verdicts }
 {
     check_sizes(pass, asked)?;
     no_fault(lists_fault(asked.spans, asked.boundaries), Cause::Lists)?;

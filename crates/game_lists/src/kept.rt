@@ -40,7 +40,8 @@ pub fn divide_kept(
     lists: &mut PartitionLists,
 ) -> Ready
     requires { (S : Source) × of_lists (Divides (lent_of grid.width grid.height grid.cells.now spans.now S) removed.now rows room) lists.old }
-    ensures divided { (S : Source) → of_lists (Divides (lent_of grid.entry.width grid.entry.height grid.entry.cells.now spans.now S) removed.now rows room) lists.old
+    ensures divided { (S : Source)
+        → of_lists (Divides (lent_of grid.entry.width grid.entry.height grid.entry.cells.now spans.now S) removed.now rows room) lists.old
         → of_lists (of_lists (DividedKept (lent_of grid.entry.width grid.entry.height grid.entry.cells.now spans.now S)) lists.old result) lists.new }
     ensures same { SameLists lists.old lists.new }
 {

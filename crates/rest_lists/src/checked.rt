@@ -1,6 +1,7 @@
 // The checks of a run to rest before its first pass, in their order: 1 to 3, 16, and 5 to 10.
-ghost use Rattle.std.specs.Prelude.{◌≡◌, length};
+ghost use Rattle.std.specs.Prelude.{◌≡◌};
 ghost use Rattle.refusals.specs.Refusals.{refusal_in};
+ghost use Rattle.areas.specs.Lists.{of_lengths};
 ghost use Rattle.call_partition.specs.Asking.{of_asked};
 ghost use Rattle.rest_lists.specs.Early.{rest_early};
 
@@ -12,13 +13,8 @@ use checks::limits::{NUMBERS_PER_BOUNDARY, NUMBERS_PER_SPAN};
 use refusals::{Cause, Refusal, no_fault};
 
 // Of the lists that are filled, only the lengths matter. No pass is asked for: pass 1 fits.
-pub fn rest_checks(
-    asked: Asked,
-    lists: &PartitionLists,
-    output: usize,
-) -> Result<(), Refusal>
-    ensures { refusal_in result ≡ of_asked rest_early asked.entry
-        (length lists.now.labels.now) (length lists.now.masks.now) (length lists.now.queue.now) (length lists.now.tallies.now) output }
+pub fn rest_checks(asked: Asked, lists: &PartitionLists, output: usize) -> Result<(), Refusal>
+    ensures { refusal_in result ≡ of_lengths (of_asked rest_early asked.entry) lists.now output }
 {
     check_sizes(1, asked)?;
     no_fault(lists_fault(asked.spans, asked.boundaries), Cause::Lists)?;

@@ -11,13 +11,7 @@ use crate::run::scan_row;
 use crate::south::join_rows;
 
 // The rows from `up` and from `up` + `width` on. Where no step from the upper row is cut, its straight steps have joined the diagonal ones already.
-fn join_pair(
-    grid: CutGrid,
-    parents: &mut [u32],
-    queue: &[u32],
-    up: usize,
-    marked: bool,
-)
+fn join_pair(grid: CutGrid, parents: &mut [u32], queue: &[u32], up: usize, marked: bool)
     requires { PairAsked grid.width grid.cells.now grid.masks.now parents.old queue.now up marked }
     ensures { (n : ℕ) (name : ℕ → ℕ) →
         Forest n name parents.old →
@@ -34,13 +28,7 @@ fn join_pair(
 }
 
 // Row y, where the rows before it are joined. Whether the row above has marks is known; the result says it of row y.
-fn join_row(
-    grid: CutGrid,
-    parents: &mut [u32],
-    queue: &mut [u32],
-    y: usize,
-    above: bool,
-) -> bool
+fn join_row(grid: CutGrid, parents: &mut [u32], queue: &mut [u32], y: usize, above: bool) -> bool
     requires { RowAsked grid.width grid.cells.now grid.masks.now parents.old queue.old y above }
     ensures { (n : ℕ) →
         y * grid.entry.width + grid.entry.width ≤ n →
@@ -60,12 +48,7 @@ fn join_row(
 }
 
 // All rows. Parents lead to one name for the cells that uncut steps join; the queue has the stretches of each row.
-pub fn join_cells(
-    grid: CutGrid,
-    height: usize,
-    parents: &mut [u32],
-    queue: &mut [u32],
-)
+pub fn join_cells(grid: CutGrid, height: usize, parents: &mut [u32], queue: &mut [u32])
     requires { CellsAsked grid.width height grid.cells.now grid.masks.now parents.old queue.old }
     ensures { CellsJoined grid.entry.width height grid.entry.cells.now grid.entry.masks.now parents.old queue.old
         parents.new queue.new }

@@ -48,9 +48,7 @@ fn run_end(grid: CutGrid, from: usize, end: usize) -> usize
     requires { (1 ≤ from) × (from ≤ end) × (end ≤ length grid.cells.now) × (end ≤ length grid.masks.now) }
     ensures { Until (goes_on grid.entry.cells.now grid.entry.masks.now) from end result }
 {
-    (from..end)
-        .find(|&c| !goes_on(grid, c))
-        .unwrap_or(end)
+    (from..end).find(|&c| !goes_on(grid, c)).unwrap_or(end)
 }
 
 // The first cell from `from` on whose step to the south is not cut.

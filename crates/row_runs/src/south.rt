@@ -21,12 +21,7 @@ fn end_at(queue: &[u32], c: usize, known: usize) -> usize
 }
 
 // The cells from `from` up to `end` lie in one stretch, and those below them in another: where both are runs, one uncut step between them joins the two.
-fn join_overlap(
-    grid: CutGrid,
-    parents: &mut [u32],
-    from: usize,
-    end: usize,
-)
+fn join_overlap(grid: CutGrid, parents: &mut [u32], from: usize, end: usize)
     requires { OverlapAsked grid.width grid.cells.now grid.masks.now parents.old from end }
     ensures { (n : ℕ) (name : ℕ → ℕ) →
         Forest n name parents.old →
@@ -47,12 +42,7 @@ fn join_overlap(
 }
 
 // The rows from `up` and from `up` + `width` on, from one end of a stretch to the next.
-pub fn join_rows(
-    grid: CutGrid,
-    parents: &mut [u32],
-    queue: &[u32],
-    up: usize,
-)
+pub fn join_rows(grid: CutGrid, parents: &mut [u32], queue: &[u32], up: usize)
     requires { RowsAsked grid.width grid.cells.now grid.masks.now parents.old queue.now up }
     ensures { (n : ℕ) (name : ℕ → ℕ) →
         Forest n name parents.old →

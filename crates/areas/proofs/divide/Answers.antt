@@ -1,7 +1,7 @@
 -- `areas::divide` meets its contract: labels, assessed spans, and cleared masks and queue, put together in Dividing. Assumes nothing.
-use Rattle.std.proofs.Common.{rules, arith, ◌≡◌, ◌*◌}
-use lib.ListN.{take, replicate, length}
-use Rattle.areas.proofs.Clearing.{cleared_front, cleared_all}
+use Rattle.std.proofs.Common.{rules, ◌≡◌}
+use lib.ListN.{replicate, length}
+use Rattle.areas.proofs.Clearing.{cleared_all}
 use Rattle.areas.proofs.Dividing.{divided_whole, divided_short}
 use Rattle.areas.proofs.divide.Goals as goal
 

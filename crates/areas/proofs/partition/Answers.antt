@@ -12,4 +12,3 @@ pub returns-in_err-checks_before-clause-ran : goal.returns-in_err-checks_before-
 returns-in_err-checks_before-clause-ran c =
     let r : c.from_residual.result ≡ Err c.in_err-checks_before.field-0.0 = search rules in
     rw r (ran-refused _ _ _ _ _ _ _ _ _ c.in_err-checks_before.field-0.0 c.in_err-checks_before.ensures)
-

@@ -1,6 +1,5 @@
 -- `row_runs::label_cells` meets its contract. Assumes nothing.
-use native.Mathlib.Omega.{arith}
-use Rattle.row_runs.proofs.Labels.{grid-few, cells-asked, number-asked, finished, finished-beyond, labelled-all}
+use Rattle.row_runs.proofs.Labels.{number-asked, finished, labelled-all}
 use Rattle.row_runs.proofs.label_cells.Goals as goal
 
 pub number-requires : goal.number-requires

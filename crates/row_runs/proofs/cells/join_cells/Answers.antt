@@ -1,5 +1,4 @@
 -- `row_runs::cells::join_cells` meets its contract. The loop's invariant is `Joining`; the measure is how many rows are left. Assumes nothing.
-use native.Mathlib.Omega.{arith}
 use Rattle.row_runs.proofs.AllRows.{joining_starts, row-asked, joining_goes_on, joining_ends}
 use Rattle.row_runs.proofs.cells.join_cells.Goals as goal
 

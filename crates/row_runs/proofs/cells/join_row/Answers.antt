@@ -1,6 +1,5 @@
 -- `row_runs::cells::join_row` meets its contract. Assumes nothing.
-use native.Mathlib.Omega.{arith}
-use Rattle.row_runs.proofs.RowByRow.{row-few, scan_asked, room-above, first_done, other-asked, other-done}
+use Rattle.row_runs.proofs.RowByRow.{first_done, other-asked, other-done}
 use Rattle.row_runs.proofs.cells.join_row.Goals as goal
 
 pub returns-then-y-eq0 : goal.returns-then-y-eq0

@@ -1,5 +1,4 @@
 -- `row_runs::corners::is_square` meets its contract: the four tests are the definition's. Assumes nothing.
-use native.Mathlib.Omega.{arith}
 use mathlib.Core.Path.{sym, ◌∙◌}
 use borrow.Author.Tests.{not-true, not-false}
 use Rattle.row_runs.proofs.CornerNames.{square_first, square-second, square-third, square_last}

@@ -1,9 +1,8 @@
 -- `row_runs::corners::join_corners` meets its contract: a square without marks and one that is not walkable need nothing, and else both steps are asked.
 -- Assumes nothing.
-use native.Mathlib.Omega.{arith}
 use mathlib.Core.Path.{sym, ◌∙◌}
-use borrow.Author.Tests.{not-true, not-false}
-use Rattle.row_runs.proofs.CornerNames.{corners-plain, corners-blocked, corners-done, first_asked, second-asked, corners-small}
+use borrow.Author.Tests.{not-false}
+use Rattle.row_runs.proofs.CornerNames.{corners-done, second-asked}
 use Rattle.row_runs.proofs.corners.join_corners.Goals as goal
 
 pub join_step-requires-2 : goal.join_step-requires-2

@@ -1,6 +1,6 @@
 -- `row_runs::corners::join_diagonals` meets its contract. The loop's invariant is `Cornering`. Assumes nothing.
 use native.Mathlib.Omega.{arith}
-use Rattle.row_runs.proofs.CornerNames.{cornering_starts, cornering_goes_on, cornering_ends, corners-asked, cornering_long}
+use Rattle.row_runs.proofs.CornerNames.{cornering_starts, cornering_goes_on, cornering_ends, corners-asked}
 use Rattle.row_runs.proofs.corners.join_diagonals.Goals as goal
 
 pub loop-c-init : goal.loop-c-init

@@ -1,6 +1,6 @@
 -- `row_runs::corners::join_step` meets its contract, by its two ways. Assumes nothing.
 use mathlib.Core.Path.{sym, ◌∙◌}
-use Rattle.row_runs.proofs.CornerNames.{step_stays, step-links, step-placed}
+use Rattle.row_runs.proofs.CornerNames.{step_stays, step-links}
 use Rattle.row_runs.proofs.corners.join_step.Goals as goal
 
 pub returns-then-is_cut : goal.returns-then-is_cut

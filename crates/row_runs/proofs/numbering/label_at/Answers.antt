@@ -1,10 +1,9 @@
 -- `row_runs::numbering::label_at` meets its contract: the tests are the definition's. Assumes nothing.
 use mathlib.Core.Path.{◌≡◌, sym, ◌∙◌}
 use mathlib.Core.Bool.{true}
-use native.Mathlib.Omega.{arith}
-use borrow.Author.Tests.{not-true, not-false}
+use borrow.Author.Tests.{not-false}
 use Rattle.row_runs.specs.Stretch.{walks}
-use Rattle.row_runs.proofs.Numbers.{label-gap, label-new, label-known}
+use Rattle.row_runs.proofs.Numbers.{label-new, label-known}
 use Rattle.row_runs.proofs.numbering.label_at.Goals as goal
 
 pub returns-then-p-c : goal.returns-then-p-c

@@ -1,7 +1,7 @@
 -- `row_runs::numbering::number` meets its contract. The loop's invariant is `Numbering`; the measure is how many cells are left. Assumes nothing.
 use native.Mathlib.Omega.{arith}
 use mathlib.Core.Path.{refl}
-use Rattle.row_runs.proofs.Numbers.{numbering_starts, numbering_goes_on, numbering_ends, labels_long_lem, end_more, end-inside, room, label-asked}
+use Rattle.row_runs.proofs.Numbers.{numbering_starts, numbering_goes_on, numbering_ends, end_more, end-inside, room, label-asked}
 use Rattle.row_runs.proofs.numbering.number.Goals as goal
 
 pub loop-c-init : goal.loop-c-init

@@ -1,5 +1,4 @@
 -- `row_runs::row::stretch_end` meets its contract, by each of its two ways. Assumes nothing.
-use native.Mathlib.Omega.{arith}
 use mathlib.Core.Path.{sym, ap, ◌∙◌}
 use mathlib.Core.Bool.{◌&&◌}
 use Rattle.laws.specs.ListLaws.Tests.{both}

@@ -1,5 +1,4 @@
 -- `row_runs::run::put_run` meets its contract: what is filled with the first cell is the run's. Assumes nothing.
-use native.Mathlib.Omega.{arith}
 use Rattle.row_runs.proofs.RunNames.{run_put}
 use Rattle.row_runs.proofs.run.put_run.Goals as goal
 

@@ -1,7 +1,7 @@
 -- `row_runs::run::put_stretch` meets its contract: a gap's cells are alone already, and a run's are put under its first. Assumes nothing.
 use mathlib.Core.Path.{sym, ◌∙◌}
-use borrow.Author.Tests.{not-true, not-false}
-use Rattle.row_runs.proofs.RowNames.{gap-put, run-put}
+use borrow.Author.Tests.{not-false}
+use Rattle.row_runs.proofs.RowNames.{run-put}
 use Rattle.row_runs.proofs.run.put_stretch.Goals as goal
 
 pub returns : goal.returns

@@ -1,6 +1,5 @@
 -- `row_runs::run::scan_row` meets its contract. The loop's invariant is `Scanning`; the measure is how many cells are left. Assumes nothing.
-use native.Mathlib.Omega.{arith}
-use Rattle.row_runs.proofs.RowNames.{scanning_starts, scanning_goes_on, scanning_ends, stretch-asked, put-asked, parents_long_lem, few}
+use Rattle.row_runs.proofs.RowNames.{scanning_starts, scanning_goes_on, scanning_ends, put-asked}
 use Rattle.row_runs.proofs.run.scan_row.Goals as goal
 
 pub loop-c-init : goal.loop-c-init

@@ -1,5 +1,4 @@
 -- `row_runs::south::join_overlap` meets its contract: each of the first three ways shows that nothing is to join, and the last has an uncut step. Assumes nothing.
-use native.Mathlib.Omega.{arith}
 use mathlib.Core.Path.{sym, ◌∙◌}
 use borrow.Author.Tests.{not-true, not-false}
 use Rattle.row_runs.proofs.SouthNames.{blocked-above, blocked-below, all-cut, one_joined}

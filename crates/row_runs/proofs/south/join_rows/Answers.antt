@@ -1,7 +1,7 @@
 -- `row_runs::south::join_rows` meets its contract. The loop's invariant is `Southing`; the measure is how many columns are left. Assumes nothing.
 use Prim.Native.Nat.{◌+◌}
 use native.Mathlib.Omega.{arith}
-use Rattle.row_runs.proofs.SouthNames.{Reach, southing_starts, upper-reach, lower-reach, overlap, overlap-asked, southing_goes_on, southing_ends, southing_long}
+use Rattle.row_runs.proofs.SouthNames.{Reach, southing_starts, upper-reach, lower-reach, overlap, overlap-asked, southing_goes_on, southing_ends}
 use Rattle.row_runs.proofs.south.join_rows.Goals as goal
 
 pub loop-c-init : goal.loop-c-init

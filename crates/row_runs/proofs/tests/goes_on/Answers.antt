@@ -1,5 +1,4 @@
 -- `row_runs::tests::goes_on` meets its contract: the two tests are the definition's. Assumes nothing.
-use native.Mathlib.Omega.{arith}
 use mathlib.Core.Path.{sym, ◌∙◌}
 use borrow.Author.Tests.{not-true, not-false}
 use Rattle.row_runs.proofs.Stretches.{goes_on-blocked, goes_on_by}
