@@ -1,10 +1,10 @@
 -- One entry more: what is remembered with it says of the rest what was said of both before. Assumes nothing.
 use Prim.Native.Nat.{ℕ, ◌+◌}
 use mathlib.Core.Path.{◌≡◌, refl, sym, ap, ◌∙◌}
-use mathlib.Core.Bool.{Bool, true, false, ◌&&◌, ◌||◌, cond}
+use mathlib.Core.Bool.{Bool, true, false, cond}
 use Rattle.std.specs.Prelude.{Option, None, Some, Result, Ok, Err}
 use mathlib.Core.List.{List, [], ◌∷◌}
-use lib.Dec.{leb, ltb, eqb}
+use lib.Dec.{leb}
 use Rattle.definitions.specs.Sort.{list_lt}
 use Rattle.results.specs.Result.{Entry, out_of_turn, in_turn, turns, ascent_fault}
 use Rattle.result_writer.specs.Contract.{turn_of}

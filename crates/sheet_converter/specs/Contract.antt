@@ -7,8 +7,6 @@ use Rattle.definitions.specs.SheetNumber.{Read, found, failed}
 use Rattle.definitions.specs.Sheet.{endpoints_of, Sheet, well_formed}
 use Rattle.sheet.specs.declared.Plan.{Plan}
 use Rattle.sheet.specs.Parts.{sheet_of}
-use Rattle.refusals.specs.declared.Refusal as code
-use Rattle.refusals.specs.Refusals.{number_of}
 use Rattle.results.specs.Shortest.{shortest}
 use Rattle.map_sheets.specs.SheetBytes.{sheet_bytes}
 use Rattle.map_sheets.specs.Writing.{written_at_exit}

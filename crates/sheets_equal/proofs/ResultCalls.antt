@@ -1,6 +1,6 @@
 -- Requests 1 and 3 over calls that read result sheets. What is assumed, whole: two such calls answer as `read_verdict` has it and fill their lists as `at_exit` has
 -- it, their answers are 0, and their bytes are below 256. Then the bytes are equal exactly when the callers have the same result.
-use Rattle.std.specs.Prelude.{ℕ, ◌*◌, ◌/◌, ◌<◌, ◌↔◌, Bool, true, false, ◌&&◌, cond, List, [], leb, length, take, get_or, Option, None, Some}
+use Rattle.std.specs.Prelude.{ℕ, ◌*◌, ◌/◌, ◌<◌, ◌↔◌, Bool, true, false, ◌&&◌, cond, List, leb, length, take, Option, None, Some}
 use Rattle.std.proofs.Common.{arith, sym, ◌∙◌}
 use Rattle.std.proofs.Math.Path.{◌≡◌, refl, ap, subst}
 use Rattle.definitions.specs.Limits.{tallies_per_span, numbers_per_pair, numbers_per_row}

@@ -22,7 +22,7 @@ overflow_add-front c =
 
 pub returns-then-out-front : goal.returns-then-out-front
 returns-then-out-front c =
-    rw c.from.ensures (plan-short c.args.bytes.now c.args.plan c.args.out.now c.in_default.ensures (omega (arith, c.if-out-front.true, cut-long (bytes-known c.args.bytes.now (λ i. omega (arith, c.shared_slice_known-1.given i))) c.requires.held c.requires.old)))
+    rw c.from-then-out-front.ensures (plan-short c.args.bytes.now c.args.plan c.args.out.now c.in_default.ensures (omega (arith, c.if-out-front.true, cut-long (bytes-known c.args.bytes.now (λ i. omega (arith, c.shared_slice_known-1.given i))) c.requires.held c.requires.old)))
 
 pub put_converted-size-requires : goal.put_converted-size-requires
 put_converted-size-requires c =

@@ -23,4 +23,4 @@ returns-in-Ok c =
 
 pub returns-in-Err : goal.returns-in-Err
 returns-in-Err c =
-    rw c.from.ensures (converts_refused c.args.bytes.now c.args.out.now (sym c.is_other_kind.ensures ∙ c.if-is_other_kind.false) c.in-Err.ensures)
+    rw c.from-in-Err.ensures (converts_refused c.args.bytes.now c.args.out.now (sym c.is_other_kind.ensures ∙ c.if-is_other_kind.false) c.in-Err.ensures)
