@@ -105,9 +105,9 @@ module _ {G : Ground} {w h : ℕ} {spans : List ℕ} {regions rows : ℕ} {l m q
 
   module _ (pass : ℕ) (boundaries anchors o : List ℕ) where
     -- its own lists are refused
-    pub desk-refused : {x : code.Refusal} → Some (refusal_of x) ≡ own_refusal w h spans pass boundaries anchors (length o)
+    pub desk-refused : (x : code.Refusal) → Some (refusal_of x) ≡ own_refusal w h spans pass boundaries anchors (length o)
         → DeskRan G w h spans (desk_of pass boundaries anchors o) m q (answer_of (Err x)) m q o
-    desk-refused own =
+    desk-refused x own =
         record {
           served = served-refused (shared_of w h spans G) (desk_of pass boundaries anchors o) (ap₂ or_else (none_shared P) (sym own));
           same_masks = refl;

@@ -12,7 +12,7 @@ pub returns-in_err-check_desk : goal.returns-in_err-check_desk
 returns-in_err-check_desk c = λ G T.
     let d = c.args.desk in
     let given : c.from_residual.result ≡ Err c.in_err-check_desk.field-0.0 = search rules in
-    rw given (desk-refused T d.pass d.boundaries.now d.anchors.now c.args.output.now c.in_err-check_desk.ensures)
+    rw given (desk-refused T d.pass d.boundaries.now d.anchors.now c.args.output.now c.in_err-check_desk.field-0.0 c.in_err-check_desk.ensures)
 
 pub overflow_mul-needed : goal.overflow_mul-needed
 overflow_mul-needed c =
