@@ -135,11 +135,12 @@ pub fn topology_runner_and_guard(
         Err(refusal) => refused(refusal),
         Ok(ready) => {
             let second = run_kept(pass, asked, ready, lists, records, output);
+            let pairs = &mut *lists.pairs;
             play(
                 second.kept,
                 second.regions,
                 goal,
-                &*lists.pairs,
+                &*pairs,
                 second.rows,
                 verdicts,
             )

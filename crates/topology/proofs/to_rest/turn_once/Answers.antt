@@ -14,8 +14,8 @@ asked : {w h : ℕ} {cells anchors : List ℕ} {O : Origin} {s : List Region} {p
     → Passes (record { height = h; cells = cells; origin = O; lent = s; places = places; first = first }) w (h * w) anchors standing (run-lists l m q t p rs n b d)
 asked T = record { cells_are = refl; stands = T }
 
-pub overflow_mul-height : goal.overflow_mul-height
-overflow_mul-height c = record { fits = omega (arith, needed-few c.requires.lists_stand.3.lists.ready) }
+pub overflow_mul-grid : goal.overflow_mul-grid
+overflow_mul-grid c = record { fits = omega (arith, needed-few c.requires.lists_stand.3.lists.ready) }
 
 pub pass_kept-left-requires-clause-lists_stand : goal.pass_kept-left-requires-clause-lists_stand
 pass_kept-left-requires-clause-lists_stand c = (_, asked c.requires.lists_stand.3)
