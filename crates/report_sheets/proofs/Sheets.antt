@@ -47,13 +47,15 @@ module _ {pass w h : ℕ} {cells spans boundaries anchors l m q t p : List ℕ} 
   ran : Ran (lent pass w h cells spans boundaries anchors) (call-says r') l m q t p s o
   ran = subst (λ x. Ran (lent pass w h cells spans boundaries anchors) (call-says x) l m q t p s o) e R
 
-  pub called-left : CallLeft pass (call-says r').number (call-says r').value o
-  called-left = call-left _ ran.answer ran.output
+  -- where the answer's number is known as k
+  pub called-left : {k : ℕ} → k ≡ (call-says r').number → CallLeft pass k (call-says r').value o
+  called-left e = subst (λ k. CallLeft pass k (call-says r').value o) (sym e) (call-left _ ran.answer ran.output)
 
-  pub called : (count : ℕ) → count ≡ length boundaries / numbers_per_boundary → {Q : Report} {x : Reported}
-      → ReportedCall Q pass (call-says r').number (call-says r').value count o x → AddedReading Q (well_formed (sheet_from pass w h cells spans boundaries anchors)) x
+  pub called : (count : ℕ) → count ≡ length boundaries / numbers_per_boundary → {k : ℕ} → k ≡ (call-says r').number → {Q : Report} {x : Reported}
+      → ReportedCall Q pass k (call-says r').value count o x → AddedReading Q (well_formed (sheet_from pass w h cells spans boundaries anchors)) x
   unfolding reading_answer reading_run lent_for
-  called count same {Q} {x} K =
+  called count same e {Q} {x} told =
+      let K = subst (λ k. ReportedCall Q pass k (call-says r').value count o x) e told in
       record {
         answer = (λ i. record { number = K.same_number i; value = K.same_value i }) ∙ ran.answer;
         report = K.added ∙ ap (added_by sum64 Q) (call-added _ ran.answer ran.output count same);

@@ -31,7 +31,9 @@ module _ {pass w h : ℕ} {cells spans boundaries anchors l m q t p : List ℕ} 
     unfolding lent_for
     ran-fits = sheet-fits (sheet_from pass w h cells spans boundaries anchors) R.answer R.output
 
-    pub ran-printed : (count : ℕ) → count ≡ length boundaries / numbers_per_boundary → {old new : List ℕ} {n : ℕ} → AnswerPrinted a.number a.value o count old new n
+    -- where the answer's number is known as k
+    pub ran-printed : (count : ℕ) → count ≡ length boundaries / numbers_per_boundary → {k : ℕ} → k ≡ a.number → {old new : List ℕ} {n : ℕ} → AnswerPrinted k a.value o count old new n
         → Printed (printed_reading (well_formed (sheet_from pass w h cells spans boundaries anchors))) old new n
     unfolding lent_for
-    ran-printed count e P = sheet-printed (sheet_from pass w h cells spans boundaries anchors) R.answer R.output count e P
+    ran-printed count e same {old} {new} {n} P =
+        sheet-printed (sheet_from pass w h cells spans boundaries anchors) R.answer R.output count e (subst (λ k. AnswerPrinted k a.value o count old new n) same P)

@@ -11,9 +11,8 @@ print-requires-in-Err-clause-rows_fit c = rw c.number.ensures (ran-fits (ran_say
 
 pub returns-in-Ok : goal.returns-in-Ok
 returns-in-Ok c =
-    ran-printed (ran_says c.in-Ok.is c.kept_boundaries_here.ensures.ran.ran) _ refl c.print.ensures
+    ran-printed (ran_says c.in-Ok.is c.kept_boundaries_here.ensures.ran.ran) _ refl refl c.print.ensures
 
 pub returns-in-Err : goal.returns-in-Err
 returns-in-Err c =
-    let said : AnswerPrinted (number_of c.in-Err.refusal.cause) c.in-Err.refusal.place _ _ _ _ _ = rw c.number.ensures c.print-in-Err.ensures in
-    ran-printed (ran_says c.in-Err.is c.kept_boundaries_here.ensures.ran.ran) _ refl said
+    ran-printed (ran_says c.in-Err.is c.kept_boundaries_here.ensures.ran.ran) _ refl c.number.ensures c.print-in-Err.ensures
