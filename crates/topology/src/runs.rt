@@ -13,18 +13,12 @@ use areas::lists::PartitionLists;
 use call_partition::asked::Asked;
 use checks::limits::NUMBERS_PER_BOUNDARY;
 use context::Region;
-use report_figures::call_figures::{answered, beyond, has_room};
 use refusals::answers::Answer;
+use report_figures::call_figures::{answered, beyond, has_room};
 use report_figures::{Report, Reported};
 
 // What the call answered, and the report with it.
-fn added(
-    report: Report,
-    pass: u64,
-    answer: Answer,
-    boundaries: &[u64],
-    output: &[u64],
-) -> Reported
+fn added(report: Report, pass: u64, answer: Answer, boundaries: &[u64], output: &[u64]) -> Reported
     requires { CallLeft pass answer.number answer.value output.now }
     ensures { ReportedCall (report_form report) pass answer.number answer.value
         (length boundaries.now / numbers_per_boundary) output.now result }

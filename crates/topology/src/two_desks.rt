@@ -7,9 +7,9 @@ ghost use Rattle.topology.specs.Desks.{desk_of, Ground, Terrain, DeskRan, DesksR
 
 use crate::marks::mark_removed;
 use crate::records::fill;
-use call_partition::Ready;
 use areas::lists::PartitionLists;
 use areas::scratch::clear_scratch;
+use call_partition::Ready;
 use checks::limits::{NUMBERS_PER_BOUNDARY, NUMBERS_PER_SPAN};
 use context::Region;
 use desk_checks::own::{Desk, check_desk};

@@ -23,11 +23,12 @@ loop-turn-smaller c =
     run-lower R (start-few E) c.loop-turn-test.true c.next_turn-turn.result c.number.ensures (c.turn_once-next.ensures.stands _ _ _ R.stands) refl c.next_turn-turn.ensures
 
 pub loop-turn-preserved : goal.loop-turn-preserved
-loop-turn-preserved c =
-    (λ O s E.
-    let R = c.loop-turn.invariant.0 O s E in
-    run-turn R (start-few E) c.loop-turn-test.true c.next_turn-turn.result c.number.ensures (c.turn_once-next.ensures.stands _ _ _ R.stands) refl c.next_turn-turn.ensures,
-    still_same c.loop-turn.invariant.1 c.turn_once-next.ensures.same)
+loop-turn-preserved c = (
+  λ O s E.
+      let R = c.loop-turn.invariant.0 O s E in
+      run-turn R (start-few E) c.loop-turn-test.true c.next_turn-turn.result c.number.ensures (c.turn_once-next.ensures.stands _ _ _ R.stands) refl c.next_turn-turn.ensures,
+  still_same c.loop-turn.invariant.1 c.turn_once-next.ensures.same,
+)
 
 pub rounds_of-requires : goal.rounds_of-requires
 rounds_of-requires c = (c.loop-turn.invariant.0 _ _ c.requires.2).turns.rounds
