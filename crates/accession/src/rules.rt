@@ -42,6 +42,8 @@ const MANY_RECORDS: usize = 131_072;
 
 const MANY_SLOTS: usize = 32_749;
 
+// Never put into its caller: its table, of up to 640 KiB, would stand on the stack beside the arrays of another check (`maps_of_day`).
+#[inline(never)]
 fn first_broken_with<const SLOTS: usize, const ROOM: usize>(records: &[u64]) -> Option<usize>
     requires { (0 < SLOTS) × (SLOTS < 2 ^ 32) × (ROOM < 2 ^ 32) }
     ensures { result ≡ accessions_fault records.now }
