@@ -305,6 +305,8 @@ fn apart_terms_by(terms: &[u64], sound: usize, maps: &mut [u64], keys: &mut [u64
     apart
 }
 
+// Never put into its caller, as the check of records is not (`first_broken_with` of `accession`): each has its arrays on the stack alone.
+#[inline(never)]
 fn apart_terms_with<const TERMS: usize>(terms: &[u64], sound: usize) -> usize
     requires sizes { (numbers_per_term * sound ≤ length terms.now) × (sound ≤ 4294967296) }
     requires maps_room { TERMS < 65536 }
