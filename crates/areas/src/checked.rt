@@ -5,9 +5,9 @@ ghost use Rattle.areas.specs.Contract.{early_refusal};
 ghost use Rattle.areas.specs.Lists.{of_lengths};
 
 use crate::lists::PartitionLists;
-use checks::limits::NUMBERS_PER_SPAN;
 use checks::sizes::{cells_fit, is_whole, partition_has_room, sides_fit};
 use checks::spans::spans_fault;
+use definitions::limits::NUMBERS_PER_SPAN;
 use refusals::{Cause, Refusal, ensure};
 
 // Of the lists that are filled, only the lengths matter.

@@ -18,13 +18,12 @@ ghost use Rattle.assessments.specs.Assessing.{Keeps, CountingIn, AssessesIn, Ass
 ghost use Rattle.assessments.specs.Contract.{AssessAsked, SpansAssessed};
 
 use cut_steps::cell::is_set;
+use cut_steps::span_at;
 use cut_steps::walk::{SpanWalk, StepVisitor, walk_span};
-use cut_steps::{NUMBERS_PER_SPAN, span_at};
+use definitions::limits::{NUMBERS_PER_PAIR, NUMBERS_PER_SPAN, TALLIES_PER_SPAN};
 use grid_steps::grid::{Direction, EAST, SOUTH, SOUTH_EAST, SOUTH_WEST, TerrainGrid, WalkPosition};
-use region_pairs::{NUMBERS_PER_PAIR, RegionPair, Rows, put_pair};
+use region_pairs::{RegionPair, Rows, put_pair};
 use span_geometry::SpanGeometry;
-
-pub const TALLIES_PER_SPAN: usize = 2;
 
 // What is found of a span so far: the counts of its removed and separated edges, the end of its rows in the list of pairs, and the row of the last pair, a
 // hint that is never relied on.

@@ -10,16 +10,11 @@ ghost use Rattle.rest.specs.FlatLists.{flat_boundary};
 ghost use Rattle.boundary_blocks.specs.Start.{rows_of_all, numbers_of, ends_of_lem, turned_in, turned_of, NamedIn, rows_at};
 
 use crate::blocks::copy_block;
+use definitions::limits::{NUMBERS_PER_BOUNDARY, NUMBERS_PER_ROW, NUMBERS_PER_SPAN};
 use rows::canonical_output;
-
-const SPAN_SIZE: usize = 4;
-
-const BOUNDARY_SIZE: usize = 9;
 
 // What stands behind a boundary's endpoints.
 const BEHIND_SIZE: usize = 5;
-
-const ROW_SIZE: usize = 5;
 
 const MOST_ROWS: usize = 256;
 
@@ -29,7 +24,7 @@ fn put_numbers(rows: &[u64], count: usize, numbers: &mut [u64])
     ensures { numbers.new ≡ overwrite (numbers_of (rows_in_lem count rows.now)) numbers.old }
 {
     for k in 0..count {
-        numbers[k] = rows[ROW_SIZE * k];
+        numbers[k] = rows[NUMBERS_PER_ROW * k];
     }
 }
 
@@ -39,7 +34,13 @@ fn put_spans(rows: &[u64], count: usize, spans: &mut [u64])
     ensures { spans.new ≡ overwrite (ends_of_lem (rows_in_lem count rows.now)) spans.old }
 {
     for k in 0..count {
-        copy_block(rows, ROW_SIZE * k + 1, spans, SPAN_SIZE * k, SPAN_SIZE);
+        copy_block(
+            rows,
+            NUMBERS_PER_ROW * k + 1,
+            spans,
+            NUMBERS_PER_SPAN * k,
+            NUMBERS_PER_SPAN,
+        );
     }
 }
 
@@ -49,15 +50,15 @@ fn put_boundary(lent: &[u64], rows: &[u64], k: usize, boundaries: &mut [u64])
     ensures { boundaries.new
         ≡ sets boundaries.old (9 * k) (flat_boundary (turned_in lent.now (row_at rows.now (5 * k)))) }
 {
-    let at = ROW_SIZE * k;
-    let place = BOUNDARY_SIZE * k;
+    let at = NUMBERS_PER_ROW * k;
+    let place = NUMBERS_PER_BOUNDARY * k;
     let number = rows[at] as usize;
-    copy_block(rows, at + 1, boundaries, place, SPAN_SIZE);
+    copy_block(rows, at + 1, boundaries, place, NUMBERS_PER_SPAN);
     copy_block(
         lent,
-        BOUNDARY_SIZE * number + SPAN_SIZE,
+        NUMBERS_PER_BOUNDARY * number + NUMBERS_PER_SPAN,
         boundaries,
-        place + SPAN_SIZE,
+        place + NUMBERS_PER_SPAN,
         BEHIND_SIZE,
     );
 }
@@ -88,7 +89,7 @@ pub fn start_lists(
         ≡ overwrite (turned_of lent.now (rows_of_all lent.now count)) boundaries.old }
 {
     let none = [false; MOST_ROWS];
-    let mut rows = [0u64; ROW_SIZE * MOST_ROWS];
+    let mut rows = [0u64; NUMBERS_PER_ROW * MOST_ROWS];
     canonical_output(lent, count, &none, &mut rows);
     put_numbers(&rows, count, numbers);
     put_spans(&rows, count, spans);
@@ -101,8 +102,14 @@ pub fn put_rows(numbers: &[u64], spans: &[u64], kept: usize, output: &mut [u64])
     ensures { output.new ≡ overwrite (flat_rows (rows_at numbers.now spans.now kept)) output.old }
 {
     for k in 0..kept {
-        let at = ROW_SIZE * k;
+        let at = NUMBERS_PER_ROW * k;
         output[at] = numbers[k];
-        copy_block(spans, SPAN_SIZE * k, output, at + 1, SPAN_SIZE);
+        copy_block(
+            spans,
+            NUMBERS_PER_SPAN * k,
+            output,
+            at + 1,
+            NUMBERS_PER_SPAN,
+        );
     }
 }

@@ -13,11 +13,11 @@ use areas::lists::PartitionLists;
 use checks::anchors::anchors_fault;
 use checks::boundaries::boundaries_fault;
 use checks::cells::elevations_fault;
-use checks::limits::{NUMBERS_PER_ANCHOR, NUMBERS_PER_BOUNDARY, NUMBERS_PER_SPAN};
 use checks::sizes::{
     cells_fit, is_whole, output_has_room, partition_has_room, pass_fits, sides_fit,
 };
 use checks::spans::spans_fault;
+use definitions::limits::{NUMBERS_PER_ANCHOR, NUMBERS_PER_BOUNDARY, NUMBERS_PER_SPAN};
 use refusals::{Cause, Refusal, ensure, no_fault};
 
 // Check 3, of all three lists.

@@ -15,9 +15,9 @@ use areas::labels::label_regions;
 use areas::lists::PartitionLists;
 use areas::scratch::clear_scratch;
 use asked::Asked;
-use assessments::{TALLIES_PER_SPAN, assess_spans};
+use assessments::assess_spans;
 use checked::checks_before;
-use checks::limits::NUMBERS_PER_SPAN;
+use definitions::limits::{NUMBERS_PER_SPAN, TALLIES_PER_SPAN};
 use grid_steps::grid::TerrainGrid;
 use refusals::{Cause, Refusal};
 

@@ -2,7 +2,7 @@
 ghost use Rattle.std.specs.Prelude.{◌≡◌, ◌&&◌, ◌+◌, ◌<◌, ltb, length, get_or};
 ghost use Rattle.definitions.specs.Refusals.{anchors_fault};
 
-use crate::limits::NUMBERS_PER_ANCHOR;
+use definitions::limits::NUMBERS_PER_ANCHOR;
 
 // "anchor outside the grid", of the two numbers from k on.
 fn anchor_fits(width: u64, height: u64, anchors: &[u64], k: usize) -> bool

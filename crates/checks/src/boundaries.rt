@@ -4,8 +4,8 @@ ghost use Rattle.definitions.specs.Limits.{max_side};
 ghost use Rattle.definitions.specs.Grid.{boundary_at};
 ghost use Rattle.definitions.specs.Refusals.{width_fits, ramp_fits, boundary_fits, boundaries_fault};
 
-use crate::limits::{MAX_WIDTH_BITS, NUMBERS_PER_BOUNDARY};
 use crate::spans::both_on_map;
+use definitions::limits::{MAX_WIDTH_BITS, NUMBERS_PER_BOUNDARY};
 
 // "width not finite, sign bit set, or over 65,536": one comparison, as the bits of an infinity, of a NaN and of what has its sign set are larger.
 pub fn width_fits(bits: u64) -> bool

@@ -6,7 +6,6 @@
 pub mod anchors;
 pub mod boundaries;
 pub mod cells;
-pub mod limits;
 pub mod passes;
 pub mod sizes;
 pub mod spans;

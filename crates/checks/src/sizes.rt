@@ -3,7 +3,7 @@ ghost use Rattle.std.specs.Prelude.{◌≡◌, ◌&&◌, ◌≤◌, ◌<◌, ◌
 ghost use Rattle.definitions.specs.Limits.{max_side, is_side, max_entries};
 ghost use Rattle.definitions.specs.Refusals.{partition_room, output_room};
 
-use crate::limits::{MAX_ENTRIES, MAX_SIDE, NUMBERS_PER_ROW, TALLIES_PER_SPAN};
+use definitions::limits::{MAX_ENTRIES, MAX_SIDE, NUMBERS_PER_ROW, TALLIES_PER_SPAN};
 
 // 1: "a side is 0 or over 1,024"
 pub fn sides_fit(width: u64, height: u64) -> bool

@@ -6,7 +6,7 @@ ghost use Rattle.definitions.specs.Refusals.{both_on_map, endpoints_differ, span
 ghost use Rattle.refusals.specs.Refusals.{refusal_in};
 ghost use Rattle.checks.specs.Contract.{span_refusal};
 
-use crate::limits::{NUMBERS_PER_SPAN, PIXELS_PER_WALK_CELL};
+use definitions::limits::{NUMBERS_PER_SPAN, PIXELS_PER_WALK_CELL};
 use refusals::{Cause, Refusal};
 
 // 5: "span endpoint above 8 × width or 8 × height", of the four numbers from k on, a span's or a boundary's.

@@ -3,7 +3,7 @@ ghost use Rattle.std.specs.Prelude.{◌≡◌, ◌+◌, ◌*◌, ◌/◌, ◌≤
 ghost use Rattle.definitions.specs.Limits.{max_side, numbers_per_anchor};
 ghost use Rattle.context.specs.Anchors.{anchor_cell, anchor_cells, mark_label, mark_cells, AnchorsFit};
 
-const NUMBERS_PER_ANCHOR: usize = 2;
+use definitions::limits::NUMBERS_PER_ANCHOR;
 
 // The number of anchor i's cell.
 fn anchor_cell(width: usize, anchors: &[u64], i: usize) -> usize

@@ -7,7 +7,7 @@ ghost use Rattle.context.specs.Shown.{pair_at, ShownTallies, ShownPairs, ShownFu
 ghost use Rattle.context.specs.Rows.{PairRows, SpanEnd, Stretch, pair_form, full_pair_of};
 
 use crate::PartitionContext;
-use span_geometry::{NUMBERS_PER_PAIR, TALLIES_PER_SPAN};
+use definitions::limits::{NUMBERS_PER_PAIR, TALLIES_PER_SPAN};
 
 // Two regions, the smaller first.
 #[derive(Clone, Copy, PartialEq, Eq)]

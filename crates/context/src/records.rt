@@ -13,10 +13,10 @@ ghost use Rattle.context.specs.Runs.{FittingRun};
 
 use crate::Region;
 use crate::runs::{mask_of, run_counts, sums};
+use definitions::limits::PIXELS_PER_WALK_CELL;
 use elevations::{Dominance, dominance_of};
 use geometry::Point;
 use geometry::numbers::{float, fmax, fmin};
-use span_geometry::PIXELS_PER_WALK_CELL;
 
 // An edge that lies `cells` cells from the map's left or upper edge, in pixels.
 fn edge(cells: usize) -> f64

@@ -9,10 +9,11 @@ ghost use Rattle.cut_steps.specs.CutSteps.{is_cut_onward, is_set};
 ghost use Rattle.cut_steps.specs.Crossed.{InGrid, Crossed, steps_onward, changes_at, SideWord};
 ghost use Rattle.cut_steps.specs.Cell.{CellAsked, OnwardAsked, CutDirections, side_of, Uncut, Far, max_reach, onward_mask};
 
+use definitions::limits::PIXELS_PER_WALK_CELL;
 use grid_steps::grid::{Direction, EAST, SOUTH, SOUTH_EAST, SOUTH_WEST, TerrainGrid, WalkPosition};
+use span_geometry::SpanGeometry;
 use span_geometry::numbers::not_negative;
 use span_geometry::segments::{cell_center, cross};
-use span_geometry::{PIXELS_PER_WALK_CELL, SpanGeometry};
 
 // Whether a number is larger in size than a bound.
 fn exceeds(z: i64, bound: u64) -> bool

@@ -8,8 +8,9 @@ ghost use Rattle.span_geometry.specs.Strips.{Usable};
 ghost use Rattle.cut_steps.specs.Extents.{Narrows, NearAxis};
 ghost use Rattle.cut_steps.specs.Columns.{Near};
 
+use definitions::limits::PIXELS_PER_WALK_CELL;
+use span_geometry::SpanGeometry;
 use span_geometry::strips::{RangeInclusive, Strip};
-use span_geometry::{PIXELS_PER_WALK_CELL, SpanGeometry};
 
 // The middle of the place after m is at 8 m + 12, and that of the one before it at 8 m - 4. So the first of these is at pixel p or later where m is
 // (p - 5) / 8 or more, and the second is at p or earlier where m is (p + 4) / 8 or less.

@@ -18,11 +18,10 @@ ghost use Rattle.cut_steps.specs.Marking.{SpanAtAsked, Marked, SpansMarked};
 ghost use Rattle.cut_steps.specs.MarkVisits.{MarkReady, MarkVisited, mark_laws};
 
 use cell::crossed_directions;
+use definitions::limits::NUMBERS_PER_SPAN;
 use grid_steps::grid::{TerrainGrid, WalkPosition};
 use span_geometry::SpanGeometry;
 use walk::{SpanWalk, StepVisitor, walk_span};
-
-pub const NUMBERS_PER_SPAN: usize = 4;
 
 // The marking of cut steps in the masks of all cells.
 #[derive(Drop)]

@@ -14,10 +14,11 @@ ghost use Rattle.cut_steps.specs.Walks.{walk_map, cell_steps, across_steps, colu
 
 use super::cell::{cut_directions, is_near, side_changes};
 use super::extents::{near_axis, near_range};
+use definitions::limits::PIXELS_PER_WALK_CELL;
 use grid_steps::grid::{TerrainGrid, WalkPosition};
 use line_crossings::{first_place, next_place, tie_of};
+use span_geometry::SpanGeometry;
 use span_geometry::strips::Strip;
-use span_geometry::{PIXELS_PER_WALK_CELL, SpanGeometry};
 
 // The middle of the column, or row, before k is at 8 k - 4, and that of the one after it at 8 k + 12. So the first of these is at pixel p or later
 // where k is (p + 11) / 8 or more, and the second is at p or earlier where k is below (p - 4) / 8.

@@ -9,8 +9,8 @@ ghost use Rattle.desk_checks.specs.Own.{lies_on, places_refusal};
 
 use checks::anchors::anchors_fault;
 use checks::boundaries::boundaries_fault;
-use checks::limits::{NUMBERS_PER_ANCHOR, NUMBERS_PER_BOUNDARY, NUMBERS_PER_SPAN};
 use checks::sizes::{is_whole, output_has_room, pass_fits};
+use definitions::limits::{NUMBERS_PER_ANCHOR, NUMBERS_PER_BOUNDARY, NUMBERS_PER_SPAN};
 use refusals::{Cause, Refusal, ensure, no_fault};
 
 // Whether the four numbers from b on are the span of the four from s on, up to the order of its endpoints.

@@ -7,11 +7,9 @@ ghost use Rattle.game_lists.specs.Kept.{Source, lent_of, Divides, DividedKept};
 
 use areas::lists::PartitionLists;
 use areas::scratch::clear_assessed;
-use assessments::TALLIES_PER_SPAN;
-use assessments::region_pairs::NUMBERS_PER_PAIR;
 use boundary_blocks::blocks::{copy_block, keep_blocks};
 use call_partition::{Ready, divide};
-use checks::limits::NUMBERS_PER_SPAN;
+use definitions::limits::{NUMBERS_PER_PAIR, NUMBERS_PER_SPAN, TALLIES_PER_SPAN};
 use grid_steps::grid::TerrainGrid;
 
 // 256 spans.

@@ -8,9 +8,8 @@ ghost use Rattle.geometry.specs.Placed.{Placed};
 
 use crate::points::center;
 use crate::{Point, Segment};
+use definitions::limits::NUMBERS_PER_BOUNDARY;
 use span_geometry::PixelPosition;
-
-const NUMBERS_PER_BOUNDARY: usize = 9;
 
 const WIDTH: usize = 4;
 

@@ -13,11 +13,11 @@ ghost use Rattle.interior_regions.specs.Marks.{Interiors, SomeInteriors, StandsA
 ghost use Rattle.interior_regions.specs.Places.{region_at, Readable, is_named};
 
 use context::PartitionContext;
+use definitions::limits::NUMBERS_PER_PAIR;
 use interior_proposals::components::{name_components, parent_of};
 use interior_proposals::owners::{Owner, find_owners};
 use interior_proposals::ports::Ports;
 use interior_proposals::proposals::propose_all;
-use span_geometry::NUMBERS_PER_PAIR;
 
 const REGIONS_PER_PAIR: usize = 2;
 

@@ -8,9 +8,10 @@ ghost use Rattle.span_geometry.specs.Shapes.{segment_of};
 ghost use Rattle.span_geometry.specs.Strips.{Usable, strip_of};
 ghost use Rattle.line_crossings.specs.Crossings.{Between, tie_of, Crossing, Gentle, Close};
 
+use definitions::limits::PIXELS_PER_WALK_CELL;
+use span_geometry::SpanGeometry;
 use span_geometry::segments::middle_of;
 use span_geometry::strips::Strip;
-use span_geometry::{PIXELS_PER_WALK_CELL, SpanGeometry};
 
 // The first place past the line, and by how much it is: its middle times the run, less the line's total.
 #[derive(Clone, Copy)]

@@ -11,8 +11,7 @@ ghost use Rattle.byte_writer.specs.Contract.{HasRoom, Appends};
 ghost use Rattle.printed.specs.Contract.{most_digits, row_room, line_room, Printed, KeptPrinted};
 
 use byte_writer::Writer;
-
-const ROW_SIZE: usize = 5;
+use definitions::limits::NUMBERS_PER_ROW;
 
 const SPACE: u8 = b' ';
 
@@ -87,7 +86,7 @@ fn put_row(w: &mut Writer, output: &[u64], k: usize)
     ensures put { Appends w.old (row_line (row_at output.now (numbers_per_row * k))) w.new }
     ensures bound { w.new.at ≤ w.old.at + row_room }
 {
-    let row = ROW_SIZE * k;
+    let row = NUMBERS_PER_ROW * k;
     put_number(w, output[row], SPACE);
     put_number(w, output[row + 1], SPACE);
     put_number(w, output[row + 2], SPACE);

@@ -8,14 +8,14 @@ ghost use Rattle.report.specs.ReportLaws.OneRun.{max_square};
 ghost use Rattle.report.specs.ReportLaws.Named.{named, unnamed_below};
 ghost use Rattle.report_figures.specs.Forms.{RowsOnMap};
 
-const ROW_SIZE: usize = 5;
+use definitions::limits::NUMBERS_PER_ROW;
 
 // Whether row k has this number.
 fn has_number(output: &[u64], k: usize, number: usize) -> bool
     requires { numbers_per_row * (k + 1) ≤ length output.now }
     ensures { result ≡ ((row_at output.now (numbers_per_row * k)).number == number) }
 {
-    let row = ROW_SIZE * k;
+    let row = NUMBERS_PER_ROW * k;
     output[row] == number as u64
 }
 
@@ -52,7 +52,7 @@ fn squared_length(output: &[u64], k: usize) -> u64
     ensures answer { result ≡ squared_length (row_at output.now (numbers_per_row * k)).line }
     ensures bound { result ≤ max_square }
 {
-    let row = ROW_SIZE * k;
+    let row = NUMBERS_PER_ROW * k;
     let across = square_apart(output[row + 1], output[row + 3]);
     let down = square_apart(output[row + 2], output[row + 4]);
     across + down

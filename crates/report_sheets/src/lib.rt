@@ -12,6 +12,7 @@ ghost use Rattle.report_sheets.specs.Contract.{AddedReading, SheetReported};
 
 use areas::lists::PartitionLists;
 use call_partition::asked::Asked;
+use definitions::limits::{NUMBERS_PER_ANCHOR, NUMBERS_PER_BOUNDARY, NUMBERS_PER_SPAN};
 use report_figures::call_figures::{answered, beyond, has_room};
 use report_figures::sums::with_refused;
 use report_figures::{Report, Reported};
@@ -20,12 +21,6 @@ use sheet::Header;
 use topology::own_records::kept_boundaries_here;
 
 const REGIONS_MOST: usize = 512;
-
-const SPAN_SIZE: usize = 4;
-
-const BOUNDARY_SIZE: usize = 9;
-
-const ANCHOR_SIZE: usize = 2;
 
 // Adds a sheet that was not read.
 fn refuse(report: Report, number: u64, place: u64) -> Reported
@@ -50,7 +45,7 @@ fn add_call(report: Report, pass: u64, asked: Asked) -> Reported
     let mut pairs = [0u32; 6144];
     let mut output = [0u64; 1280];
     let mut numbers = [0u64; 1];
-    let count = asked.boundaries.len() / BOUNDARY_SIZE;
+    let count = asked.boundaries.len() / NUMBERS_PER_BOUNDARY;
     let mut lists = PartitionLists {
         labels: &mut labels,
         masks: &mut masks,
@@ -92,9 +87,9 @@ fn add_held(
         (well_formed (sheet_in header cells.now spans.now boundaries.now anchors.now)) result }
 {
     let area = header.width * header.height;
-    let spans_end = SPAN_SIZE * header.spans;
-    let boundaries_end = BOUNDARY_SIZE * header.boundaries;
-    let anchors_end = ANCHOR_SIZE * header.anchors;
+    let spans_end = NUMBERS_PER_SPAN * header.spans;
+    let boundaries_end = NUMBERS_PER_BOUNDARY * header.boundaries;
+    let anchors_end = NUMBERS_PER_ANCHOR * header.anchors;
     let asked = Asked {
         width: header.width as u64,
         height: header.height as u64,

@@ -9,7 +9,7 @@ use areas::lists::PartitionLists;
 use boundary_blocks::start::start_lists;
 use call_partition::asked::Asked;
 use call_partition::{Ready, divide};
-use checks::limits::{NUMBERS_PER_BOUNDARY, NUMBERS_PER_SPAN};
+use definitions::limits::{NUMBERS_PER_BOUNDARY, NUMBERS_PER_SPAN};
 use refusals::Refusal;
 
 // The checks of the lists as lent, the starting list in row order, and its partition: a refusal, or how many regions and rows of pairs there are.

@@ -9,7 +9,7 @@ use crate::lists::lists_fault;
 use areas::lists::PartitionLists;
 use call_partition::asked::Asked;
 use call_partition::checked::{check_entries, check_room, check_sizes};
-use checks::limits::{NUMBERS_PER_BOUNDARY, NUMBERS_PER_SPAN};
+use definitions::limits::{NUMBERS_PER_BOUNDARY, NUMBERS_PER_SPAN};
 use refusals::{Cause, Refusal, no_fault};
 
 // Of the lists that are filled, only the lengths matter. No pass is asked for: pass 1 fits.

@@ -11,12 +11,12 @@ ghost use Rattle.boundary_blocks.specs.Start.{rows_at};
 
 use areas::lists::PartitionLists;
 use areas::scratch::{clear_assessed, clear_scratch};
-use assessments::TALLIES_PER_SPAN;
-use assessments::region_pairs::NUMBERS_PER_PAIR;
 use boundary_blocks::blocks::keep_blocks;
 use boundary_blocks::start::put_rows;
 use call_partition::divide;
-use checks::limits::{NUMBERS_PER_BOUNDARY, NUMBERS_PER_SPAN};
+use definitions::limits::{
+    NUMBERS_PER_BOUNDARY, NUMBERS_PER_PAIR, NUMBERS_PER_SPAN, TALLIES_PER_SPAN,
+};
 use grid_steps::grid::TerrainGrid;
 
 // How many boundaries are kept, and the regions and rows of pairs of their partition.

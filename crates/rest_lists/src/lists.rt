@@ -4,7 +4,7 @@ ghost use Rattle.definitions.specs.Grid.{segment_at};
 ghost use Rattle.rest_definitions.specs.RestVerdict.{same_point_lem, lists_fault};
 ghost use Rattle.rest_lists.specs.Early.{agrees_at};
 
-use checks::limits::{NUMBERS_PER_BOUNDARY, NUMBERS_PER_SPAN};
+use definitions::limits::{NUMBERS_PER_BOUNDARY, NUMBERS_PER_SPAN};
 
 // The four numbers from k on are those from j on.
 fn same_ends(spans: &[u64], k: usize, boundaries: &[u64], j: usize) -> bool

@@ -17,6 +17,7 @@ ghost use Rattle.result_reader.specs.Walks.{turns_from, Walks, ascent_of, ascent
 ghost use Rattle.result_reader.specs.Parts.{turns_fault, no_fault, key_fault, ListTold, OpeningTold, FrontTold, BackTold, ResultTold, plan_by, PlanHeld, PartHeld, part_numbers, room_in, Room};
 ghost use Rattle.result_reader.specs.Contract.{answer_in, refused_by, Reads};
 
+use definitions::limits::{NUMBERS_PER_PAIR, NUMBERS_PER_ROW, TALLIES_PER_SPAN};
 use refusals::{Cause, Refusal};
 use result_writer::after_label;
 use sheet::{Found, fill_numbers, item, judge};
@@ -280,8 +281,8 @@ fn back(bytes: &[u8], at: usize) -> Result<Found<BothLists>, Refusal>
     requires { at ≤ length bytes.now }
     ensures { BackTold bytes.now at result }
 {
-    let pairs = keys_list::<PAIR_SIZE>(bytes, at, 0)?;
-    let rows = keys_list::<ROW_SIZE>(bytes, pairs.next, 1)?;
+    let pairs = keys_list::<NUMBERS_PER_PAIR>(bytes, at, 0)?;
+    let rows = keys_list::<NUMBERS_PER_ROW>(bytes, pairs.next, 1)?;
     if rows.next < bytes.len() {
         return Err(Refusal {
             cause: Cause::Sheet,
@@ -343,20 +344,14 @@ fn judge_result(bytes: &[u8]) -> Result<Plan, Refusal>
 
 const LABEL_SIZE: usize = 1;
 
-const TALLIES_SIZE: usize = 2;
-
-const PAIR_SIZE: usize = 3;
-
-const ROW_SIZE: usize = 5;
-
 // Lists of these lengths have room for the result. A count times the size of its entries may be beyond 64 bits, so the length is divided.
 fn fits(plan: Plan, labels: usize, tallies: usize, pairs: usize, rows: usize) -> bool
     ensures { result ≡ room_in plan labels tallies pairs rows }
 {
     plan.labels.count <= labels
-        && plan.tallies.count <= tallies / TALLIES_SIZE
-        && plan.pairs.count <= pairs / PAIR_SIZE
-        && plan.rows.count <= rows / ROW_SIZE
+        && plan.tallies.count <= tallies / TALLIES_PER_SPAN
+        && plan.pairs.count <= pairs / NUMBERS_PER_PAIR
+        && plan.rows.count <= rows / NUMBERS_PER_ROW
 }
 
 // Stores the numbers of a list that was judged before, `size` of them an entry.
@@ -384,9 +379,9 @@ fn fill(
     ensures rows { rows.new ≡ overwrite (part_numbers numbers_per_row bytes.now plan.rows) rows.old }
 {
     fill_list(bytes, plan.labels, LABEL_SIZE, &mut *labels);
-    fill_list(bytes, plan.tallies, TALLIES_SIZE, &mut *tallies);
-    fill_list(bytes, plan.pairs, PAIR_SIZE, &mut *pairs);
-    fill_list(bytes, plan.rows, ROW_SIZE, &mut *rows);
+    fill_list(bytes, plan.tallies, TALLIES_PER_SPAN, &mut *tallies);
+    fill_list(bytes, plan.pairs, NUMBERS_PER_PAIR, &mut *pairs);
+    fill_list(bytes, plan.rows, NUMBERS_PER_ROW, &mut *rows);
 }
 
 // Number 0, place 0, the region count and four counts of entries; or a refusal's number and place, and 0 for the rest.

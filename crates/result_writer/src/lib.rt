@@ -15,6 +15,7 @@ ghost use Rattle.refusals.specs.Answers.{answer_in};
 ghost use Rattle.result_writer.specs.Contract.{turn_of, key_in, entry_at, Neighbours, spent, result_in, result_of};
 
 use byte_writer::Writer;
+use definitions::limits::{NUMBERS_PER_PAIR, NUMBERS_PER_ROW, TALLIES_PER_SPAN};
 use put_shortest::put_shortest;
 use refusals::Cause;
 use refusals::answers::Answer;
@@ -68,13 +69,7 @@ fn entries_ascend(numbers: &[u64], size: usize, last: usize) -> bool
     (1..numbers.len() / size).all(|i| ascends(numbers, size, last, i))
 }
 
-const PAIR_SIZE: usize = 3;
-
-const ROW_SIZE: usize = 5;
-
 const LABEL_SIZE: usize = 1;
-
-const TALLIES_SIZE: usize = 2;
 
 // ---- the room
 
@@ -161,17 +156,17 @@ impl RunResult<'_> {
         ensures { rules_fault (placed (result_of self.entry)) ≡ unless result }
     {
         in_turn(self.regions, self.labels)
-            && entries_ascend(self.pairs, PAIR_SIZE, 0)
-            && entries_ascend(self.rows, ROW_SIZE, 1)
+            && entries_ascend(self.pairs, NUMBERS_PER_PAIR, 0)
+            && entries_ascend(self.rows, NUMBERS_PER_ROW, 1)
     }
 
     // No last entry is unfinished.
     fn is_finished(self) -> bool
         ensures { result ≡ is_finished (result_of self.entry) }
     {
-        self.tallies.len() % TALLIES_SIZE == 0
-            && self.pairs.len() % PAIR_SIZE == 0
-            && self.rows.len() % ROW_SIZE == 0
+        self.tallies.len() % TALLIES_PER_SPAN == 0
+            && self.pairs.len() % NUMBERS_PER_PAIR == 0
+            && self.rows.len() % NUMBERS_PER_ROW == 0
     }
 
     // A list of so many bytes has room for the sheet.
@@ -181,9 +176,9 @@ impl RunResult<'_> {
         let a = spend_number(Some(room), KIND);
         let b = spend_number(a, self.regions);
         let c = spend_list(b, LABEL_SIZE, self.labels);
-        let d = spend_list(c, TALLIES_SIZE, self.tallies);
-        let e = spend_list(d, PAIR_SIZE, self.pairs);
-        spend_list(e, ROW_SIZE, self.rows).is_some()
+        let d = spend_list(c, TALLIES_PER_SPAN, self.tallies);
+        let e = spend_list(d, NUMBERS_PER_PAIR, self.pairs);
+        spend_list(e, NUMBERS_PER_ROW, self.rows).is_some()
     }
 
     // Writes the sheet.
@@ -194,9 +189,9 @@ impl RunResult<'_> {
         put_shortest(w, KIND);
         put_shortest(w, self.regions);
         put_list(w, LABEL_SIZE, self.labels);
-        put_list(w, TALLIES_SIZE, self.tallies);
-        put_list(w, PAIR_SIZE, self.pairs);
-        put_list(w, ROW_SIZE, self.rows);
+        put_list(w, TALLIES_PER_SPAN, self.tallies);
+        put_list(w, NUMBERS_PER_PAIR, self.pairs);
+        put_list(w, NUMBERS_PER_ROW, self.rows);
     }
 }
 

@@ -12,8 +12,8 @@ ghost use Rattle.refusals.specs.Answers.{answer_in, answer_of};
 ghost use Rattle.separation_list.specs.Contract.{PairFits, ColumnFits, RowsFit, max_pairs};
 
 use checks::boundaries::boundaries_fault;
-use checks::limits::NUMBERS_PER_BOUNDARY;
 use checks::sizes::{is_whole, sides_fit};
+use definitions::limits::NUMBERS_PER_BOUNDARY;
 use exact_squares::exact_square;
 use geometry::Segment;
 use geometry::boundaries::segment_of;

@@ -15,6 +15,7 @@ ghost use Rattle.sheet.specs.Parts as parts;
 ghost use Rattle.sheet.specs.Parts.{PartTold, ListsTold, SheetTold, PartsHeld, part_of, cells_in, stated_long, room_in, Room};
 ghost use Rattle.sheet.specs.Contract.{header_in, Answered, reading_within};
 
+use definitions::limits::{NUMBERS_PER_ANCHOR, NUMBERS_PER_BOUNDARY, NUMBERS_PER_SPAN};
 use refusals::{Cause, Refusal};
 
 // ---- one number
@@ -310,19 +311,13 @@ fn entries(bytes: &[u8], at: usize, size: usize) -> Result<Found<Part>, Refusal>
     })
 }
 
-const SPAN_SIZE: usize = 4;
-
-const BOUNDARY_SIZE: usize = 9;
-
-const ANCHOR_SIZE: usize = 2;
-
 // The spans that a sheet holds, which is none where its boundaries serve as spans.
 fn spans_held(bytes: &[u8], at: usize, own: bool) -> Result<Found<Part>, Refusal>
     requires { at ≤ length bytes.now }
     ensures { PartTold (spans_held own) bytes.now at result }
 {
     if own {
-        entries(bytes, at, SPAN_SIZE)
+        entries(bytes, at, NUMBERS_PER_SPAN)
     } else {
         Ok(Found {
             value: Part {
@@ -352,8 +347,8 @@ fn lists(bytes: &[u8], at: usize, area: usize, own: bool) -> Result<Parts, Refus
 {
     let front = judge(bytes, at, area, CELL_MOST)?;
     let spans = spans_held(bytes, front, own)?;
-    let boundaries = entries(bytes, spans.next, BOUNDARY_SIZE)?;
-    let anchors = entries(bytes, boundaries.next, ANCHOR_SIZE)?;
+    let boundaries = entries(bytes, spans.next, NUMBERS_PER_BOUNDARY)?;
+    let anchors = entries(bytes, boundaries.next, NUMBERS_PER_ANCHOR)?;
     if anchors.next < bytes.len() {
         return Err(Refusal {
             cause: Cause::Sheet,
@@ -422,7 +417,7 @@ fn stated_length(kind: u64, parts: Parts) -> usize
     if kind == 1 {
         parts.spans.length
     } else {
-        parts.boundaries.length / BOUNDARY_SIZE * SPAN_SIZE
+        parts.boundaries.length / NUMBERS_PER_BOUNDARY * NUMBERS_PER_SPAN
     }
 }
 
@@ -448,8 +443,8 @@ fn put_endpoints(boundaries: &[u64], i: usize, spans: &mut [u64])
     requires { (9 * i + 9 ≤ length boundaries.now) × (4 * i + 4 ≤ length spans.old) }
     ensures { spans.new ≡ sets spans.old (4 * i) (endpoints (segment_at boundaries.now (9 * i))) }
 {
-    let k = BOUNDARY_SIZE * i;
-    let place = SPAN_SIZE * i;
+    let k = NUMBERS_PER_BOUNDARY * i;
+    let place = NUMBERS_PER_SPAN * i;
     spans[place] = boundaries[k];
     spans[place + 1] = boundaries[k + 1];
     spans[place + 2] = boundaries[k + 2];
@@ -518,7 +513,7 @@ fn fill(
         kind,
         b,
         &*boundaries,
-        c.length / BOUNDARY_SIZE,
+        c.length / NUMBERS_PER_BOUNDARY,
         &mut *spans,
     );
     fill_numbers(bytes, d.first, d.length, &mut *anchors);
@@ -534,9 +529,9 @@ fn header_of(plan: Plan, stated: usize) -> Header
         pass: plan.pass,
         width: plan.width,
         height: plan.height,
-        spans: stated / SPAN_SIZE,
-        boundaries: c.length / BOUNDARY_SIZE,
-        anchors: d.length / ANCHOR_SIZE,
+        spans: stated / NUMBERS_PER_SPAN,
+        boundaries: c.length / NUMBERS_PER_BOUNDARY,
+        anchors: d.length / NUMBERS_PER_ANCHOR,
     }
 }
 

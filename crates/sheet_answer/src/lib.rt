@@ -12,6 +12,7 @@ ghost use Rattle.sheet_answer.specs.Contract.{out_room, keptlist_reading, ListsL
 
 use areas::lists::PartitionLists;
 use call_partition::asked::Asked;
+use definitions::limits::{NUMBERS_PER_ANCHOR, NUMBERS_PER_BOUNDARY, NUMBERS_PER_SPAN};
 use printed::{print_kept, print_refused};
 use refusals::Cause;
 use sheet::{Header, read_within};
@@ -72,12 +73,6 @@ fn print(number: u64, value: u64, output: &[u64], count: usize, out: &mut [u8]) 
 
 const REGIONS_MOST: usize = 512;
 
-const SPAN_SIZE: usize = 4;
-
-const BOUNDARY_SIZE: usize = 9;
-
-const ANCHOR_SIZE: usize = 2;
-
 // Runs the pass on a sheet and prints what it keeps, or why it is refused. There is no room for a record in `numbers`: none is printed.
 fn answer(pass: u64, asked: Asked, out: &mut [u8]) -> usize
     requires { out_room ≤ length out.old }
@@ -90,7 +85,7 @@ fn answer(pass: u64, asked: Asked, out: &mut [u8]) -> usize
     let mut pairs = [0u32; 6144];
     let mut output = [0u64; 1280];
     let mut numbers = [0u64; 1];
-    let count = asked.boundaries.len() / BOUNDARY_SIZE;
+    let count = asked.boundaries.len() / NUMBERS_PER_BOUNDARY;
     let mut lists = PartitionLists {
         labels: &mut labels,
         masks: &mut masks,
@@ -133,9 +128,9 @@ fn answer_held(
         out.new result }
 {
     let area = header.width * header.height;
-    let spans_end = SPAN_SIZE * header.spans;
-    let boundaries_end = BOUNDARY_SIZE * header.boundaries;
-    let anchors_end = ANCHOR_SIZE * header.anchors;
+    let spans_end = NUMBERS_PER_SPAN * header.spans;
+    let boundaries_end = NUMBERS_PER_BOUNDARY * header.boundaries;
+    let anchors_end = NUMBERS_PER_ANCHOR * header.anchors;
     let asked = Asked {
         width: header.width as u64,
         height: header.height as u64,

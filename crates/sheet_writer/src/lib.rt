@@ -15,8 +15,8 @@ ghost use Rattle.result_writer.specs.Contract.{spent};
 ghost use Rattle.sheet_writer.specs.Contract.{opening, stated};
 
 use byte_writer::Writer;
-use checks::limits::{NUMBERS_PER_ANCHOR, NUMBERS_PER_BOUNDARY};
 use checks::sizes::{cells_fit, is_whole, sides_fit};
+use definitions::limits::{NUMBERS_PER_ANCHOR, NUMBERS_PER_BOUNDARY};
 use put_shortest::put_shortest;
 use refusals::Cause;
 use refusals::answers::Answer;

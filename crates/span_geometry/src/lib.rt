@@ -18,13 +18,6 @@ ghost use Rattle.span_geometry.specs.Shapes.{max_pixel, InLimits, Sound, Made, p
 use numbers::not_negative;
 use segments::{cell_center, cross, segments_intersect};
 
-pub const PIXELS_PER_WALK_CELL: u64 = 8;
-
-// Of a span: its tallies, and the numbers of each of its rows of pairs.
-pub const TALLIES_PER_SPAN: usize = 2;
-
-pub const NUMBERS_PER_PAIR: usize = 3;
-
 // A point in pixels. Positions compare by x, then y.
 #[derive(Clone, Copy, PartialEq, Eq, PartialOrd, Ord)]
 pub struct PixelPosition {

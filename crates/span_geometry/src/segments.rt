@@ -5,8 +5,9 @@ ghost use Rattle.definitions.specs.Grid.{at};
 ghost use Rattle.definitions.specs.Spans.{is_zero, middle_of, cell_center, cross, on_segment, segments_intersect};
 ghost use Rattle.span_geometry.specs.Shapes.{InLimits, point_of};
 
+use super::PixelPosition;
 use super::numbers::{difference, is_zero, strictly_opposite};
-use super::{PIXELS_PER_WALK_CELL, PixelPosition};
+use definitions::limits::PIXELS_PER_WALK_CELL;
 
 // The pixel in the middle of column, or row, k.
 pub fn middle_of(k: u64) -> u64

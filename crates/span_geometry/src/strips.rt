@@ -6,9 +6,10 @@ ghost use Rattle.definitions.specs.Spans.{candidate_axis_range, candidate_minor_
 ghost use Rattle.span_geometry.specs.Shapes.{max_pixel, Sound, segment_of};
 ghost use Rattle.span_geometry.specs.Strips.{Walks, Usable, strip_of, line_of};
 
+use super::SpanGeometry;
 use super::numbers::{difference, div_euclid};
 use super::segments::middle_of;
-use super::{PIXELS_PER_WALK_CELL, SpanGeometry};
+use definitions::limits::PIXELS_PER_WALK_CELL;
 
 const CANDIDATE_MARGIN_PIXELS: u64 = 16;
 

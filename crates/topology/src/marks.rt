@@ -9,10 +9,10 @@ ghost use Rattle.topology.specs.Marks.{Shows, Removed, Lent, MarkedFor};
 use crate::interior_pass::collapse_ramp_interiors;
 use crate::junction_pass::remove_junction_boundaries;
 use crate::mouth_pass::replace_ramp_mouths;
-use checks::limits::NUMBERS_PER_BOUNDARY;
 use checks::passes::Pass;
 use context::pairs::Pair;
 use context::{PartitionContext, Region};
+use definitions::limits::NUMBERS_PER_BOUNDARY;
 use pass_lists::view;
 
 // Marks the boundaries that the pass removes. Marks and counts, which show anchored regions and incidents, are its to work in.

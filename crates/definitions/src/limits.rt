@@ -1,4 +1,5 @@
-// The limits of SPECIFICATION 17, by the names of Limits.antt. The contracts of the checks tie the two.
+// The limits of SPECIFICATION 17 and how many numbers an entry of each list has, by the names of specs/Limits.antt. The contracts of the functions
+// that use them tie the two.
 pub const MAX_SIDE: u64 = 1024;
 
 pub const MAX_ENTRIES: usize = 256;
@@ -10,6 +11,8 @@ pub const NUMBERS_PER_BOUNDARY: usize = 9;
 pub const NUMBERS_PER_ANCHOR: usize = 2;
 
 pub const TALLIES_PER_SPAN: usize = 2;
+
+pub const NUMBERS_PER_PAIR: usize = 3;
 
 pub const NUMBERS_PER_ROW: usize = 5;
 
