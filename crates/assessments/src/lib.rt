@@ -2,7 +2,7 @@
 
 #![tactic(auto)]
 
-pub mod region_pairs;
+pub mod ascending_rows;
 
 ghost use Rattle.std.specs.Prelude.{◌≡◌, [], ◌∷◌, ◌+◌, ◌-◌, ◌*◌, ◌≤◌, ◌<◌, length};
 ghost use Rattle.definitions.specs.Grid.{at};
@@ -17,12 +17,13 @@ ghost use Rattle.assessments.specs.Assess.{nothing, max_edges, Counting, Assesse
 ghost use Rattle.assessments.specs.Assessing.{Keeps, CountingIn, AssessesIn, AssessReady, AssessVisited, assess_laws};
 ghost use Rattle.assessments.specs.Contract.{AssessAsked, SpansAssessed};
 
+use ascending_rows::{Rows, put_pair};
 use cut_steps::cell::is_set;
 use cut_steps::span_at;
 use cut_steps::walk::{SpanWalk, StepVisitor, walk_span};
 use definitions::limits::{NUMBERS_PER_PAIR, NUMBERS_PER_SPAN, TALLIES_PER_SPAN};
 use grid_steps::grid::{Direction, EAST, SOUTH, SOUTH_EAST, SOUTH_WEST, TerrainGrid, WalkPosition};
-use region_pairs::{RegionPair, Rows, put_pair};
+use region_pairs::Pair;
 use span_geometry::SpanGeometry;
 
 // What is found of a span so far: the counts of its removed and separated edges, the end of its rows in the list of pairs, and the row of the last pair, a
@@ -61,7 +62,7 @@ impl Assessing<'_> {
         if left == right {
             return;
         }
-        let pair = RegionPair {
+        let pair = Pair {
             lo: left.min(right),
             hi: left.max(right),
         };

@@ -11,7 +11,7 @@ use Rattle.definitions.specs.Scan.{run}
 use Rattle.definitions.specs.Grid.{Pair}
 use Rattle.definitions.specs.Context.{Context, only_pair, full_cut, full_pair}
 use Rattle.laws.specs.ListLaws.Lists.{length_run}
-use Rattle.context.specs.declared.pairs.Pair as declared
+use Rattle.region_pairs.specs.declared.Pair as declared
 use Rattle.context.specs.Shown.{pair_at, pairs_between, ShownTallies, ShownPairs}
 use Rattle.context.specs.Rows.{full_pair_of}
 

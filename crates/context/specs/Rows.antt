@@ -1,12 +1,11 @@
 -- The words of the contracts over the rows of pairs. Definitions only; assumes nothing.
-use Rattle.std.specs.Prelude.{ℕ, ◌+◌, ◌*◌, ◌≤◌, ◌<◌, ◌≡◌, List, length, get_or, Option, None, Some}
+use Rattle.std.specs.Prelude.{ℕ, ◌+◌, ◌*◌, ◌≤◌, ◌<◌, ◌≡◌, List, length, get_or}
 use Rattle.definitions.specs.Limits.{max_entries, numbers_per_pair}
-use Rattle.definitions.specs.Grid.{Pair}
 use Rattle.definitions.specs.Lists.{overwrite}
 use Rattle.definitions.specs.Context.{Context}
 use Rattle.definitions.specs.Verdict.{pair_rows_of}
 use Rattle.laws.specs.ListLaws.Lists.{All}
-use Rattle.context.specs.declared.pairs.Pair as declared
+pub use Rattle.region_pairs.specs.Forms.{pair_form, full_pair_of}
 
 -- the list begins with the rows of C's pairs, which name two different regions, the smaller first, from 1 on
 pub record PairRows (C : Context) (pairs : List ℕ) (rows count : ℕ) : Type 0 where
@@ -42,12 +41,3 @@ pub record NamedRows (pairs starts : List ℕ) (count n : ℕ) : Type 0 where
   pub few : count ≤ max_entries
   pub stretch : (i : ℕ) → i < count → Stretch pairs starts i
   pub named : (i : ℕ) → i < count → (k : ℕ) → get_or starts i 0 ≤ k → k < get_or starts (i + 1) 0 → NamedRow pairs n k
-
--- ---- pairs by value
-
-abbrev pub pair_form : declared.Pair → Pair
-pair_form p = record { lo = p.lo; hi = p.hi }
-
-abbrev pub full_pair_of : Option declared.Pair → Option Pair
-full_pair_of None = None
-full_pair_of (Some p) = Some (pair_form p)

@@ -5,7 +5,7 @@ use Rattle.definitions.specs.Limits.{max_entries, numbers_per_boundary, tallies_
 use Rattle.definitions.specs.Grid.{boundary_at}
 use Rattle.definitions.specs.Context.{Context, incident_count, full_pair}
 use Rattle.laws.specs.ListLaws.Lists.{All}
-use Rattle.context.specs.declared.pairs.Pair.{Pair}
+use Rattle.region_pairs.specs.declared.Pair.{Pair}
 use Rattle.context.specs.Rows.{full_pair_of}
 pub use Rattle.laws.specs.RegionLaws.PairRows.{pair_at}
 unfoldable pub use Rattle.laws.specs.RegionLaws.PairRows.{pairs_between}

@@ -1,39 +1,14 @@
 // The rows of pairs by span, and the full cuts and full pairs of boundaries (`full_cut` and `full_pair` of context.rs).
 ghost use Rattle.std.specs.Prelude.{◌≡◌, ℕ, ◌+◌, ◌*◌, ◌≤◌, ◌<◌, length};
 ghost use Rattle.definitions.specs.Limits.{max_entries, tallies_per_span, numbers_per_pair};
-ghost use Rattle.definitions.specs.Grid.{contains};
 ghost use Rattle.definitions.specs.Context.{Context, full_cut, full_pair};
-ghost use Rattle.context.specs.Shown.{pair_at, ShownTallies, ShownPairs, ShownFullPairs};
-ghost use Rattle.context.specs.Rows.{PairRows, SpanEnd, Stretch, pair_form, full_pair_of};
+ghost use Rattle.region_pairs.specs.Forms.{full_pair_of};
+ghost use Rattle.context.specs.Shown.{ShownTallies, ShownPairs, ShownFullPairs};
+ghost use Rattle.context.specs.Rows.{PairRows, SpanEnd, Stretch};
 
 use crate::PartitionContext;
 use definitions::limits::{NUMBERS_PER_PAIR, TALLIES_PER_SPAN};
-
-// Two regions, the smaller first.
-#[derive(Clone, Copy, PartialEq, Eq)]
-pub struct Pair {
-    pub lo: u32,
-    pub hi: u32,
-}
-
-impl Pair {
-    pub fn contains(self, r: u32) -> bool
-        ensures { result ≡ contains r (pair_form self) }
-    {
-        (self.lo == r) | (self.hi == r)
-    }
-}
-
-// The pair of row k.
-pub fn row_at(pairs: &[u32], k: usize) -> Pair
-    requires { numbers_per_pair * k + 2 < length pairs.now }
-    ensures { pair_form result ≡ pair_at pairs.now k }
-{
-    Pair {
-        lo: pairs[NUMBERS_PER_PAIR * k + 1],
-        hi: pairs[NUMBERS_PER_PAIR * k + 2],
-    }
-}
+pub use region_pairs::{Pair, row_at};
 
 // The first row from `first` on whose span is another; `rows` where there is none.
 fn span_end(pairs: &[u32], rows: usize, first: usize, span: usize) -> usize

@@ -8,7 +8,7 @@ use Rattle.definitions.specs.Limits.{numbers_per_pair}
 use Rattle.definitions.specs.Context.{Context}
 use Rattle.definitions.specs.RampInteriors.{components}
 use Rattle.context.specs.Shown.{pair_at, ShownPairs}
-use Rattle.context.specs.declared.pairs.Pair as declared
+use Rattle.region_pairs.specs.declared.Pair as declared
 use Rattle.context.specs.Rows.{pair_form}
 use Rattle.context.proofs.ShownLaws.{shown-stretch}
 use Rattle.interior_proposals.specs.Forest.{Names}

@@ -19,7 +19,7 @@ use Rattle.junction_proposals.specs.Rows.{RowFits}
 use Rattle.junction_proposals.proofs.BridgeTests.{port-within}
 use Rattle.junction_proposals.proofs.BridgeWalk.{port_at_lem}
 use Rattle.junction_proposals.proofs.FirstFound.{found}
-use Rattle.context.specs.declared.pairs.Pair as declared
+use Rattle.region_pairs.specs.declared.Pair as declared
 
 module _ (boundaries : List ℕ) (full : List (Option declared.Pair)) (marks : List ℕ) (r count regions : ℕ) (pairs : LentPairs full count regions) (low : 1 ≤ r) (high : r ≤ regions) where
   -- what is said of a bridge

@@ -34,7 +34,7 @@ use Rattle.junction_proposals.proofs.BridgeTests.{beyond-within}
 use Rattle.junction_proposals.proofs.BridgeWalk.{some_pair, other-count, is_anchored, by_list, other_length}
 use Rattle.junction_proposals.proofs.FirstFound.{found}
 use Rattle.junction_proposals.proofs.UnionRows.{filter_only, of_some}
-use Rattle.context.specs.declared.pairs.Pair as declared
+use Rattle.region_pairs.specs.declared.Pair as declared
 
 module _ (boundaries : List ℕ) (full : List (Option declared.Pair)) (counts marks : List ℕ) (C : Context) (S : Shows boundaries full counts marks C.count C.regions C) (r : ℕ) (low : 1 ≤ r) (high : r ≤ C.regions) where
   abbrev allowed : Proposal → Bool

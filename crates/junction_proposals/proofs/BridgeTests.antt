@@ -13,7 +13,7 @@ use Rattle.definitions.specs.Junctions.{Proposal, beyond}
 use Rattle.junction_proposals.specs.Unions.{is_near}
 use Rattle.junction_proposals.specs.Lent.{LentPairs}
 use Rattle.junction_proposals.specs.Bridges.{PortAt, beyond_at, near_at}
-use Rattle.context.specs.declared.pairs.Pair as declared
+use Rattle.region_pairs.specs.declared.Pair as declared
 
 -- both regions of a pair are labelled
 pub beyond-within : (r n : ℕ) (p : Pair) {x : ℕ} → x ≡ other_region r p → 1 ≤ p.lo → p.lo < p.hi → p.hi ≤ n → (1 ≤ x) × (x ≤ n)

@@ -17,7 +17,7 @@ use Rattle.junction_proposals.specs.Ports.{pair_of, names}
 use Rattle.junction_proposals.specs.Unions.{mark_at, no_ramp_at}
 use Rattle.junction_proposals.specs.Bridges.{PortAt, is_pocket_port, bridge_of_three, bridge_of_list, is_bridge_at}
 use Rattle.junction_proposals.proofs.FirstFound.{found}
-use Rattle.context.specs.declared.pairs.Pair as declared
+use Rattle.region_pairs.specs.declared.Pair as declared
 
 None≢Some : {p : Proposal} → None ≡ Some p → ⊥
 None≢Some e = let z : ◌≡◌ {A = ℕ} 0 1 = cc in omega arith

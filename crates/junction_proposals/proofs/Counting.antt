@@ -20,7 +20,7 @@ use Rattle.junction_proposals.specs.Ports.{pair_of, names}
 use Rattle.junction_proposals.specs.Unions.{no_ramp_at}
 use Rattle.junction_proposals.specs.Bridges.{is_pocket_port, is_bridge_at}
 use Rattle.junction_proposals.proofs.BridgeWalk.{bridge-ports}
-use Rattle.context.specs.declared.pairs.Pair as declared
+use Rattle.region_pairs.specs.declared.Pair as declared
 
 -- ---- pairs counted in both orders
 

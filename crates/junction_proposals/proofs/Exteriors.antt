@@ -14,7 +14,7 @@ use Rattle.definitions.specs.Scan.{any_below_lem, count_below, collect, to_list,
 use Rattle.definitions.specs.Grid.{Pair}
 use Rattle.definitions.specs.Context.{holds}
 use Rattle.definitions.specs.Junctions.{exterior_of}
-use Rattle.context.specs.declared.pairs.Pair as declared
+use Rattle.region_pairs.specs.declared.Pair as declared
 use Rattle.junction_proposals.specs.Ports.{pair_of, names, names_either, is_port, incidents_of}
 use Rattle.junction_proposals.specs.Unions.{with_exterior, with_pair, with_incident, leads_to, leads_anew}
 use Rattle.junction_proposals.specs.declared.unions.Exteriors.{Exteriors}

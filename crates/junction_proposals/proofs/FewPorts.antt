@@ -16,7 +16,7 @@ use Rattle.laws.specs.ListLaws.Tests.{both}
 use Rattle.laws.specs.ListLaws.ScanSteps.{count_mono}
 use Rattle.junction_proposals.specs.Ports.{pair_of, names, is_unfit, region_fits, walk_fits, is_port}
 use Rattle.junction_proposals.specs.Unions.{leads_anew}
-use Rattle.context.specs.declared.pairs.Pair as declared
+use Rattle.region_pairs.specs.declared.Pair as declared
 
 -- ---- counts
 

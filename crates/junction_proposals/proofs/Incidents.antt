@@ -14,7 +14,7 @@ use Rattle.std.proofs.lemmas.List.Folds.{list_any-append, list_all-append}
 use Rattle.std.proofs.lemmas.List.Elements.{filter-append}
 use Rattle.definitions.specs.Scan.{any_below_lem, all_below, count_below, collect, to_list, only_if, bit}
 use Rattle.definitions.specs.Grid.{Pair}
-use Rattle.context.specs.declared.pairs.Pair as declared
+use Rattle.region_pairs.specs.declared.Pair as declared
 use Rattle.laws.specs.ListLaws.ScanSteps.{collect_next}
 use Rattle.laws.specs.ListLaws.Scans.{picked, picked-length, picked_at}
 use Rattle.laws.specs.ListLaws.Below.{rank-taken}

@@ -20,7 +20,7 @@ use Rattle.laws.specs.ListLaws.ScansOfAll.{all_ext, all_and}
 use Rattle.laws.specs.ListLaws.ScanSteps.{count_same, all_intro, any-fails_at}
 use Rattle.context.specs.Shown.{ShownFullPairs, ShownIncidents}
 use Rattle.junction_proposals.specs.Ports.{names, is_fit, is_unfit, region_fits, walk_fits, is_port}
-use Rattle.context.specs.declared.pairs.Pair as declared
+use Rattle.region_pairs.specs.declared.Pair as declared
 
 -- ---- full pairs and incidents
 

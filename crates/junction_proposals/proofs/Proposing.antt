@@ -24,7 +24,7 @@ use Rattle.junction_proposals.specs.declared.proposals.Candidate.{Candidate}
 use Rattle.junction_proposals.proofs.UnionRows.{of_some, union-row}
 use Rattle.junction_proposals.proofs.BridgeRows.{bridge-row}
 use Rattle.junction_proposals.proofs.BridgeIndex.{bridge_fits_lem}
-use Rattle.context.specs.declared.pairs.Pair as declared
+use Rattle.region_pairs.specs.declared.Pair as declared
 
 -- ---- what is collected
 

@@ -10,7 +10,7 @@ use borrow.Author.Tests.{eqb-true}
 use Rattle.std.specs.List.{list_any, filter}
 use Rattle.definitions.specs.Scan.{any_below_lem, count_below}
 use Rattle.definitions.specs.Grid.{Pair, contains}
-use Rattle.context.specs.declared.pairs.Pair as declared
+use Rattle.region_pairs.specs.declared.Pair as declared
 use Rattle.laws.specs.ListLaws.Below.{below_ext, count_ext}
 use Rattle.junction_proposals.specs.Ports.{names, names_either, is_fit, is_unfit, incidents_of}
 use Rattle.junction_proposals.proofs.Incidents.{any_listed, count_listed}

@@ -23,7 +23,7 @@ use Rattle.junction_proposals.specs.Lent.{Shows}
 use Rattle.junction_proposals.specs.Ports.{pair_of, is_port, walk_fits}
 use Rattle.junction_proposals.specs.Unions.{leads_to, leads_anew, width_at, no_ramp_at, is_near, mark_at, marks_of, passes_at, ports_pass, shape_at}
 use Rattle.junction_proposals.proofs.PortLaws.{walk_is, port_is}
-use Rattle.context.specs.declared.pairs.Pair as declared
+use Rattle.region_pairs.specs.declared.Pair as declared
 
 -- what is asked of a pair that there may be
 holds_ext : (o : Option Pair) (f g : Pair → Bool) → ((q : Pair) → f q ≡ g q) → holds o f ≡ holds o g

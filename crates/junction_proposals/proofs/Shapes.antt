@@ -9,7 +9,7 @@ use lib.Dec.{eqb, ltb, leb}
 use borrow.Author.Tests.{lt-ltb, le-ltb}
 use Rattle.definitions.specs.Scan.{count_below}
 use Rattle.definitions.specs.Grid.{Pair}
-use Rattle.context.specs.declared.pairs.Pair as declared
+use Rattle.region_pairs.specs.declared.Pair as declared
 use Rattle.junction_proposals.specs.Ports.{pair_of, walk_fits}
 use Rattle.junction_proposals.specs.Unions.{no_ramp_at, marks_of, leads_anew, ports_pass, shape_at}
 use Rattle.junction_proposals.proofs.FewPorts.{few-ports}

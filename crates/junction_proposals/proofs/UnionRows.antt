@@ -14,7 +14,7 @@ use Rattle.junction_proposals.specs.Lent.{Shows}
 use Rattle.junction_proposals.specs.Unions.{shape_at}
 use Rattle.junction_proposals.specs.Rows.{union_of, union_at, is_allowed}
 use Rattle.junction_proposals.proofs.ShapeLaws.{shape_is}
-use Rattle.context.specs.declared.pairs.Pair as declared
+use Rattle.region_pairs.specs.declared.Pair as declared
 
 pub filter_only : {A : Type 0} (f : A → Bool) (b : Bool) (x : A) → filter f (to_list (only_if b x)) ≡ to_list (only_if (b && f x) x)
 unfolding filter

@@ -9,7 +9,7 @@ use Rattle.definitions.specs.Scan.{collect, only_if}
 use Rattle.definitions.specs.Grid.{Pair}
 use Rattle.definitions.specs.Geometry.{float}
 use Rattle.definitions.specs.Junctions.{Proposal, beyond}
-use Rattle.context.specs.declared.pairs.Pair as declared
+use Rattle.region_pairs.specs.declared.Pair as declared
 use Rattle.junction_proposals.specs.Ports.{pair_of, names}
 use Rattle.junction_proposals.specs.Unions.{width_at, no_ramp_at, is_near, mark_at}
 use Rattle.junction_proposals.specs.declared.bridges.Bridge.{Bridge}

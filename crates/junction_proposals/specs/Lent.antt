@@ -5,7 +5,7 @@ use Rattle.definitions.specs.Grid.{segment_at}
 use Rattle.definitions.specs.Context.{Context}
 use Rattle.laws.specs.FloatLaws.Pixels.{PixelSegment, PixelContext}
 use Rattle.laws.specs.RustContext.SoundContext.{Sound}
-use Rattle.context.specs.declared.pairs.Pair as declared
+use Rattle.region_pairs.specs.declared.Pair as declared
 use Rattle.context.specs.Shown.{ShownBoundaries, ShownFullPairs, ShownIncidents, ShownAnchored}
 use Rattle.junction_proposals.specs.Ports.{pair_of}
 use Rattle.junction_proposals.specs.declared.lists.JunctionLists.{JunctionLists}

@@ -6,7 +6,7 @@ use Rattle.definitions.specs.Scan.{any_below_lem, count_below, collect, only_if}
 use Rattle.definitions.specs.Grid.{Pair, contains}
 use Rattle.definitions.specs.Context.{holds}
 use Rattle.definitions.specs.Junctions.{fits_union}
-use Rattle.context.specs.declared.pairs.Pair as declared
+use Rattle.region_pairs.specs.declared.Pair as declared
 use Rattle.context.specs.Rows.{full_pair_of}
 
 module _ (full : List (Option declared.Pair)) where

@@ -7,7 +7,7 @@ use Rattle.definitions.specs.RegionRecord.{has_ramp, strictly_flat}
 use Rattle.definitions.specs.Context.{Context}
 use Rattle.definitions.specs.Junctions.{Proposal, within_radius, union_regions}
 use Rattle.definitions.specs.Grid.{Pair}
-use Rattle.context.specs.declared.pairs.Pair as declared
+use Rattle.region_pairs.specs.declared.Pair as declared
 use Rattle.junction_proposals.specs.Ports.{pair_of}
 use Rattle.junction_proposals.specs.Unions.{shape_at}
 use Rattle.junction_proposals.specs.Bridges.{is_bridge_at}

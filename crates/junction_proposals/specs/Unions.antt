@@ -8,7 +8,7 @@ use Rattle.definitions.specs.Grid.{Pair, segment_at}
 use Rattle.definitions.specs.Geometry.{center}
 use Rattle.definitions.specs.Context.{holds}
 use Rattle.definitions.specs.Junctions.{exterior_of, within_distance, max_port_distance_pixels}
-use Rattle.context.specs.declared.pairs.Pair as declared
+use Rattle.region_pairs.specs.declared.Pair as declared
 use Rattle.junction_proposals.specs.Ports.{pair_of, is_port, walk_fits}
 use Rattle.junction_proposals.specs.declared.unions.Exteriors.{Exteriors}
 use Rattle.junction_proposals.specs.declared.unions.Exteriors.TheVariants as found

@@ -18,7 +18,7 @@ use Rattle.laws.specs.ListLaws.ScanSteps.{any-either, any_one}
 use Rattle.junction_proposals.specs.declared.proposals.Candidate.{Candidate}
 use Rattle.junction_proposals.specs.Rows.{row_at}
 use Rattle.junction_selection.specs.Ranks.{order_of, reserves_at, conflict_at}
-use Rattle.context.specs.declared.pairs.Pair as declared
+use Rattle.region_pairs.specs.declared.Pair as declared
 
 -- ---- regions
 

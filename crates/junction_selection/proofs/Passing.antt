@@ -15,7 +15,7 @@ use Rattle.junction_selection.specs.Taken.{removed_at}
 use Rattle.junction_proposals.proofs.Proposing.{shows-own}
 use Rattle.junction_selection.proofs.Removing.{removed_is}
 use Rattle.junction_selection.proofs.ReservedPorts.{proposals_reserve}
-use Rattle.context.specs.declared.pairs.Pair as declared
+use Rattle.region_pairs.specs.declared.Pair as declared
 
 -- what `find_proposals` ensures of the rows, `allow_proposals` of the verdicts and `select_proposals` of the marks
 pub pass-removed : (boundaries : List ℕ) (full : List (Option declared.Pair)) (counts marks : List ℕ) (rows : List Candidate) (verdicts marked : List Bool) (count regions n : ℕ) (C : Context) → Shows boundaries full counts marks count regions C → filter (is_allowed C) (rows_of rows n) ≡ proposals C → ((k : ℕ) → k < n → get_or verdicts k false ≡ is_allowed C (row_at rows k)) → ((j : ℕ) → j < count → get_or marked j false ≡ removed_at boundaries full rows verdicts count n j) → (j : ℕ) → j < count → get_or marked j false ≡ member j (removed C)

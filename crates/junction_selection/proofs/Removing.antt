@@ -22,7 +22,7 @@ use Rattle.junction_selection.specs.Ranks.{key_at, ranks_at, allowed_of, reserve
 use Rattle.junction_selection.specs.Taken.{removed_at}
 use Rattle.junction_proposals.proofs.UnionRows.{filter_only}
 use Rattle.junction_proposals.proofs.Proposing.{collect-filter}
-use Rattle.context.specs.declared.pairs.Pair as declared
+use Rattle.region_pairs.specs.declared.Pair as declared
 
 -- ---- orders and conflicts that agree
 

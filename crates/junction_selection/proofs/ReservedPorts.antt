@@ -23,7 +23,7 @@ use Rattle.junction_selection.specs.Ranks.{reserves_at}
 use Rattle.junction_proposals.proofs.PortLaws.{full_incident, named_incident, names_is, walk_is, region-ports}
 use Rattle.junction_proposals.proofs.UnionRows.{of_some}
 use Rattle.junction_selection.proofs.Removing.{Reserving}
-use Rattle.context.specs.declared.pairs.Pair as declared
+use Rattle.region_pairs.specs.declared.Pair as declared
 
 third_of : (a b c x n y w : Bool) → (a && b && c && x && n && y && w) ≡ true → c ≡ true
 third_of a b true x n y w h = refl

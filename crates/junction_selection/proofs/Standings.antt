@@ -22,7 +22,7 @@ use Rattle.junction_proposals.specs.Rows.{row_at}
 use Rattle.junction_selection.specs.Ranks.{order_of, reserves_at, conflict_at, selected_of, Rows}
 use Rattle.junction_selection.specs.Taken.{Standing}
 use Rattle.junction_selection.proofs.Conflicts.{removed_by, reserved_by, refused_is}
-use Rattle.context.specs.declared.pairs.Pair as declared
+use Rattle.region_pairs.specs.declared.Pair as declared
 
 -- what a selection has chosen, and one more
 abbrev pub grown : {A : Type 0} → (A → A → Bool) → List A → A → List A

@@ -7,7 +7,7 @@ use Rattle.definitions.specs.Junctions.{Proposal}
 use Rattle.junction_proposals.specs.declared.proposals.Candidate.{Candidate}
 use Rattle.junction_proposals.specs.Rows.{max_proposals, row_at}
 use Rattle.junction_selection.specs.Ranks.{ranks_at, order_of, allowed_of, reserves_at, conflict_at, Rows}
-use Rattle.context.specs.declared.pairs.Pair as declared
+use Rattle.region_pairs.specs.declared.Pair as declared
 
 -- row p is whole, and there is a mark for each boundary
 pub record Within (rows : List Candidate) (removed reserved : List Bool) (count p : ℕ) : Type 0 where

@@ -15,7 +15,7 @@ use Rattle.laws.specs.ListLaws.Lists.{All, more}
 use Rattle.context.specs.Rows.{pair_form}
 use Rattle.mouth_proposals.specs.Rows.{is_outer, inner_of, shape_form, one_of}
 use Rattle.mouth_proposals.specs.Candidates.{single_at, star_at, approach_of}
-use Rattle.context.specs.declared.pairs.Pair as shape-pair
+use Rattle.region_pairs.specs.declared.Pair as shape-pair
 use Rattle.mouth_proposals.specs.declared.shapes.Shape.{Shape}
 use Rattle.mouth_proposals.specs.declared.shapes.Shape.TheVariants as shape
 use Rattle.mouth_proposals.proofs.Distinct.{member-inner, inner_distinct, which-left}

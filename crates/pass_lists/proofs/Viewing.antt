@@ -20,7 +20,7 @@ use Rattle.laws.specs.RegionLaws.Regions.{label-range, label-blocked}
 use Rattle.laws.specs.ListLaws.Beyond.{Beyond}
 use Rattle.laws.specs.ListLaws.ScanSteps.{count-le}
 use Rattle.areas.proofs.Labelling.{zeroed_at, zeroed_rest}
-use Rattle.context.specs.declared.pairs.Pair.{Pair}
+use Rattle.region_pairs.specs.declared.Pair.{Pair}
 use Rattle.context.specs.Anchors.{anchor_cell, anchor_cells, mark_label, mark_cells, AnchorsFit}
 use Rattle.context.proofs.AnchorLaws.{marked-beyond, marked-shown}
 use Rattle.context.specs.Rows.{Stretch, NamedRows}

@@ -6,7 +6,7 @@ use Rattle.definitions.specs.Partition.{region_count}
 use Rattle.definitions.specs.Partition as partition
 use Rattle.definitions.specs.Context.{Context, context_of}
 use Rattle.laws.specs.ListLaws.Beyond.{Beyond}
-use Rattle.context.specs.declared.pairs.Pair.{Pair}
+use Rattle.region_pairs.specs.declared.Pair.{Pair}
 use Rattle.context.specs.Anchors.{anchor_cell, anchor_cells}
 use Rattle.context.specs.Rows.{PairRows}
 use Rattle.context.specs.Shown.{ShownTallies, ShownPairs, ShownFullPairs, ShownAnchored, ShownIncidents}

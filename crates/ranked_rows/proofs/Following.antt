@@ -21,7 +21,7 @@ use Rattle.ranked_list.specs.RankedList.{Listed, blocks, judged, judged_after, f
 use Rattle.ranked_list.proofs.RankedLaws.{row_at_lem, judged-length}
 use Rattle.ranked_rows.specs.Contract.{Listing, RankOf, ranked_row, listed_from, blocks_at, Following}
 use Rattle.ranked_rows.proofs.Judging.{judged_more, flat_more, flat-length, taken-number, row_written}
-use Rattle.context.specs.declared.pairs.Pair as declared
+use Rattle.region_pairs.specs.declared.Pair as declared
 
 -- ---- the rows that an order names
 

@@ -19,7 +19,7 @@ use Rattle.junction_selection.proofs.Removing.{conflict_is, ranked_is, all-ranke
 use Rattle.junction_selection.proofs.ReservedPorts.{proposals_reserve}
 use Rattle.ranked_list.specs.RankedList.{Listed, first_place, blocks, judged, judged_after, ranked_rows}
 use Rattle.ranked_rows.specs.Contract.{listed_from, allowed_list}
-use Rattle.context.specs.declared.pairs.Pair as declared
+use Rattle.region_pairs.specs.declared.Pair as declared
 
 -- ---- conflicts that agree
 

@@ -12,7 +12,7 @@ use Rattle.junction_proposals.specs.declared.proposals.Candidate.{Candidate}
 use Rattle.junction_proposals.specs.Rows.{max_proposals, row_at}
 use Rattle.junction_selection.specs.Ranks.{ranks_at, allowed_of, order_of, conflict_at, Rows}
 use Rattle.ranked_list.specs.RankedList.{Listed, judged_after, numbers_per_ranked, flat_ranked}
-use Rattle.context.specs.declared.pairs.Pair as declared
+use Rattle.region_pairs.specs.declared.Pair as declared
 
 -- rows q and p are whole, and their boundaries are among the first `count`
 pub record TwoRows (rows : List Candidate) (count q p : ℕ) : Type 0 where

@@ -13,7 +13,7 @@ use Rattle.definitions.specs.RampMouths as mouths
 use Rattle.definitions.specs.RampInteriors as interiors
 use Rattle.definitions.specs.Junctions as junctions
 use Rattle.context.specs.declared.Region.{Region}
-use Rattle.context.specs.declared.pairs.Pair.{Pair}
+use Rattle.region_pairs.specs.declared.Pair.{Pair}
 use Rattle.topology.specs.Interiors.{Collapses, Collapsed}
 use Rattle.topology.specs.Mouths.{Replaces, NoMarks, Replaced}
 use Rattle.topology.specs.Proposals.{Passes, Unmarked, Removes}

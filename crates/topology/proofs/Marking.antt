@@ -14,7 +14,7 @@ use Rattle.definitions.specs.Grid.{Map}
 use Rattle.definitions.specs.Context.{Context, context_of}
 use Rattle.laws.specs.ListLaws.Beyond.{Beyond}
 use Rattle.context.specs.declared.Region.{Region}
-use Rattle.context.specs.declared.pairs.Pair.{Pair}
+use Rattle.region_pairs.specs.declared.Pair.{Pair}
 use Rattle.pass_lists.specs.Contract.{Viewed}
 use Rattle.pass_lists.proofs.Viewing.{regions-within}
 use Rattle.topology.specs.Marks.{Shows, Removed, Lent, MarkedFor}

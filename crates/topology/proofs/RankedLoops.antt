@@ -9,7 +9,7 @@ use lib.ListN.{length}
 use Rattle.definitions.specs.Lists.{overwrite}
 use Rattle.definitions.specs.Context.{Context}
 use Rattle.context.specs.declared.Region.{Region}
-use Rattle.context.specs.declared.pairs.Pair.{Pair}
+use Rattle.region_pairs.specs.declared.Pair.{Pair}
 use Rattle.junction_proposals.specs.declared.proposals.Candidate.{Candidate}
 use Rattle.junction_proposals.specs.Rows.{max_proposals}
 use Rattle.ranked_list.specs.RankedList.{numbers_per_ranked, ranked_rows, flat_ranked}

@@ -11,7 +11,7 @@ use Rattle.definitions.specs.Context.{Context, context_of}
 use Rattle.definitions.specs.Rows.{removed_by}
 use Rattle.std.specs.Prelude.{Option}
 use Rattle.context.specs.declared.Region.{Region}
-use Rattle.context.specs.declared.pairs.Pair.{Pair}
+use Rattle.region_pairs.specs.declared.Pair.{Pair}
 use Rattle.pass_lists.specs.Contract.{Viewed}
 use Rattle.ranked_list.specs.RankedList.{flat_ranked}
 use Rattle.topology.specs.Mouths.{NoMarks}

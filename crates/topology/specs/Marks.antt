@@ -9,7 +9,7 @@ use Rattle.laws.specs.RustContext.CheckedContext.{Checked}
 use Rattle.laws.specs.ListLaws.Beyond.{Beyond}
 pub use Rattle.checks.specs.Passes.{IsPass}
 use Rattle.context.specs.declared.Region.{Region}
-use Rattle.context.specs.declared.pairs.Pair.{Pair}
+use Rattle.region_pairs.specs.declared.Pair.{Pair}
 use Rattle.context.specs.Records.{max_cells, Counted}
 use Rattle.context.specs.Shown.{ShownBoundaries, ShownTallies, ShownPairs, ShownFullPairs, ShownAnchored, ShownIncidents}
 use Rattle.pass_lists.specs.Contract.{Partitioned, FreshMarks}

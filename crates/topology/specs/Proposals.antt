@@ -4,7 +4,7 @@ use Rattle.definitions.specs.Scan.{member, filter}
 use Rattle.definitions.specs.Context.{Context}
 use Rattle.definitions.specs.Junctions.{proposals, removed}
 use Rattle.context.specs.declared.Region.{Region}
-use Rattle.context.specs.declared.pairs.Pair.{Pair}
+use Rattle.region_pairs.specs.declared.Pair.{Pair}
 use Rattle.context.specs.Records.{Counted}
 use Rattle.junction_proposals.specs.declared.lists.JunctionLists.{JunctionLists}
 use Rattle.junction_proposals.specs.declared.proposals.Candidate.{Candidate}

@@ -7,7 +7,7 @@ use mathlib.Core.Path.{◌≡◌, refl, sym, ap, ap₂, ◌∙◌}
 use Rattle.std.specs.Prelude.{Option}
 use mathlib.Core.List.{List, ◌++◌, append-nil, append_assoc}
 use lib.ListN.{length, length-append}
-use Rattle.context.specs.declared.pairs.Pair as declared
+use Rattle.region_pairs.specs.declared.Pair as declared
 use Rattle.definitions.specs.Scan.{collect, to_list}
 use Rattle.definitions.specs.Limits.{max_entries}
 use Rattle.definitions.specs.Junctions.{Proposal}
