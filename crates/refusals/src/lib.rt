@@ -9,33 +9,33 @@ ghost use Rattle.definitions.specs.Refusals.{unless};
 ghost use Rattle.definitions.specs.Verdict.{refusal};
 ghost use Rattle.refusals.specs.Refusals.{number_of, refusal_in};
 
-/// A cause of the table of refusals.
+/// A cause of the table of refusals, with its number there.
 #[derive(Clone, Copy, Debug, PartialEq, Eq)]
 pub enum Cause {
-    Sides,
-    Cells,
-    Entries,
-    Pass,
-    SpanOutside,
-    SpanOfNoLength,
-    Boundary,
-    AnchorOutside,
-    Elevation,
-    Room,
-    Regions,
-    Pairs,
-    Range,
-    Sheet,
-    ResultSheet,
-    Lists,
-    Accession,
-    Date,
-    Term,
-    Desk,
-    Ranked,
-    TwoLists,
-    Graph,
-    Goal,
+    Sides = 1,
+    Cells = 2,
+    Entries = 3,
+    Pass = 4,
+    SpanOutside = 5,
+    SpanOfNoLength = 6,
+    Boundary = 7,
+    AnchorOutside = 8,
+    Elevation = 9,
+    Room = 10,
+    Regions = 11,
+    Pairs = 12,
+    Range = 13,
+    Sheet = 14,
+    ResultSheet = 15,
+    Lists = 16,
+    Accession = 17,
+    Date = 18,
+    Term = 19,
+    Desk = 20,
+    Ranked = 21,
+    TwoLists = 22,
+    Graph = 23,
+    Goal = 24,
 }
 
 impl Cause {
@@ -43,32 +43,7 @@ impl Cause {
     pub fn number(self) -> u64
         ensures { result ≡ number_of self }
     {
-        match self {
-            Cause::Sides => 1,
-            Cause::Cells => 2,
-            Cause::Entries => 3,
-            Cause::Pass => 4,
-            Cause::SpanOutside => 5,
-            Cause::SpanOfNoLength => 6,
-            Cause::Boundary => 7,
-            Cause::AnchorOutside => 8,
-            Cause::Elevation => 9,
-            Cause::Room => 10,
-            Cause::Regions => 11,
-            Cause::Pairs => 12,
-            Cause::Range => 13,
-            Cause::Sheet => 14,
-            Cause::ResultSheet => 15,
-            Cause::Lists => 16,
-            Cause::Accession => 17,
-            Cause::Date => 18,
-            Cause::Term => 19,
-            Cause::Desk => 20,
-            Cause::Ranked => 21,
-            Cause::TwoLists => 22,
-            Cause::Graph => 23,
-            Cause::Goal => 24,
-        }
+        self as u64
     }
 }
 
