@@ -95,6 +95,14 @@ pub fn has_ramp(boundaries: &[u64], i: usize) -> bool
     kind_at(boundaries, i) != BoundaryKind::Plain
 }
 
+// Whether boundaries i and j are of one kind.
+pub fn same_kind(boundaries: &[u64], i: usize, j: usize) -> bool
+    requires { (numbers_per_boundary * i + 8 < length boundaries.now) × (numbers_per_boundary * j + 8 < length boundaries.now) }
+    ensures { result ≡ eqb (get_or boundaries.now (numbers_per_boundary * i + 5) 0) (get_or boundaries.now (numbers_per_boundary * j + 5) 0) }
+{
+    kind_at(boundaries, i) == kind_at(boundaries, j)
+}
+
 // The number of the ramp of boundary i.
 pub fn ramp_at(boundaries: &[u64], i: usize) -> u64
     requires { numbers_per_boundary * i + 8 < length boundaries.now }
