@@ -3,9 +3,11 @@
 #![tactic(auto)]
 
 pub mod anchored;
+pub mod found_regions;
 pub mod incidents;
 pub mod pairs;
 pub mod records;
+pub mod region_marks;
 pub mod runs;
 
 // The record of a region, as RegionStats of context.rs: SPECIFICATION 9; its ramp cells are counted. Edges are in pixels; bit e of `elevations` says that a cell has elevation e.

@@ -1,3 +1,4 @@
 pub mod Forms
 pub mod Representatives
 pub mod Placed
+pub mod Kinds

@@ -1,10 +1,11 @@
 // The one reader of the boundaries of a lent list, nine numbers each: which of them is which. The first four are the endpoints.
-ghost use Rattle.std.specs.Prelude.{◌≡◌, ◌+◌, ◌*◌, ◌<◌, length, get_or};
+ghost use Rattle.std.specs.Prelude.{◌≡◌, not, ◌+◌, ◌*◌, ◌<◌, length, get_or, eqb};
 ghost use Rattle.definitions.specs.Limits.{numbers_per_boundary};
 ghost use Rattle.definitions.specs.Grid.{segment_at};
 ghost use Rattle.definitions.specs.Geometry.{center};
 ghost use Rattle.geometry.specs.Forms.{point_form, segment_form};
 ghost use Rattle.geometry.specs.Placed.{Placed};
+ghost use Rattle.geometry.specs.Kinds.{kind_of};
 
 use crate::points::center;
 use crate::{Point, Segment};
@@ -20,6 +21,29 @@ const RAMP: usize = 6;
 const LOWER: usize = 7;
 
 const UPPER: usize = 8;
+
+// What a boundary is: no part of a ramp, or an end of one. A list that no check has seen may hold another number, which is kept, so that two kinds are equal just where
+// their numbers are.
+#[derive(Clone, Copy, PartialEq, Eq)]
+pub enum BoundaryKind {
+    Plain,
+    Lower,
+    Upper,
+    Other(u64),
+}
+
+impl From<u64> for BoundaryKind {
+    ghost from_gives = { λ number kind. kind ≡ kind_of number };
+
+    fn from(number: u64) -> BoundaryKind {
+        match number {
+            0 => BoundaryKind::Plain,
+            1 => BoundaryKind::Lower,
+            2 => BoundaryKind::Upper,
+            other => BoundaryKind::Other(other),
+        }
+    }
+}
 
 // The endpoints of boundary i as written.
 pub fn segment_of(boundaries: &[u64], i: usize) -> Segment
@@ -55,12 +79,28 @@ pub fn width_at(boundaries: &[u64], i: usize) -> u64
     boundaries[NUMBERS_PER_BOUNDARY * i + WIDTH]
 }
 
-// The kind of boundary i: 0 without a ramp, 1 for a ramp's lower end, 2 for its upper one.
-pub fn kind_at(boundaries: &[u64], i: usize) -> u64
+// The kind of boundary i.
+pub fn kind_at(boundaries: &[u64], i: usize) -> BoundaryKind
     requires { numbers_per_boundary * i + 8 < length boundaries.now }
-    ensures { result ≡ get_or boundaries.now (numbers_per_boundary * i + 5) 0 }
+    ensures { result ≡ kind_of (get_or boundaries.now (numbers_per_boundary * i + 5) 0) }
 {
-    boundaries[NUMBERS_PER_BOUNDARY * i + KIND]
+    BoundaryKind::from(boundaries[NUMBERS_PER_BOUNDARY * i + KIND])
+}
+
+// Whether boundary i is an end of a ramp.
+pub fn has_ramp(boundaries: &[u64], i: usize) -> bool
+    requires { numbers_per_boundary * i + 8 < length boundaries.now }
+    ensures { result ≡ not (eqb (get_or boundaries.now (numbers_per_boundary * i + 5) 0) 0) }
+{
+    kind_at(boundaries, i) != BoundaryKind::Plain
+}
+
+// Whether boundaries i and j are of one kind.
+pub fn same_kind(boundaries: &[u64], i: usize, j: usize) -> bool
+    requires { (numbers_per_boundary * i + 8 < length boundaries.now) × (numbers_per_boundary * j + 8 < length boundaries.now) }
+    ensures { result ≡ eqb (get_or boundaries.now (numbers_per_boundary * i + 5) 0) (get_or boundaries.now (numbers_per_boundary * j + 5) 0) }
+{
+    kind_at(boundaries, i) == kind_at(boundaries, j)
 }
 
 // The number of the ramp of boundary i.

@@ -24,7 +24,7 @@ use Rattle.laws.specs.RustContext.SoundContext.{Sound}
 use Rattle.laws.specs.RustInteriors.ComponentRegions.{inside, edge_is}
 use Rattle.context.specs.Shown.{pairs_between}
 use Rattle.interior_proposals.specs.Given.{flags_of, Marked}
-use Rattle.interior_proposals.specs.declared.owners.Owner.{Owner}
+use Rattle.context.specs.declared.found_regions.FoundRegions.{FoundRegions}
 use Rattle.interior_proposals.specs.Owners.{pair_named, one_owner, several, owned_by, owner_at, all_in_lem, edge, Owned, Owners}
 use Rattle.interior_proposals.specs.Candidates.{Mapped, is_marked, pair_marked, spoils_at, candidate, port}
 use Rattle.interior_proposals.proofs.Commons.{any_same, several_one}
@@ -149,7 +149,7 @@ module _ (C : Context) (r : ℕ) where
 
 -- ---- a boundary and its owner
 
-module _ (C : Context) (r i : ℕ) {v : Owner} (from : 1 ≤ r) (upto : r ≤ C.regions) (o : Owned C i v) where
+module _ (C : Context) (r i : ℕ) {v : FoundRegions} (from : 1 ≤ r) (upto : r ≤ C.regions) (o : Owned C i v) where
   -- an edge that does not spoil the component is owned by it
   pub edge-owned : spoils_at C r i ≡ false → owned_by r v ≡ edge C r i
   unfolding spoils_at
@@ -213,7 +213,7 @@ counted_same f g zero h = refl
 counted_same f g (suc n) h = ap₂ ◌+◌ (counted_same f g n (λ k l. h k (omega arith))) (ap bit (h n (omega arith)))
 
 -- where no boundary spoils the component, those that it owns are its edges
-pub counted_owned : (C : Context) (r : ℕ) (owners : List Owner) {n count : ℕ} {t : Bool} → 1 ≤ r → r ≤ C.regions → Owners C owners → t ≡ eqb (component_of C (components C) r) r → t ≡ true → C.count ≡ count → any_below_lem C.count (spoils_at C r) ≡ false
+pub counted_owned : (C : Context) (r : ℕ) (owners : List FoundRegions) {n count : ℕ} {t : Bool} → 1 ≤ r → r ≤ C.regions → Owners C owners → t ≡ eqb (component_of C (components C) r) r → t ≡ true → C.count ≡ count → any_below_lem C.count (spoils_at C r) ≡ false
     → n ≡ count_below count (λ i. owned_by r (owner_at owners i)) → (leb 1 n && leb n max_interior_edges) ≡ candidate C r
 counted_owned C r owners from upto O q h e s c =
     counted-candidate C r (sym q ∙ h)
@@ -244,7 +244,7 @@ module _ {C : Context} {rows starts names marks : List ℕ} {r : ℕ} (M : Mappe
   touches_edge o = touches_is ∙ sym (ap (λ t. t && any (λ p. inside C r p.lo || inside C r p.hi) (C.pairs i)) o) ∙ edge_is C (within M.sound) r i l
 
   -- a boundary that another component owns lies there whole
-  port-elsewhere : {v : Owner} → Owned C i v → candidate C r ≡ true → owned_by r v ≡ false → (n : ℕ) → v ≡ one_owner n → false ≡ port C r i
+  port-elsewhere : {v : FoundRegions} → Owned C i v → candidate C r ≡ true → owned_by r v ≡ false → (n : ℕ) → v ≡ one_owner n → false ≡ port C r i
   unfolding is_edge
   port-elsewhere {v} o h m n e =
       let w = o.range n e in
@@ -253,7 +253,7 @@ module _ {C : Context} {rows starts names marks : List ℕ} {r : ℕ} (M : Mappe
       sym (edge_other C r i M.from M.upto o m (λ d. several_one (sym d ∙ e))) ∙ sym (touches_edge plain) ∙ touches_is ∙ port-other C r i M.from M.upto o l h m
 
   -- nor is an edge of the component itself a port
-  pub port-one : {v : Owner} → Owned C i v → candidate C r ≡ true → (n : ℕ) → v ≡ one_owner n → false ≡ port C r i
+  pub port-one : {v : FoundRegions} → Owned C i v → candidate C r ≡ true → (n : ℕ) → v ≡ one_owner n → false ≡ port C r i
   port-one {v} o h n e = go (owned_by r v) refl
     where
       go : (b : Bool) → owned_by r v ≡ b → false ≡ port C r i

@@ -16,8 +16,8 @@ use Rattle.laws.specs.ListLaws.Lists.{All, done, more, all_map}
 use Rattle.laws.specs.ListLaws.Members.{all_at, any_found}
 use Rattle.context.specs.Shown.{pair_at, pairs_between, ShownPairs}
 use Rattle.interior_proposals.specs.Forest.{Names}
-use Rattle.interior_proposals.specs.declared.owners.Owner.{Owner}
-use Rattle.interior_proposals.specs.declared.owners.Owner.TheVariants as owner-is
+use Rattle.context.specs.declared.found_regions.FoundRegions.{FoundRegions}
+use Rattle.context.specs.declared.found_regions.FoundRegions.TheVariants as owner-is
 use Rattle.interior_proposals.proofs.RowScans.{all-holds, any-rows_at, all-rows_is}
 use Rattle.interior_proposals.specs.Owners.{entry_at, low_named, nobody, one_owner, several, is_one, owned_by, name_of, Common, none, one, several_names, all_in_lem, edge, Owned}
 
@@ -49,12 +49,12 @@ nobody_several e =
     let z : ◌≡◌ {A = ℕ} 0 1 = cc in
     omega arith
 
-pub one_named : (o : Owner) → is_one o ≡ true → o ≡ one_owner (name_of o)
+pub one_named : (o : FoundRegions) → is_one o ≡ true → o ≡ one_owner (name_of o)
 one_named owner-is.None e = absurd (false≢true e)
 one_named (owner-is.One r) e = refl
 one_named owner-is.Several e = absurd (false≢true e)
 
-pub owned_one : (r : ℕ) (o : Owner) → owned_by r o ≡ true → o ≡ one_owner r
+pub owned_one : (r : ℕ) (o : FoundRegions) → owned_by r o ≡ true → o ≡ one_owner r
 owned_one r owner-is.None e = absurd (false≢true e)
 owned_one r (owner-is.One n) e = ap one_owner (eqb-true n r e)
 owned_one r owner-is.Several e = absurd (false≢true e)
@@ -166,13 +166,13 @@ module _ (C : Context) (i : ℕ) where
         (omega (arith, N.low w.0.lo p.0 in_names), omega (arith, N.high w.0.lo p.0 in_names, p.1.0, p.1.1))
 
     -- v is what `common_name` returned
-    pub owned : {v : Owner} → is_ordinary C i ≡ true → Common names (pairs_between rows (get_or starts i 0) (get_or starts (i + 1) 0)) v → Owned C i v
+    pub owned : {v : FoundRegions} → is_ordinary C i ≡ true → Common names (pairs_between rows (get_or starts i 0) (get_or starts (i + 1) 0)) v → Owned C i v
     owned {v} o q = go (subst (λ ps. Common names ps v) (sym (P.at i l)) q)
       where
         shown-any : (r : ℕ) → any (low_named names r) (C.pairs i) ≡ true → any (low_in r) (C.pairs i) ≡ true
         shown-any r e = sym (any_same (low_named names r) (low_in r) (name-shown r)) ∙ e
 
-        go : {u : Owner} → Common names (C.pairs i) u → Owned C i u
+        go : {u : FoundRegions} → Common names (C.pairs i) u → Owned C i u
         go (none e) = owned-empty o e
         go (one n a b) =
             let w = low-name n (shown-any n b) in

@@ -1,6 +1,5 @@
 pub mod Bools
 pub mod RowScans
-mod Counting
 pub mod Stored
 pub mod Forests
 pub mod Preparing

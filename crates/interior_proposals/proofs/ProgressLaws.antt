@@ -20,7 +20,7 @@ use Rattle.laws.specs.RustContext.SoundContext.{Sound}
 use Rattle.laws.specs.RustInteriors.ComponentRegions.{inside}
 use Rattle.laws.specs.ListLaws.Beyond.{beyond_same, beyond-then}
 use Rattle.laws.specs.NumberLaws.Comparisons.{last_or}
-use Rattle.interior_proposals.specs.declared.owners.Owner.{Owner}
+use Rattle.context.specs.declared.found_regions.FoundRegions.{FoundRegions}
 use Rattle.interior_proposals.specs.Owners.{one_owner, is_one, owned_by, name_of, owner_at, name_at, all_in_lem, edge, Owners}
 use Rattle.interior_proposals.specs.Candidates.{Told, candidate, both_ports}
 use Rattle.interior_proposals.specs.Leaves.{Inside}
@@ -34,7 +34,7 @@ use Rattle.interior_proposals.proofs.Commons.{one_named}
 
 -- ---- a boundary that comes first
 
-module _ (owners : List Owner) (i : ℕ) where
+module _ (owners : List FoundRegions) (i : ℕ) where
   -- no boundary before it has the component that it has
   pub first_unmet : is_first owners i ≡ true → owned_before owners i (name_at owners i) ≡ false
   unfolding is_first
@@ -66,7 +66,7 @@ module _ (owners : List Owner) (i : ℕ) where
     pub first_found : {t : Bool} → t ≡ owned_before owners i r → t ≡ false → is_first owners i ≡ true
     first_found d h = first_is ∙ ap not (sym d ∙ h)
 
-module _ {C : Context} (owners : List Owner) (O : Owners C owners) (i : ℕ) (l : i < C.count) (h : is_first owners i ≡ true) where
+module _ {C : Context} (owners : List FoundRegions) (O : Owners C owners) (i : ℕ) (l : i < C.count) (h : is_first owners i ≡ true) where
   abbrev owner : ℕ
   owner = name_at owners i
 
@@ -107,7 +107,7 @@ proposed_two C r {a} {b} e = go (candidate C r) refl e
     go true c k = (c, two_found C r (component_ports C (components C) r) k)
     go false c k = absurd (other_two k)
 
-pub found_first : (C : Context) (owners : List Owner) (i : ℕ) {a b : ℕ} → found_ports C owners i ≡ both_ports a b → (is_first owners i ≡ true) × (proposed_ports C (name_at owners i) ≡ both_ports a b)
+pub found_first : (C : Context) (owners : List FoundRegions) (i : ℕ) {a b : ℕ} → found_ports C owners i ≡ both_ports a b → (is_first owners i ≡ true) × (proposed_ports C (name_at owners i) ≡ both_ports a b)
 unfolding found_ports
 found_first C owners i {a} {b} e = go (is_first owners i) refl e
   where
@@ -117,7 +117,7 @@ found_first C owners i {a} {b} e = go (is_first owners i) refl e
 
 -- ---- one boundary more
 
-module _ {C : Context} {owners : List Owner} {was names wasMarks marks : List ℕ} (S : Sound C) (O : Owners C owners) (i : ℕ) (l : i < C.count) (P : Progress C owners was names wasMarks marks i) where
+module _ {C : Context} {owners : List FoundRegions} {was names wasMarks marks : List ℕ} (S : Sound C) (O : Owners C owners) (i : ℕ) (l : i < C.count) (P : Progress C owners was names wasMarks marks i) where
   split_or : (a b : Bool) → (a || b) ≡ false → (a ≡ false) × (b ≡ false)
   split_or true b e = absurd (true≢false e)
   split_or false b e = (refl, e)
@@ -196,11 +196,11 @@ module _ {C : Context} {owners : List Owner} {was names wasMarks marks : List �
 -- ---- for the calls
 
 -- with nothing said of what was there before
-pub progress-now : {C : Context} {owners : List Owner} {was names wasMarks marks : List ℕ} {i : ℕ} → Progress C owners was names wasMarks marks i → Progress C owners names names marks marks i
+pub progress-now : {C : Context} {owners : List FoundRegions} {was names wasMarks marks : List ℕ} {i : ℕ} → Progress C owners was names wasMarks marks i → Progress C owners names names marks marks i
 progress-now {C} {names = names} {marks = marks} P =
     record { long = P.long; unmet = P.unmet; settled = P.settled; beyond = beyond_same C.regions names; cleared = record { marked = P.cleared.marked; beyond = beyond_same C.regions marks } }
 
-module _ {C : Context} {boundaries tallies pairs starts names marks was wasMarks : List ℕ} {owners : List Owner} {count : ℕ} (W : Owning C boundaries tallies pairs starts owners count) (i : ℕ) (l : i < C.count) (P : Progress C owners was names wasMarks marks i) where
+module _ {C : Context} {boundaries tallies pairs starts names marks was wasMarks : List ℕ} {owners : List FoundRegions} {count : ℕ} (W : Owning C boundaries tallies pairs starts owners count) (i : ℕ) (l : i < C.count) (P : Progress C owners was names wasMarks marks i) where
   pub facing : {r : ℕ} → (owner_at owners i ≡ one_owner r) × (is_first owners i ≡ true) → Facing C boundaries tallies pairs starts names marks owners count r
   facing {r} (e, f) = subst (Facing C boundaries tallies pairs starts names marks owners count) {x = name_at owners i} {y = r} (ap name_of e) faced
     where
@@ -235,5 +235,5 @@ module _ {C : Context} {boundaries tallies pairs starts names marks was wasMarks
   found_nothing f = (progress-other W.given.sound W.owned i l P f, sym (ap (λ b. cond b (proposed_ports C (name_at owners i)) None) f))
 
 -- one boundary's ports are stored
-pub found_more : (C : Context) (owners : List Owner) (found : List (Option Ports)) (i : ℕ) {x : Option Ports} → FoundAll C owners found i → i < length found → x ≡ found_ports C owners i → FoundAll C owners (set found i x) (i + 1)
+pub found_more : (C : Context) (owners : List FoundRegions) (found : List (Option Ports)) (i : ℕ) {x : Option Ports} → FoundAll C owners found i → i < length found → x ≡ found_ports C owners i → FoundAll C owners (set found i x) (i + 1)
 found_more C owners found i F l e = filled_more (λ o p. p ≡ found_ports C owners o) None found F l e

@@ -20,7 +20,7 @@ use Rattle.laws.specs.RustInteriors.ComponentRegions.{all_inside, region_members
 use Rattle.laws.specs.ListLaws.Beyond.{beyond_same, beyond-then}
 use Rattle.laws.specs.RegionLaws.OneMore.{any-counted}
 use Rattle.context.specs.Shown.{ShownPairs}
-use Rattle.interior_proposals.specs.declared.owners.Owner.{Owner}
+use Rattle.context.specs.declared.found_regions.FoundRegions.{FoundRegions}
 use Rattle.interior_proposals.specs.Owners.{entry_at, all_in_lem, edge}
 use Rattle.interior_proposals.specs.Candidates.{spoils_at, candidate, port, both_ports, two_ports}
 use Rattle.interior_proposals.specs.Fits.{Listed}
@@ -99,7 +99,7 @@ other_is C r (x ∷ y ∷ z ∷ l) e = refl
 
 -- ---- what was found
 
-module _ {C : Context} {boundaries tallies pairs starts names marks : List ℕ} {owners : List Owner} {count r : ℕ} (F : Facing C boundaries tallies pairs starts names marks owners count r) where
+module _ {C : Context} {boundaries tallies pairs starts names marks : List ℕ} {owners : List FoundRegions} {count r : ℕ} (F : Facing C boundaries tallies pairs starts names marks owners count r) where
   idle : None ≡ proposed_ports C r → Proposed C r names names marks marks None
   idle e =
       record {
@@ -202,7 +202,7 @@ module _ {C : Context} {boundaries tallies pairs starts names marks : List ℕ} 
 
 -- ---- what the calls ask for
 
-module _ {C : Context} {boundaries tallies pairs starts names marks : List ℕ} {owners : List Owner} {count r : ℕ} (F : Facing C boundaries tallies pairs starts names marks owners count r) (i : ℕ) (l : i < C.count) where
+module _ {C : Context} {boundaries tallies pairs starts names marks : List ℕ} {owners : List FoundRegions} {count r : ℕ} (F : Facing C boundaries tallies pairs starts names marks owners count r) (i : ℕ) (l : i < C.count) where
   pub facing-listed : Listed boundaries tallies i
   facing-listed = record { whole = omega (arith, F.given.bounds.long); tallied = omega (arith, F.given.tallied.long) }
 

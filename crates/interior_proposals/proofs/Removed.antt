@@ -23,7 +23,7 @@ use Rattle.laws.specs.SetLaws.Sets.{Ascending, numbers_below, member_below, belo
 use Rattle.laws.specs.SetLaws.Sets as sets
 use Rattle.laws.specs.RustContext.SoundContext.{Sound}
 use Rattle.laws.specs.ListLaws.NumberLists.{member-append}
-use Rattle.interior_proposals.specs.declared.owners.Owner.{Owner}
+use Rattle.context.specs.declared.found_regions.FoundRegions.{FoundRegions}
 use Rattle.interior_proposals.specs.Owners.{one_owner, owned_by, edge, Owned}
 use Rattle.interior_proposals.specs.Candidates.{candidate, port, both_ports}
 use Rattle.interior_proposals.specs.Proposals.{expanded_of, fitting_ports, proposed_ports, records_fit}
@@ -253,7 +253,7 @@ module _ (C : Context) (S : Sound C) where
   abbrev pub is_proposal : ℕ → Bool
   is_proposal r = any (λ p. true) (to_list (interior_proposal C (components C) r))
 
-  module _ (i : ℕ) (l : i < C.count) {v : Owner} (o : Owned C i v) where
+  module _ (i : ℕ) (l : i < C.count) {v : FoundRegions} (o : Owned C i v) where
     owned-edge : (k : ℕ) → k < C.regions → any (λ p. member i p.edges) (to_list (found_at k)) ≡ (is_proposal (suc k) && owned_by (suc k) v)
     unfolding any
     owned-edge k m = go (found_at k) refl

@@ -6,8 +6,8 @@ use Rattle.definitions.specs.Grid.{Pair}
 use Rattle.definitions.specs.Context.{Context}
 use Rattle.definitions.specs.RampInteriors.{is_ordinary, components, component_of, is_edge}
 use Rattle.interior_proposals.specs.Forest.{Rows}
-use Rattle.interior_proposals.specs.declared.owners.Owner.{Owner}
-use Rattle.interior_proposals.specs.declared.owners.Owner.TheVariants as owner-is
+use Rattle.context.specs.declared.found_regions.FoundRegions.{FoundRegions}
+use Rattle.context.specs.declared.found_regions.FoundRegions.TheVariants as owner-is
 
 -- the rows from `first` on, before `end`, stand in the list, and what they name has one of n entries
 pub record Walkable (rows : List ℕ) (first end n : ℕ) : Type 0 where
@@ -27,41 +27,41 @@ low_named names r p = eqb (entry_at names p.lo) r
 abbrev pub pair_named : List ℕ → ℕ → Pair → Bool
 pair_named names r p = eqb (entry_at names p.lo) r || eqb (entry_at names p.hi) r
 
-abbrev pub nobody : Owner
+abbrev pub nobody : FoundRegions
 nobody = owner-is.None
 
-abbrev pub one_owner : ℕ → Owner
+abbrev pub one_owner : ℕ → FoundRegions
 one_owner r = owner-is.One r
 
-abbrev pub several : Owner
+abbrev pub several : FoundRegions
 several = owner-is.Several
 
-abbrev pub is_one : Owner → Bool
+abbrev pub is_one : FoundRegions → Bool
 is_one owner-is.None = false
 is_one (owner-is.One r) = true
 is_one owner-is.Several = false
 
 -- the owner is the component named r
-abbrev pub owned_by : ℕ → Owner → Bool
+abbrev pub owned_by : ℕ → FoundRegions → Bool
 owned_by r owner-is.None = false
 owned_by r (owner-is.One n) = eqb n r
 owned_by r owner-is.Several = false
 
 -- the component, if it is one; else 0, which names none
-abbrev pub name_of : Owner → ℕ
+abbrev pub name_of : FoundRegions → ℕ
 name_of owner-is.None = 0
 name_of (owner-is.One n) = n
 name_of owner-is.Several = 0
 
-abbrev pub owner_at : List Owner → ℕ → Owner
+abbrev pub owner_at : List FoundRegions → ℕ → FoundRegions
 owner_at owners i = get_or owners i nobody
 
 -- the component that boundary i has for its owner
-abbrev pub name_at : List Owner → ℕ → ℕ
+abbrev pub name_at : List FoundRegions → ℕ → ℕ
 name_at owners i = name_of (owner_at owners i)
 
 -- the component whose name the smaller regions of all pairs of l have
-pub data Common (names : List ℕ) (l : List Pair) : Owner → Type 0 where
+pub data Common (names : List ℕ) (l : List Pair) : FoundRegions → Type 0 where
   none : l ≡ [] → Common names l nobody
   one : (n : ℕ) → all (low_named names n) l ≡ true → any (low_named names n) l ≡ true → Common names l (one_owner n)
   several_names : (m n : ℕ) → (m ≡ n → ⊥) → any (low_named names m) l ≡ true → any (low_named names n) l ≡ true → Common names l several
@@ -75,11 +75,11 @@ module _ (C : Context) where
   edge r i = is_edge C (components C) r i
 
   -- v is the component in which all pairs of boundary i lie, if it is an ordinary full cut with a pair
-  pub record Owned (i : ℕ) (v : Owner) : Type 0 where
+  pub record Owned (i : ℕ) (v : FoundRegions) : Type 0 where
     pub range : (r : ℕ) → v ≡ one_owner r → (1 ≤ r) × (r ≤ C.regions)
     pub whole : (r : ℕ) → 1 ≤ r → r ≤ C.regions → owned_by r v ≡ (edge r i && all_in_lem r i)
     pub part : (r : ℕ) → 1 ≤ r → r ≤ C.regions → edge r i ≡ true → (v ≡ several → ⊥) → all_in_lem r i ≡ true
     pub ordinary : v ≡ several → is_ordinary C i ≡ true
 
-  abbrev pub Owners : List Owner → Type 0
+  abbrev pub Owners : List FoundRegions → Type 0
   Owners owners = (i : ℕ) → i < C.count → Owned i (owner_at owners i)

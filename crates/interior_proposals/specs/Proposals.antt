@@ -11,17 +11,17 @@ use Rattle.interior_proposals.specs.Given.{Given}
 use Rattle.interior_proposals.specs.Owners.{entry_at, one_owner, is_one, owned_by, owner_at, name_at, edge, Owners}
 use Rattle.interior_proposals.specs.Candidates.{Told, Mapped, candidate, both_ports}
 use Rattle.interior_proposals.specs.Leaves.{Inside, Single, Cleared, from}
-use Rattle.interior_proposals.specs.declared.owners.Owner.{Owner}
+use Rattle.context.specs.declared.found_regions.FoundRegions.{FoundRegions}
 use Rattle.interior_proposals.specs.declared.ports.Ports.{Ports}
 
 -- the lists show C, r is a region, and the owners of boundaries are known
-pub record Facing (C : Context) (boundaries tallies pairs starts names marks : List ℕ) (owners : List Owner) (count r : ℕ) : Type 0 where
+pub record Facing (C : Context) (boundaries tallies pairs starts names marks : List ℕ) (owners : List FoundRegions) (count r : ℕ) : Type 0 where
   pub given : Given C boundaries tallies pairs starts
   pub mapped : Mapped C pairs starts names marks r
   pub counted : C.count ≡ count
   pub owned : Owners C owners
 
-abbrev pub SomeFacing : List ℕ → List ℕ → List ℕ → List ℕ → List ℕ → List ℕ → List Owner → ℕ → ℕ → Type 0
+abbrev pub SomeFacing : List ℕ → List ℕ → List ℕ → List ℕ → List ℕ → List ℕ → List FoundRegions → ℕ → ℕ → Type 0
 SomeFacing boundaries tallies pairs starts names marks owners count r = (C : Context) × Facing C boundaries tallies pairs starts names marks owners count r
 
 module _ (C : Context) (r : ℕ) where
@@ -72,25 +72,25 @@ module _ (C : Context) (r : ℕ) where
 -- ---- all components
 
 -- a boundary before i has the component r for its owner
-unfoldable pub owned_before : List Owner → ℕ → ℕ → Bool
+unfoldable pub owned_before : List FoundRegions → ℕ → ℕ → Bool
 unfolding any_below_lem
 owned_before owners i r = any_below_lem i (λ j. owned_by r (owner_at owners j))
 
 -- boundary i is the first that its owner, a component, has
-unfoldable pub is_first : List Owner → ℕ → Bool
+unfoldable pub is_first : List FoundRegions → ℕ → Bool
 unfolding owned_before
 is_first owners i = is_one (owner_at owners i) && not (owned_before owners i (name_at owners i))
 
 -- r is the component of which boundary i is the first
-abbrev pub FirstOf : List Owner → ℕ → Option ℕ → Type 0
+abbrev pub FirstOf : List FoundRegions → ℕ → Option ℕ → Type 0
 FirstOf owners i found = MatchOption found (is_first owners i ≡ false) (λ r. (owner_at owners i ≡ one_owner r) × (is_first owners i ≡ true))
 
 -- what is found at boundary i
-unfoldable pub found_ports : Context → List Owner → ℕ → Option Ports
+unfoldable pub found_ports : Context → List FoundRegions → ℕ → Option Ports
 unfolding is_first proposed_ports
 found_ports C owners i = cond (is_first owners i) (proposed_ports C (name_at owners i)) None
 
-module _ (C : Context) (owners : List Owner) (names : List ℕ) where
+module _ (C : Context) (owners : List FoundRegions) (names : List ℕ) where
   -- a component that no boundary before i has, and has an edge, is told by the names
   abbrev pub Unmet : ℕ → Type 0
   Unmet i = (q : ℕ) → 1 ≤ q → q ≤ C.regions → any_below_lem C.count (edge C q) ≡ true → owned_before owners i q ≡ false → Told C q names
@@ -100,7 +100,7 @@ module _ (C : Context) (owners : List Owner) (names : List ℕ) where
   Settled j = (a b : ℕ) → found_ports C owners j ≡ both_ports a b → Inside C (name_at owners j) (expanded_of C (name_at owners j) a b).regions names
 
 -- the boundaries before i are done
-pub record Progress (C : Context) (owners : List Owner) (was names wasMarks marks : List ℕ) (i : ℕ) : Type 0 where
+pub record Progress (C : Context) (owners : List FoundRegions) (was names wasMarks marks : List ℕ) (i : ℕ) : Type 0 where
   pub long : C.regions ≤ length names
   pub unmet : Unmet C owners names i
   pub settled : (j : ℕ) → j < i → Settled C owners names j
@@ -108,18 +108,18 @@ pub record Progress (C : Context) (owners : List Owner) (was names wasMarks mark
   pub cleared : Cleared C wasMarks marks
 
 -- the lists show C, and the owners are known
-pub record Owning (C : Context) (boundaries tallies pairs starts : List ℕ) (owners : List Owner) (count : ℕ) : Type 0 where
+pub record Owning (C : Context) (boundaries tallies pairs starts : List ℕ) (owners : List FoundRegions) (count : ℕ) : Type 0 where
   pub given : Given C boundaries tallies pairs starts
   pub counted : C.count ≡ count
   pub owned : Owners C owners
 
 -- some context is so, of which the boundaries before i are done
-abbrev pub SomeProgress : List ℕ → List ℕ → List ℕ → List ℕ → List ℕ → List ℕ → List Owner → ℕ → ℕ → Type 0
+abbrev pub SomeProgress : List ℕ → List ℕ → List ℕ → List ℕ → List ℕ → List ℕ → List FoundRegions → ℕ → ℕ → Type 0
 SomeProgress boundaries tallies pairs starts names marks owners count i =
     (C : Context) × (Owning C boundaries tallies pairs starts owners count × Progress C owners names names marks marks i)
 
 -- the ports found at the boundaries before i are stored
-abbrev pub FoundAll : Context → List Owner → List (Option Ports) → ℕ → Type 0
+abbrev pub FoundAll : Context → List FoundRegions → List (Option Ports) → ℕ → Type 0
 FoundAll C owners found i = (j : ℕ) → j < i → get_or found j None ≡ found_ports C owners j
 
 -- what is asked of the records of the regions that a component with these ports expands to

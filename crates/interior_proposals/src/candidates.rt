@@ -8,26 +8,21 @@ ghost use Rattle.interior_proposals.specs.Owners.{Walkable, owned_by, owner_at, 
 ghost use Rattle.interior_proposals.specs.Candidates.{Mapped, SomeMapped, AllMapped, is_marked, pair_marked, spoils_at, candidate};
 
 use crate::components::parent_of;
-use crate::owners::{Components, Owner, touches};
+use crate::owners::{Components, touches};
 use context::PartitionContext;
+use context::found_regions::FoundRegions;
 use context::pairs::row_at;
+use context::region_marks::is_anchored;
+use std::ops::Range;
 
 const MAX_INTERIOR_EDGES: usize = 8;
 
-// Whether region r is anchored.
-pub fn is_anchored(marks: &[u16], r: u32) -> bool
-    requires { (1 ≤ r) × (r ≤ length marks.now) }
-    ensures { result ≡ is_marked marks.now r }
+// Whether a region of one of the rows is anchored.
+fn any_anchored(marks: &[u16], pairs: &[u32], mut rows: Range<usize>) -> bool
+    requires { Walkable pairs.now rows.start rows.end (length marks.now) }
+    ensures { result ≡ any (pair_marked marks.now) (pairs_between pairs.now rows.start rows.end) }
 {
-    marks[r as usize - 1] % 2 == 1
-}
-
-// Whether a region of a row from `first` on, before `end`, is anchored.
-fn any_anchored(marks: &[u16], pairs: &[u32], first: usize, end: usize) -> bool
-    requires { Walkable pairs.now first end (length marks.now) }
-    ensures { result ≡ any (pair_marked marks.now) (pairs_between pairs.now first end) }
-{
-    (first..end).any(|k| {
+    rows.any(|k| {
         let pair = row_at(pairs, k);
         is_anchored(marks, pair.lo) | is_anchored(marks, pair.hi)
     })
@@ -42,21 +37,22 @@ fn spoils(context: PartitionContext, known: Components, i: usize, r: u32) -> boo
         Owned C i (owner_at known.entry.owners.now i) →
         result ≡ spoils_at C r i }
 {
-    let first = context.starts[i];
-    let end = context.starts[i + 1];
+    let rows = context.starts[i]..context.starts[i + 1];
     match known.owners[i] {
-        Owner::None => false,
-        Owner::One(name) => (name == r) && any_anchored(known.marks, context.pairs, first, end),
-        Owner::Several => touches(known.names, context.pairs, first, end, r),
+        FoundRegions::None => false,
+        FoundRegions::One(name) => (name == r) && any_anchored(known.marks, context.pairs, rows),
+        FoundRegions::Several => touches(known.names, context.pairs, rows, r),
     }
 }
 
 // How many boundaries the component r owns: the edges that lie whole in it.
-fn edge_count(owners: &[Owner; 256], count: usize, r: u32) -> usize
+fn edge_count(owners: &[FoundRegions; 256], count: usize, r: u32) -> usize
     requires { count ≤ max_entries }
     ensures { result ≡ count_below count (λ i. owned_by r (owner_at owners.now i)) }
 {
-    (0..count).filter(|&i| owners[i] == Owner::One(r)).count()
+    (0..count)
+        .filter(|&i| owners[i] == FoundRegions::One(r))
+        .count()
 }
 
 // Whether r names a candidate.

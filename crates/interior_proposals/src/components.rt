@@ -11,7 +11,8 @@ ghost use Rattle.interior_proposals.specs.Given.{Given, Lent, SomeLent, flags_of
 
 use context::PartitionContext;
 use context::pairs::{Pair, row_at};
-use geometry::boundaries::kind_at;
+use geometry::boundaries::has_ramp;
+use std::ops::Range;
 
 // The parent of region r.
 pub fn parent_of(parents: &[u32], r: u32) -> u32
@@ -58,16 +59,16 @@ fn join(parents: &mut [u32], pair: Pair)
     set_parent(parents, a.max(b), a.min(b));
 }
 
-// Joins the regions of each pair of the rows from `first` on, before `end`.
-fn join_pairs(parents: &mut [u32], pairs: &[u32], first: usize, end: usize)
-    requires sizes { (first ≤ end) × (numbers_per_pair * end ≤ length pairs.now) }
-    requires joinable { RowsJoinable parents.old pairs.now first end }
+// Joins the regions of each pair of the rows.
+fn join_pairs(parents: &mut [u32], pairs: &[u32], rows: Range<usize>)
+    requires sizes { (rows.start ≤ rows.end) × (numbers_per_pair * rows.end ≤ length pairs.now) }
+    requires joinable { RowsJoinable parents.old pairs.now rows.start rows.end }
     ensures { (cs : List ℕ) →
         Parented cs parents.old →
-        Rows (length cs) pairs.now first end →
-        Merged cs parents.old (pairs_between pairs.now first end) parents.new }
+        Rows (length cs) pairs.now rows.start rows.end →
+        Merged cs parents.old (pairs_between pairs.now rows.start rows.end) parents.new }
 {
-    for k in first..end {
+    for k in rows.start..rows.end {
         join(parents, row_at(pairs, k));
     }
 }
@@ -81,7 +82,7 @@ pub fn is_ordinary(context: PartitionContext, i: usize) -> bool
         i < C.count →
         result ≡ is_ordinary C i }
 {
-    (kind_at(context.boundaries, i) == 0) & context.full_cut(i)
+    !has_ramp(context.boundaries, i) & context.full_cut(i)
 }
 
 // Joins the regions of each pair of boundary i, if it is an ordinary full cut.
@@ -95,12 +96,8 @@ fn join_cut(parents: &mut [u32], context: PartitionContext, i: usize)
         Merged cs parents.old (links_of C i) parents.new }
 {
     if is_ordinary(context, i) {
-        join_pairs(
-            parents,
-            context.pairs,
-            context.starts[i],
-            context.starts[i + 1],
-        );
+        let rows = context.starts[i]..context.starts[i + 1];
+        join_pairs(parents, context.pairs, rows);
     }
 }
 

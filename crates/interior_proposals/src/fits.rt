@@ -14,7 +14,7 @@ ghost use Rattle.geometry.specs.Placed.{Placed};
 use crate::ports::Ports;
 use context::{PartitionContext, Region};
 use geometry::Point;
-use geometry::boundaries::{center_of, kind_at, lower_at, ramp_at, upper_at};
+use geometry::boundaries::{center_of, has_ramp, lower_at, ramp_at, same_kind, upper_at};
 use geometry::points::distance;
 
 const MAX_APPROACH_RADIUS: f64 = 512.0;
@@ -41,16 +41,14 @@ pub fn ports_fit(context: PartitionContext, ports: Ports) -> bool
         ports.second < C.count →
         result ≡ ports_fit C ports.first ports.second }
 {
-    let first = kind_at(context.boundaries, ports.first);
-    let second = kind_at(context.boundaries, ports.second);
     let same_ramp = ramp_at(context.boundaries, ports.first)
         == ramp_at(context.boundaries, ports.second);
-    (first != 0)
-        & (second != 0)
+    has_ramp(context.boundaries, ports.first)
+        & has_ramp(context.boundaries, ports.second)
         & context.full_cut(ports.first)
         & context.full_cut(ports.second)
         & same_ramp
-        & (first != second)
+        & !same_kind(context.boundaries, ports.first, ports.second)
 }
 
 // The reach of two ports.

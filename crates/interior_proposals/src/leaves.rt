@@ -11,6 +11,7 @@ ghost use Rattle.interior_proposals.specs.Leaves.{Reachable, Inside, Exteriored,
 
 use crate::components::{parent_of, set_parent};
 use context::pairs::{Pair, row_at};
+use std::ops::Range;
 
 // Whether region x is marked as an exterior.
 fn is_exterior(marks: &[u16], x: u32) -> bool
@@ -59,20 +60,19 @@ fn mark_exteriors(
     names: &[u32],
     marks: &mut [u16],
     pairs: &[u32],
-    first: usize,
-    end: usize,
+    rows: Range<usize>,
     r: u32,
 ) -> bool
-    requires { Reachable pairs.now first end names.now marks.old }
+    requires { Reachable pairs.now rows.start rows.end names.now marks.old }
     ensures marked { (C : Context) (rs : List ℕ) →
-        Walkable pairs.now first end C.regions →
+        Walkable pairs.now rows.start rows.end C.regions →
         Inside C r rs names.now →
         Marked C (λ y. false) marks.old →
-        Exteriored C rs (pairs_between pairs.now first end) marks.old marks.new result }
+        Exteriored C rs (pairs_between pairs.now rows.start rows.end) marks.old marks.new result }
     ensures marks_length { length marks.new ≡ length marks.old }
 {
     let mut fit = true;
-    for k in first..end {
+    for k in rows.start..rows.end {
         let pair = row_at(pairs, k);
         let a = parent_of(names, pair.lo) == r;
         let b = parent_of(names, pair.hi) == r;
@@ -84,15 +84,15 @@ fn mark_exteriors(
 }
 
 // Clears the marks of all exteriors of the rows.
-fn clear_exteriors(marks: &mut [u16], pairs: &[u32], first: usize, end: usize)
-    requires { Walkable pairs.now first end (length marks.old) }
+fn clear_exteriors(marks: &mut [u16], pairs: &[u32], rows: Range<usize>)
+    requires { Walkable pairs.now rows.start rows.end (length marks.old) }
     ensures cleared { (C : Context) (rs : List ℕ) →
-        Walkable pairs.now first end C.regions →
-        Marked C (λ y. member y (exteriors rs (pairs_between pairs.now first end))) marks.old →
+        Walkable pairs.now rows.start rows.end C.regions →
+        Marked C (λ y. member y (exteriors rs (pairs_between pairs.now rows.start rows.end))) marks.old →
         Cleared C marks.old marks.new }
     ensures marks_length { length marks.new ≡ length marks.old }
 {
-    for k in first..end {
+    for k in rows.start..rows.end {
         let pair = row_at(pairs, k);
         clear_exterior(marks, pair.lo);
         clear_exterior(marks, pair.hi);
@@ -100,14 +100,14 @@ fn clear_exteriors(marks: &mut [u16], pairs: &[u32], first: usize, end: usize)
 }
 
 // Whether each row has exactly one region named r.
-fn rows_split(names: &[u32], pairs: &[u32], first: usize, end: usize, r: u32) -> bool
-    requires { Walkable pairs.now first end (length names.now) }
+fn rows_split(names: &[u32], pairs: &[u32], mut rows: Range<usize>, r: u32) -> bool
+    requires { Walkable pairs.now rows.start rows.end (length names.now) }
     ensures { (C : Context) (rs : List ℕ) →
-        Walkable pairs.now first end C.regions →
+        Walkable pairs.now rows.start rows.end C.regions →
         Inside C r rs names.now →
-        result ≡ all (λ p. eqb (inside_count rs p) 1) (pairs_between pairs.now first end) }
+        result ≡ all (λ p. eqb (inside_count rs p) 1) (pairs_between pairs.now rows.start rows.end) }
 {
-    (first..end).all(|k| {
+    rows.all(|k| {
         let pair = row_at(pairs, k);
         (parent_of(names, pair.lo) == r) != (parent_of(names, pair.hi) == r)
     })
@@ -141,24 +141,17 @@ fn expand_row(names: &mut [u32], marks: &[u16], pair: Pair, r: u32) -> bool
 }
 
 // The leaves beyond the rows, row by row. Whether each row has a region named r by then, or names a leaf.
-fn expand_rows(
-    names: &mut [u32],
-    marks: &[u16],
-    pairs: &[u32],
-    first: usize,
-    end: usize,
-    r: u32,
-) -> bool
-    requires { Reachable pairs.now first end names.old marks.now }
+fn expand_rows(names: &mut [u32], marks: &[u16], pairs: &[u32], rows: Range<usize>, r: u32) -> bool
+    requires { Reachable pairs.now rows.start rows.end names.old marks.now }
     ensures expanded { (C : Context) (i : ℕ) (rs es : List ℕ) (v : Bool) →
-        Ported C pairs.now first end i →
+        Ported C pairs.now rows.start rows.end i →
         Inside C r rs names.old →
         Marked C (λ y. member y es) marks.now →
-        Held C i r (expand_pairs C i es (from rs v) (pairs_between pairs.now first end)) v names.old names.new result }
+        Held C i r (expand_pairs C i es (from rs v) (pairs_between pairs.now rows.start rows.end)) v names.old names.new result }
     ensures names_length { length names.new ≡ length names.old }
 {
     let mut fit = true;
-    for k in first..end {
+    for k in rows.start..rows.end {
         let ok = expand_row(names, marks, row_at(pairs, k), r);
         fit = fit & ok;
     }
@@ -172,21 +165,21 @@ pub fn expand_port(
     names: &mut [u32],
     marks: &mut [u16],
     pairs: &[u32],
-    first: usize,
-    end: usize,
+    rows: Range<usize>,
     r: u32,
 ) -> bool
-    requires { Reachable pairs.now first end names.old marks.old }
+    requires { Reachable pairs.now rows.start rows.end names.old marks.old }
     ensures expanded { (C : Context) (i : ℕ) (rs : List ℕ) (v : Bool) →
-        Ported C pairs.now first end i →
+        Ported C pairs.now rows.start rows.end i →
         Inside C r rs names.old →
         Marked C (λ y. false) marks.old →
         Walked C i r rs v names.old names.new marks.old marks.new result }
     ensures lengths { (length names.new ≡ length names.old) × (length marks.new ≡ length marks.old) }
 {
-    let before = mark_exteriors(names, marks, pairs, first, end, r);
-    let grown = expand_rows(names, marks, pairs, first, end, r);
-    let after = rows_split(names, pairs, first, end, r);
-    clear_exteriors(marks, pairs, first, end);
+    let Range { start, end } = rows;
+    let before = mark_exteriors(names, marks, pairs, start..end, r);
+    let grown = expand_rows(names, marks, pairs, start..end, r);
+    let after = rows_split(names, pairs, start..end, r);
+    clear_exteriors(marks, pairs, start..end);
     before & grown & after
 }

@@ -9,52 +9,47 @@ ghost use Rattle.interior_proposals.specs.Owners.{Walkable, pair_named, Common, 
 
 use crate::components::{is_ordinary, parent_of};
 use context::PartitionContext;
+use context::found_regions::FoundRegions;
 use context::pairs::row_at;
+use std::ops::Range;
 
-// The component in which all pairs of a boundary lie, by its name: none where the boundary is no ordinary full cut or has no pair.
-#[derive(Clone, Copy, PartialEq, Eq)]
-pub enum Owner {
-    None,
-    One(u32),
-    Several,
-}
-
-// What is known of components: the name that each region has, the marks of regions, and the owners of boundaries.
+// What is known of components: the name that each region has, the marks of regions, and the owner of each boundary, the component in which all its pairs lie: none
+// where it is no ordinary full cut or has no pair.
 #[derive(Clone, Copy)]
 pub struct Components<'a> {
     pub names: &'a [u32],
     pub marks: &'a [u16],
-    pub owners: &'a [Owner; 256],
+    pub owners: &'a [FoundRegions; 256],
 }
 
-// Whether a region of a row from `first` on, before `end`, is named r.
-pub fn touches(names: &[u32], pairs: &[u32], first: usize, end: usize, r: u32) -> bool
-    requires { Walkable pairs.now first end (length names.now) }
-    ensures { result ≡ any (pair_named names.now r) (pairs_between pairs.now first end) }
+// Whether a region of one of the rows is named r.
+pub fn touches(names: &[u32], pairs: &[u32], mut rows: Range<usize>, r: u32) -> bool
+    requires { Walkable pairs.now rows.start rows.end (length names.now) }
+    ensures { result ≡ any (pair_named names.now r) (pairs_between pairs.now rows.start rows.end) }
 {
-    (first..end).any(|k| {
+    rows.any(|k| {
         let pair = row_at(pairs, k);
         (parent_of(names, pair.lo) == r) | (parent_of(names, pair.hi) == r)
     })
 }
 
-// The component that the smaller regions of all rows from `first` on, before `end`, have for their name.
-fn common_name(names: &[u32], pairs: &[u32], first: usize, end: usize) -> Owner
-    requires { Walkable pairs.now first end (length names.now) }
-    ensures { Common names.now (pairs_between pairs.now first end) result }
+// The component that the smaller regions of all the rows have for their name.
+fn common_name(names: &[u32], pairs: &[u32], mut rows: Range<usize>) -> FoundRegions
+    requires { Walkable pairs.now rows.start rows.end (length names.now) }
+    ensures { Common names.now (pairs_between pairs.now rows.start rows.end) result }
 {
-    if first == end {
-        return Owner::None;
+    if rows.start == rows.end {
+        return FoundRegions::None;
     }
-    let name = parent_of(names, row_at(pairs, first).lo);
-    if (first..end).all(|k| parent_of(names, row_at(pairs, k).lo) == name) {
-        Owner::One(name)
+    let name = parent_of(names, row_at(pairs, rows.start).lo);
+    if rows.all(|k| parent_of(names, row_at(pairs, k).lo) == name) {
+        FoundRegions::One(name)
     } else {
-        Owner::Several
+        FoundRegions::Several
     }
 }
 
-fn owner_of(context: PartitionContext, names: &[u32], i: usize) -> Owner
+fn owner_of(context: PartitionContext, names: &[u32], i: usize) -> FoundRegions
     requires { SomeKept context.boundaries.now context.tallies.now context.pairs.now context.starts.now names.now i }
     ensures { (C : Context) →
         Kept C context.entry.boundaries.now context.entry.tallies.now context.entry.pairs.now context.entry.starts.now names.now →
@@ -62,19 +57,15 @@ fn owner_of(context: PartitionContext, names: &[u32], i: usize) -> Owner
         Owned C i result }
 {
     if is_ordinary(context, i) {
-        common_name(
-            names,
-            context.pairs,
-            context.starts[i],
-            context.starts[i + 1],
-        )
+        let rows = context.starts[i]..context.starts[i + 1];
+        common_name(names, context.pairs, rows)
     } else {
-        Owner::None
+        FoundRegions::None
     }
 }
 
 // The owners of all boundaries.
-pub fn find_owners(context: PartitionContext, names: &[u32], owners: &mut [Owner; 256])
+pub fn find_owners(context: PartitionContext, names: &[u32], owners: &mut [FoundRegions; 256])
     requires kept { AllKept context.boundaries.now context.tallies.now context.pairs.now context.starts.now names.now context.count }
     requires owners_room { length owners.old ≡ max_entries }
     ensures { (C : Context) →

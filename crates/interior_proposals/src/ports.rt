@@ -5,8 +5,9 @@ ghost use Rattle.definitions.specs.RampInteriors.{components, component_ports};
 ghost use Rattle.interior_proposals.specs.Owners.{owner_at, Owned, Owners};
 ghost use Rattle.interior_proposals.specs.Candidates.{Mapped, SomeMapped, AllMapped, candidate, port, NextPort, two_ports};
 
-use crate::owners::{Components, Owner, touches};
+use crate::owners::{Components, touches};
 use context::PartitionContext;
+use context::found_regions::FoundRegions;
 
 // The two ports of a candidate that has no others.
 #[derive(Clone, Copy)]
@@ -27,12 +28,11 @@ fn is_port(context: PartitionContext, known: Components, i: usize, r: u32) -> bo
 {
     match known.owners[i] {
         // It is an edge of r, or all its pairs lie in another component.
-        Owner::One(_) => false,
-        Owner::None | Owner::Several => touches(
+        FoundRegions::One(_) => false,
+        FoundRegions::None | FoundRegions::Several => touches(
             known.names,
             context.pairs,
-            context.starts[i],
-            context.starts[i + 1],
+            context.starts[i]..context.starts[i + 1],
             r,
         ),
     }

@@ -10,9 +10,10 @@ ghost use Rattle.interior_proposals.specs.Proposals.{Facing, SomeFacing, Propose
 use crate::candidates::is_candidate;
 use crate::fits::ports_fit;
 use crate::leaves::expand_port;
-use crate::owners::{Components, Owner};
+use crate::owners::Components;
 use crate::ports::{Ports, find_ports};
 use context::PartitionContext;
+use context::found_regions::FoundRegions;
 
 // The leaves beyond both ports. Whether both are valid.
 fn expand_ports(
@@ -39,16 +40,14 @@ fn expand_ports(
         names,
         marks,
         context.pairs,
-        starts[first],
-        starts[first + 1],
+        starts[first]..starts[first + 1],
         r,
     );
     let behind = expand_port(
         names,
         marks,
         context.pairs,
-        starts[second],
-        starts[second + 1],
+        starts[second]..starts[second + 1],
         r,
     );
     before & behind
@@ -59,7 +58,7 @@ pub fn propose(
     context: PartitionContext,
     names: &mut [u32],
     marks: &mut [u16],
-    owners: &[Owner; 256],
+    owners: &[FoundRegions; 256],
     r: u32,
 ) -> Option<Ports>
     requires { SomeFacing context.boundaries.now context.tallies.now context.pairs.now context.starts.now names.old marks.old
@@ -90,14 +89,14 @@ pub fn propose(
 }
 
 // The component of which boundary i is the first edge.
-fn first_of(owners: &[Owner; 256], i: usize) -> Option<u32>
+fn first_of(owners: &[FoundRegions; 256], i: usize) -> Option<u32>
     requires { i < max_entries }
     ensures { FirstOf owners.now i result }
 {
     match owners[i] {
-        Owner::None | Owner::Several => None,
-        Owner::One(name) => {
-            if (0..i).any(|j| owners[j] == Owner::One(name)) {
+        FoundRegions::None | FoundRegions::Several => None,
+        FoundRegions::One(name) => {
+            if (0..i).any(|j| owners[j] == FoundRegions::One(name)) {
                 None
             } else {
                 Some(name)
@@ -111,7 +110,7 @@ fn propose_at(
     context: PartitionContext,
     names: &mut [u32],
     marks: &mut [u16],
-    owners: &[Owner; 256],
+    owners: &[FoundRegions; 256],
     i: usize,
 ) -> Option<Ports>
     requires i_within { i < context.count }
@@ -133,7 +132,7 @@ pub fn propose_all(
     context: PartitionContext,
     names: &mut [u32],
     marks: &mut [u16],
-    owners: &[Owner; 256],
+    owners: &[FoundRegions; 256],
     found: &mut [Option<Ports>; 256],
 )
     requires progress { SomeProgress context.boundaries.now context.tallies.now context.pairs.now context.starts.now names.old marks.old

@@ -20,8 +20,8 @@ use Rattle.laws.specs.ListLaws.ScanSteps.{all_intro, any-fails_at}
 use Rattle.laws.specs.SetLaws.Sets.{member-all}
 use Rattle.laws.specs.RustContext.SoundContext.{Sound}
 use Rattle.context.specs.Shown.{ShownPairs}
-use Rattle.interior_proposals.specs.declared.owners.Owner.{Owner}
-use Rattle.interior_proposals.specs.declared.owners.Owner.TheVariants as owner-is
+use Rattle.context.specs.declared.found_regions.FoundRegions.{FoundRegions}
+use Rattle.context.specs.declared.found_regions.FoundRegions.TheVariants as owner-is
 use Rattle.interior_proposals.specs.Owners.{one_owner, is_one, owned_by, name_of, owner_at, name_at, edge, Owners}
 use Rattle.interior_proposals.specs.Leaves.{Inside}
 use Rattle.interior_proposals.specs.Proposals.{expanded_of, proposed_ports, owned_before, is_first, found_ports, records_fit}
@@ -115,7 +115,7 @@ module _ {C : Context} (S : Sound C) {rows starts names : List ℕ} (P : ShownPa
 
 -- ---- what was found at boundary i
 
-module _ {C : Context} (S : Sound C) (owners : List Owner) (O : Owners C owners) (i : ℕ) (l : i < C.count) where
+module _ {C : Context} (S : Sound C) (owners : List FoundRegions) (O : Owners C owners) (i : ℕ) (l : i < C.count) where
   abbrev owner : ℕ
   owner = name_at owners i
 
@@ -179,8 +179,8 @@ module _ {C : Context} (S : Sound C) (owners : List Owner) (O : Owners C owners)
 
 -- ---- all boundaries
 
-module _ {C : Context} (S : Sound C) (owners : List Owner) (O : Owners C owners) (j : ℕ) (l : j < C.count) where
-  abbrev v : Owner
+module _ {C : Context} (S : Sound C) (owners : List FoundRegions) (O : Owners C owners) (j : ℕ) (l : j < C.count) where
+  abbrev v : FoundRegions
   v = owner_at owners j
 
   abbrev test : ℕ → Bool
@@ -212,7 +212,7 @@ module _ {C : Context} (S : Sound C) (owners : List Owner) (O : Owners C owners)
   pub marked-removed : marked_before C owners C.count j ≡ member j (removed C)
   marked-removed = go v refl
     where
-      go : (o : Owner) → v ≡ o → any_below_lem C.count test ≡ member j (removed C)
+      go : (o : FoundRegions) → v ≡ o → any_below_lem C.count test ≡ member j (removed C)
       go owner-is.None e = marked_none (λ r. ap (owned_by r) e)
       go owner-is.Several e = marked_none (λ r. ap (owned_by r) e)
       go (owner-is.One r) e =

@@ -7,7 +7,7 @@ use lib.Dec.{eqb}
 use Rattle.definitions.specs.Context.{Context}
 use Rattle.laws.specs.ListLaws.Beyond.{beyond_same}
 use Rattle.interior_proposals.specs.Given.{Lent, Known, Kept}
-use Rattle.interior_proposals.specs.declared.owners.Owner.{Owner}
+use Rattle.context.specs.declared.found_regions.FoundRegions.{FoundRegions}
 use Rattle.interior_proposals.specs.Owners.{Owners}
 use Rattle.interior_proposals.specs.Proposals.{Progress, Owning}
 use Rattle.interior_proposals.proofs.Walks.{names-long}
@@ -17,10 +17,10 @@ module _ {C : Context} {boundaries tallies pairs starts marks counts : List ℕ}
   pub lent-kept : {nowMarks names : List ℕ} → Known C nowMarks names → Kept C boundaries tallies pairs starts names
   lent-kept K = record { given = L.given; named = K.named; few = omega (arith, L.few, L.labelled) }
 
-  pub lent-owning : {owners : List Owner} → Owners C owners → Owning C boundaries tallies pairs starts owners count
+  pub lent-owning : {owners : List FoundRegions} → Owners C owners → Owning C boundaries tallies pairs starts owners count
   lent-owning O = record { given = L.given; counted = L.counted; owned = O }
 
-pub known-progress : {C : Context} (owners : List Owner) {marks names : List ℕ} → Known C marks names → Progress C owners names names marks marks 0
+pub known-progress : {C : Context} (owners : List FoundRegions) {marks names : List ℕ} → Known C marks names → Progress C owners names names marks marks 0
 known-progress {C} owners {marks} {names} K =
     record {
       long = names-long C K.named;

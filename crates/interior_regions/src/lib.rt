@@ -13,9 +13,10 @@ ghost use Rattle.interior_regions.specs.Marks.{Interiors, SomeInteriors, StandsA
 ghost use Rattle.interior_regions.specs.Places.{region_at, Readable, is_named};
 
 use context::PartitionContext;
+use context::found_regions::FoundRegions;
 use definitions::limits::NUMBERS_PER_PAIR;
 use interior_proposals::components::{name_components, parent_of};
-use interior_proposals::owners::{Owner, find_owners};
+use interior_proposals::owners::find_owners;
 use interior_proposals::ports::Ports;
 use interior_proposals::proposals::propose_all;
 
@@ -56,7 +57,7 @@ pub fn is_inside(pairs: &[u32], names: &[u32], name: u32, k: usize) -> bool
 
 // Marks the boundaries that the component with the name owns, if `on`.
 pub fn mark_edges(
-    owners: &[Owner; 256],
+    owners: &[FoundRegions; 256],
     count: usize,
     name: u32,
     on: bool,
@@ -72,16 +73,16 @@ pub fn mark_edges(
         return;
     }
     for j in 0..count {
-        removed[j] |= owners[j] == Owner::One(name);
+        removed[j] |= owners[j] == FoundRegions::One(name);
     }
 }
 
 // The number after the last boundary that the component with the name owns; 0 where there is none.
-fn end_of(owners: &[Owner; 256], count: usize, name: u32) -> usize
+fn end_of(owners: &[FoundRegions; 256], count: usize, name: u32) -> usize
     requires { count ≤ max_entries }
     ensures { EndOf owners.now count name result }
 {
-    let last = (0..count).rev().find(|&j| owners[j] == Owner::One(name));
+    let last = (0..count).rev().find(|&j| owners[j] == FoundRegions::One(name));
     match last {
         None => 0,
         Some(j) => j + 1,
@@ -91,7 +92,7 @@ fn end_of(owners: &[Owner; 256], count: usize, name: u32) -> usize
 // What stands at boundary i, if ports were found. It is the first edge, and each region of the interior stands in a row of an edge or of a port.
 pub fn interior_at(
     context: PartitionContext,
-    owners: &[Owner; 256],
+    owners: &[FoundRegions; 256],
     found: &[Option<Ports>; 256],
     i: usize,
 ) -> Option<Interior>
@@ -104,8 +105,8 @@ pub fn interior_at(
 {
     let ports = found[i]?;
     match owners[i] {
-        Owner::None | Owner::Several => None,
-        Owner::One(name) => {
+        FoundRegions::None | FoundRegions::Several => None,
+        FoundRegions::One(name) => {
             let low = i.min(ports.first.min(ports.second));
             let end = end_of(owners, context.count, name);
             let high = end.max(ports.first.max(ports.second) + 1);
@@ -125,7 +126,7 @@ pub fn find_interiors(
     regions: usize,
     marks: &mut [u16],
     counts: &mut [u32],
-    owners: &mut [Owner; 256],
+    owners: &mut [FoundRegions; 256],
     found: &mut [Option<Ports>; 256],
 )
     requires lent { SomeLent context.boundaries.now context.tallies.now context.pairs.now context.starts.now context.count regions marks.old counts.old }

@@ -8,7 +8,6 @@ use mathlib.Core.List.{List, [], ◌∷◌}
 use lib.ListN.{length, get_or}
 use lib.Dec.{eqb}
 use borrow.Author.Tests.{eq-eqb, ne_eqb}
-use Rattle.definitions.specs.Scan.{bit}
 use Rattle.definitions.specs.Grid.{Pair, contains}
 use Rattle.definitions.specs.Context.{holds}
 use Rattle.definitions.specs.Junctions.{Proposal}
@@ -21,14 +20,6 @@ use Rattle.region_pairs.specs.declared.Pair as declared
 
 None≢Some : {p : Proposal} → None ≡ Some p → ⊥
 None≢Some e = let z : ◌≡◌ {A = ℕ} 0 1 = cc in omega arith
-
-pub bit_one : (b : Bool) → bit b ≡ 1 → b ≡ true
-bit_one true e = refl
-bit_one false e = absurd (omega arith)
-
-pub bit-other : (b : Bool) → (bit b ≡ 1 → ⊥) → b ≡ false
-bit-other true h = absurd (h refl)
-bit-other false h = refl
 
 -- a full pair of which something holds is there
 pub some_pair : (o : Option Pair) (f : Pair → Bool) → holds o f ≡ true → (q : Pair) × (o ≡ Some q)

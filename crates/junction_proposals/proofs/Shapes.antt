@@ -1,18 +1,49 @@
 -- The shape of a union, as `is_union` finds it: test by test, each return says what the whole test says. Assumes nothing.
 use Prim.Native.Nat.{ℕ, ◌+◌, ◌-◌, ◌≤◌, ◌<◌}
+use native.Mathlib.Omega.{arith}
 use mathlib.Core.Path.{◌≡◌, refl, sym, ◌∙◌}
-use mathlib.Core.Bool.{Bool, true, false, ◌&&◌}
+use mathlib.Core.Bool.{Bool, true, false, not, ◌&&◌, false≢true}
 use Rattle.std.specs.Prelude.{Option, Some}
 use mathlib.Core.List.{List}
 use lib.ListN.{get_or}
 use lib.Dec.{eqb, ltb, leb}
 use borrow.Author.Tests.{lt-ltb, le-ltb}
-use Rattle.definitions.specs.Scan.{count_below}
+use Rattle.std.specs.Bool.{beq}
+use Rattle.definitions.specs.Scan.{count_below, bit}
 use Rattle.definitions.specs.Grid.{Pair}
 use Rattle.region_pairs.specs.declared.Pair as declared
 use Rattle.junction_proposals.specs.Ports.{pair_of, walk_fits}
 use Rattle.junction_proposals.specs.Unions.{no_ramp_at, marks_of, leads_anew, ports_pass, shape_at}
 use Rattle.junction_proposals.proofs.FewPorts.{few-ports}
+
+-- what the marks of both regions, m and n, say together
+module _ {a b m n : Bool} (e : a ≡ m) (f : b ≡ n) where
+  pub both_marked : (a && b) ≡ true → 2 ≤ bit m + bit n
+  both_marked h = rw (← e, ← f) (go a b h)
+    where
+      go : (a b : Bool) → (a && b) ≡ true → 2 ≤ bit a + bit b
+      go true true h = omega arith
+      go true false h = absurd (false≢true h)
+      go false b h = absurd (false≢true h)
+
+  pub few_marked : (a && b) ≡ false → bit m + bit n < 2
+  few_marked h = rw (← e, ← f) (go a b h)
+    where
+      go : (a b : Bool) → (a && b) ≡ false → bit a + bit b < 2
+      go true true h = absurd (false≢true (sym h))
+      go true false h = omega arith
+      go false true h = omega arith
+      go false false h = omega arith
+
+  -- the test that just one is, as the derived one of two flags
+  pub one_marked : not (beq a b) ≡ eqb (bit m + bit n) 1
+  one_marked = rw (← e, ← f) (go a b)
+    where
+      go : (a b : Bool) → not (beq a b) ≡ eqb (bit a + bit b) 1
+      go true true = refl
+      go true false = refl
+      go false true = refl
+      go false false = refl
 
 module _ (boundaries : List ℕ) (full : List (Option declared.Pair)) (counts marks : List ℕ) (count i : ℕ) (union : Pair) where
   abbrev fit : Bool

@@ -8,9 +8,9 @@ ghost use Rattle.junction_proposals.specs.Bridges.{bridge_form, PortAt, is_twice
 use crate::distances::is_near_port;
 use crate::lists::JunctionLists;
 use crate::ports::names_region;
-use crate::unions::anchored_bit;
 use context::pairs::Pair;
-use geometry::boundaries::{kind_at, width_at};
+use context::region_marks::is_anchored;
+use geometry::boundaries::{has_ramp, width_at};
 
 // The boundary that would go, and the region beyond it; `bridge_form` of specs/Bridges.antt gives the proposal.
 #[derive(Clone, Copy)]
@@ -20,6 +20,7 @@ pub struct Bridge {
 }
 
 // The region of the full pair that is not r; r where there is no full pair.
+// Kept: the definition gives r there, and every port that is asked is a full pair, so that an Option would be opened at each call.
 pub fn region_beyond(r: u32, pair: Option<Pair>) -> u32
     ensures { result ≡ beyond r (full_pair_of pair) }
 {
@@ -52,7 +53,7 @@ fn is_shared(lists: &JunctionLists, r: u32, i: usize, k: usize, t: usize) -> boo
     let first = region_beyond(r, lists.full[i]);
     let second = region_beyond(r, lists.full[k]);
     let third = region_beyond(r, lists.full[t]);
-    (first == second) & (third != first) & (anchored_bit(lists.marks, third) == 1)
+    (first == second) & (third != first) & is_anchored(lists.marks, third)
 }
 
 // The bridge that removes i, if all three ports are near.
@@ -116,7 +117,7 @@ fn next_port(lists: &JunctionLists, r: u32, from: usize) -> Option<usize>
     ensures first { FirstIn (is_pocket_port lists.now.full.now r lists.now.boundaries.now) «from» lists.now.count result }
 {
     (from..lists.count).find(|&j| {
-        names_region(lists.full[j], r) && kind_at(lists.boundaries, j) == 0
+        names_region(lists.full[j], r) && !has_ramp(lists.boundaries, j)
     })
 }
 
@@ -130,7 +131,7 @@ pub fn bridge_of(lists: &JunctionLists, r: u32) -> Option<Bridge>
     if lists.counts[r as usize - 1] != 3 {
         return None;
     }
-    if anchored_bit(lists.marks, r) == 1 {
+    if is_anchored(lists.marks, r) {
         return None;
     }
     let i = next_port(lists, r, 0)?;

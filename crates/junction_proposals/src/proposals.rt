@@ -14,7 +14,8 @@ use crate::unions::is_union;
 pub const MAX_PROPOSALS: usize = 426;
 
 // Whether the boundary between two regions would go, or one of two that lead from a pocket to one region.
-#[derive(Clone, Copy, PartialEq, Eq)]
+// Unions go before bridges.
+#[derive(Clone, Copy, PartialEq, Eq, PartialOrd, Ord)]
 pub enum Kind {
     Union,
     Bridge,
@@ -24,10 +25,9 @@ impl Kind {
     pub fn is_union(self) -> bool
         ensures { result ≡ eqb (kind_of self) 0 }
     {
-        matches!(self, Kind::Union)
+        self == Kind::Union
     }
 
-    // Unions go before bridges.
     pub fn number(self) -> u32
         ensures { result ≡ kind_of self }
     {
@@ -54,7 +54,7 @@ fn union_row(lists: &JunctionLists, i: usize) -> Option<Candidate>
     ensures { found_form result ≡ union_in lists.now i }
 {
     let union = lists.full[i]?;
-    if is_union(lists, i, union) {
+    if is_union(lists, i) {
         Some(Candidate {
             index: i,
             kind: Kind::Union,

@@ -1,17 +1,19 @@
 // Unions of two regions, before their records are looked at.
 ghost use Rattle.std.specs.Prelude.{◌≡◌, ◌+◌, ◌-◌, ◌≤◌, ◌<◌, length, get_or, ltb, leb, Some};
-ghost use Rattle.definitions.specs.Scan.{count_below, bit};
+ghost use Rattle.definitions.specs.Scan.{count_below};
+ghost use Rattle.definitions.specs.Context.{holds};
 ghost use Rattle.definitions.specs.Junctions.{exterior_of};
 ghost use Rattle.context.specs.Rows.{pair_form};
 ghost use Rattle.junction_proposals.specs.Lent.{LentBoundaries, LentIn};
 ghost use Rattle.junction_proposals.specs.Ports.{pair_of, incidents_of};
-ghost use Rattle.junction_proposals.specs.Unions.{with_exterior, with_incident, leads_anew, ports_pass, mark_at, shape_at};
+ghost use Rattle.junction_proposals.specs.Unions.{with_exterior, with_incident, leads_anew, ports_pass, shape_at};
 
 use crate::distances::port_passes;
 use crate::lists::JunctionLists;
 use crate::ports::{Divider, find_incidents, ports_fit};
 use context::pairs::Pair;
-use geometry::boundaries::kind_at;
+use context::region_marks::is_anchored;
+use geometry::boundaries::has_ramp;
 
 // The exteriors found: none, one, two, or more.
 #[derive(Clone, Copy)]
@@ -87,14 +89,6 @@ pub fn ports_pass(lists: &JunctionLists, divider: &Divider, one: bool) -> bool
     })
 }
 
-// Whether region r is anchored, as a number.
-pub fn anchored_bit(marks: &[u16], r: u32) -> u16
-    requires { (1 ≤ r) × (r ≤ length marks.now) }
-    ensures { result ≡ bit (mark_at marks.now r) }
-{
-    marks[r as usize - 1] % 2
-}
-
 // Whether the union's regions have too few incidents for three ports: a port is an incident of one of the two, and the boundary between them is one of both.
 pub fn has_few_incidents(counts: &[u32], union: Pair) -> bool
     requires lo_named { (1 ≤ union.lo) × (union.lo ≤ length counts.now) }
@@ -106,19 +100,20 @@ pub fn has_few_incidents(counts: &[u32], union: Pair) -> bool
     first + second < 5
 }
 
-// Whether the regions of boundary `index` and their ports have the shape of a union.
-pub fn is_union(lists: &JunctionLists, index: usize, union: Pair) -> bool
+// Whether the regions of the full pair of boundary `index` and their ports have the shape of a union.
+fn has_union_shape(lists: &JunctionLists, index: usize, union: Pair) -> bool
     requires lent { LentIn lists.now }
     requires index_within { index < lists.now.count }
     requires union_full { pair_of lists.now.full.now index ≡ Some (pair_form union) }
     ensures { result ≡ shape_at lists.now.boundaries.now lists.now.full.now lists.now.count index (pair_form union)
         lists.now.counts.now lists.now.marks.now }
 {
-    if kind_at(lists.boundaries, index) != 0 {
+    if has_ramp(lists.boundaries, index) {
         return false;
     }
-    let anchored = anchored_bit(lists.marks, union.lo) + anchored_bit(lists.marks, union.hi);
-    if 2 <= anchored {
+    let lower = is_anchored(lists.marks, union.lo);
+    let upper = is_anchored(lists.marks, union.hi);
+    if lower & upper {
         return false;
     }
     // Tested first: the walk below it goes over all boundaries.
@@ -134,5 +129,18 @@ pub fn is_union(lists: &JunctionLists, index: usize, union: Pair) -> bool
     };
     ports_fit(lists, &divider)
         && has_three_exteriors(lists, &divider)
-        && ports_pass(lists, &divider, anchored == 1)
+        && ports_pass(lists, &divider, lower != upper)
+}
+
+// Whether boundary `index` is a full pair that has the shape of a union.
+pub fn is_union(lists: &JunctionLists, index: usize) -> bool
+    requires lent { LentIn lists.now }
+    requires index_within { index < lists.now.count }
+    ensures { result ≡ holds (pair_of lists.now.full.now index) (λ p. shape_at lists.now.boundaries.now lists.now.full.now lists.now.count index p
+        lists.now.counts.now lists.now.marks.now) }
+{
+    match lists.full[index] {
+        None => false,
+        Some(union) => has_union_shape(lists, index, union),
+    }
 }

@@ -7,7 +7,7 @@ use Rattle.std.specs.Prelude.{Option, None, Some}
 use mathlib.Core.List.{List, [], ◌∷◌}
 use lib.ListN.{length, get_or}
 use lib.Dec.{eqb}
-use borrow.Author.Tests.{eq-eqb}
+use borrow.Author.Tests.{not-false}
 use Rattle.definitions.specs.Limits.{numbers_per_boundary}
 use Rattle.definitions.specs.Scan.{only_if}
 use Rattle.definitions.specs.Grid.{Pair}
@@ -89,16 +89,16 @@ pub record Tried (C : Context) (a m : ℕ) (t : Bool) (A : Option Approach) : Ty
   pub three : triangle_representative (C.pairs m) (C.pairs a) ≡ only_if t (distinct_regions (C.pairs m))
   pub by : A ≡ approach_of (full_pair C a) (mouth_shape true (C.pairs m))
 
--- from the lists; k is the kind that was read of the mouth
+-- from the lists; k says whether the mouth has a ramp
 pub tried : {boundaries pairs starts counts marks : List ℕ} {count : ℕ} {C : Context} → Shows boundaries pairs starts counts marks count C → {m a : ℕ} → m < C.count → a < C.count → no_ramp C a ≡ false → full_cut C a ≡ true
-    → {k : ℕ} → k ≡ get_or boundaries (numbers_per_boundary * m + 5) 0 → k ≡ 0 → full_cut C m ≡ true
+    → {k : Bool} → k ≡ not (eqb (get_or boundaries (numbers_per_boundary * m + 5) 0) 0) → k ≡ false → full_cut C m ≡ true
     → {t : Bool} → triangle_representative (rows_of pairs starts m) (rows_of pairs starts a) ≡ only_if t (distinct_regions (rows_of pairs starts m))
     → {A : Option Approach} → A ≡ approach_of (full_pair C a) (mouth_shape true (C.pairs m)) → Tried C a m t A
 tried S {m} {a} lm la ramp cut e z full {t} h by =
     record {
       ramp = ramp;
       cut = cut;
-      plain = kind-shown S.bounds m lm ∙ ap (λ k. eqb k 0) (sym e) ∙ eq-eqb _ 0 z;
+      plain = kind-shown S.bounds m lm ∙ not-false _ (sym e ∙ z);
       full = full;
       named = S.rows.named m lm;
       three = triangle-shown S.rows m a lm la t h;

@@ -21,8 +21,8 @@ use Rattle.laws.specs.OrderLaws.ListOrder.{eqb_sym}
 use Rattle.mouth_proposals.specs.Rows.{inner_of}
 use Rattle.mouth_proposals.specs.Outers.{outers_of, with_region}
 use Rattle.mouth_proposals.specs.Candidates.{triangular, proposal_of}
-use Rattle.mouth_proposals.specs.declared.mouths.Outers.{Outers}
-use Rattle.mouth_proposals.specs.declared.mouths.Outers.TheVariants as outers
+use Rattle.context.specs.declared.found_regions.FoundRegions.{FoundRegions}
+use Rattle.context.specs.declared.found_regions.FoundRegions.TheVariants as outers
 
 -- ---- the anchored ones, region by region
 
@@ -41,7 +41,7 @@ added (s ∷ t ∷ l) x = go (any (eqb x) (s ∷ t ∷ l))
     go false = refl
 
 module _ (f : ℕ → Bool) where
-  abbrev pub step : Outers → ℕ → Outers
+  abbrev pub step : FoundRegions → ℕ → FoundRegions
   step o x = cond (f x) (with_region o x) o
 
   stepped : (l : List ℕ) (x : ℕ) → step (outers_of l) x ≡ outers_of (cond (f x) (add_new l x) l)
@@ -59,7 +59,7 @@ module _ (f : ℕ → Bool) where
       go true = refl
       go false = refl
 
-  unfoldable step_all : Outers → List ℕ → Outers
+  unfoldable step_all : FoundRegions → List ℕ → FoundRegions
   step_all o [] = o
   step_all o (x ∷ xs) = step_all (step o x) xs
 

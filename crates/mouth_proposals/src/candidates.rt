@@ -16,7 +16,7 @@ use crate::measures::{is_close, separation_of};
 use crate::mouths::{Mouth, MouthKind, mouth_candidate};
 use crate::regions::RegionMarks;
 use context::PartitionContext;
-use geometry::boundaries::kind_at;
+use geometry::boundaries::has_ramp;
 
 // What a mouth proposes to a ramp (`MouthProposal` of ramp_boundaries.rs): the boundaries of both, the region outside, if there is one, and the kind. Its inner
 // regions are the others that the mouth's rows name.
@@ -170,7 +170,7 @@ pub fn push_ramp(
         Filled C entries.new result
         (collect context.entry.count (mouth_candidate C a)) }
 {
-    if kind_at(context.boundaries, a) == 0 {
+    if !has_ramp(context.boundaries, a) {
         return 0;
     }
     if !context.full_cut(a) {

@@ -9,7 +9,7 @@ ghost use Rattle.mouth_proposals.specs.Ends.{is_other_end, end_at, EndsOf};
 
 use context::PartitionContext;
 use context::pairs::Pair;
-use geometry::boundaries::{kind_at, ramp_at};
+use geometry::boundaries::{has_ramp, ramp_at, same_kind};
 
 // Of a ramp with a full pair: the smaller region of the pair, and the answers for it and for the larger one.
 #[derive(Clone, Copy)]
@@ -37,10 +37,8 @@ fn is_other_end(context: PartitionContext, a: usize, r: u32, j: usize) -> bool
         ShownPairs C context.entry.pairs.now context.entry.starts.now →
         result ≡ is_other_end C a r j }
 {
-    let kind = kind_at(context.boundaries, j);
-    let id = ramp_at(context.boundaries, j);
-    let is_end = (kind != 0)
-        & ((id == ramp_at(context.boundaries, a)) & (kind != kind_at(context.boundaries, a)));
+    let same_ramp = ramp_at(context.boundaries, j) == ramp_at(context.boundaries, a);
+    let is_end = has_ramp(context.boundaries, j) & same_ramp & !same_kind(context.boundaries, j, a);
     is_end && context.is_incident(j, r)
 }
 

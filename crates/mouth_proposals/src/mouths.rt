@@ -17,8 +17,10 @@ use crate::measures::Measures;
 use crate::regions::RegionMarks;
 use crate::shapes::triangle_representative;
 use context::PartitionContext;
+use context::found_regions::FoundRegions;
 use context::pairs::row_at;
-use geometry::boundaries::kind_at;
+use geometry::boundaries::has_ramp;
+use std::ops::Range;
 
 // What a proposal is made of: one pair or a star, a triangle, or a broad approach of two ports.
 #[derive(Clone, Copy, PartialEq, Eq)]
@@ -60,26 +62,18 @@ pub struct Mouth {
     pub kind: MouthKind,
 }
 
-// The anchored regions of a triangle.
-#[derive(Clone, Copy, PartialEq, Eq)]
-pub enum Outers {
-    None,
-    One(u32),
-    Several,
-}
-
 // Whether every inner region of the star of these rows fits.
-fn inner_fit(pairs: &[u32], regions: RegionMarks, first: usize, end: usize, sides: Sides) -> bool
-    requires ordered { first ≤ end }
+fn inner_fit(pairs: &[u32], regions: RegionMarks, mut rows: Range<usize>, sides: Sides) -> bool
+    requires ordered { rows.start ≤ rows.end }
     requires named_rows { (k : ℕ) →
-        first ≤ k →
-        k < end →
+        rows.start ≤ k →
+        k < rows.end →
         NamedRow pairs.now (length regions.counts.now) k × NamedRow pairs.now (length regions.marks.now) k }
     ensures { result
         ≡ all (inner_fits regions.entry.marks.now regions.entry.counts.now sides.outer sides.approach)
-        (regions_of (pairs_between pairs.now first end)) }
+        (regions_of (pairs_between pairs.now rows.start rows.end)) }
 {
-    (first..end).all(|k| {
+    rows.all(|k| {
         let p = row_at(pairs, k);
         regions.fits(sides, p.lo) & regions.fits(sides, p.hi)
     })
@@ -141,16 +135,15 @@ fn star_mouth(
     if measures.overlay_only() | (regions.incident_count(sides.approach) != 2) | blocked {
         return None;
     }
-    let first = context.starts[m];
-    let end = context.starts[m + 1];
-    inner_fit(context.pairs, regions, first, end, sides).then_some(Mouth {
+    let rows = context.starts[m]..context.starts[m + 1];
+    inner_fit(context.pairs, regions, rows, sides).then_some(Mouth {
         outer: Some(sides.outer),
         kind: MouthKind::of_approach(measures.broad),
     })
 }
 
 // The anchored regions found so far and, if it is anchored, r.
-fn with_region(regions: RegionMarks, found: Outers, r: u32) -> Outers
+fn with_region(regions: RegionMarks, found: FoundRegions, r: u32) -> FoundRegions
     requires { (1 ≤ r) × (r ≤ length regions.marks.now) }
     ensures { result ≡ cond (mark_at regions.entry.marks.now r) (with_region found r) found }
 {
@@ -158,15 +151,9 @@ fn with_region(regions: RegionMarks, found: Outers, r: u32) -> Outers
         return found;
     }
     match found {
-        Outers::None => Outers::One(r),
-        Outers::One(s) => {
-            if s == r {
-                Outers::One(s)
-            } else {
-                Outers::Several
-            }
-        }
-        Outers::Several => Outers::Several,
+        FoundRegions::None => FoundRegions::One(r),
+        FoundRegions::One(s) if s == r => found,
+        FoundRegions::One(_) | FoundRegions::Several => FoundRegions::Several,
     }
 }
 
@@ -186,13 +173,13 @@ fn triangle_mouth(context: PartitionContext, regions: RegionMarks, m: usize) -> 
     let first = context.starts[m];
     let p = row_at(context.pairs, first);
     let q = row_at(context.pairs, first + 1);
-    let one = with_region(regions, Outers::None, p.lo);
+    let one = with_region(regions, FoundRegions::None, p.lo);
     let two = with_region(regions, one, p.hi);
     let three = with_region(regions, two, q.lo);
     let outer = match with_region(regions, three, q.hi) {
-        Outers::None => None,
-        Outers::One(r) => Some(r),
-        Outers::Several => return None,
+        FoundRegions::None => None,
+        FoundRegions::One(r) => Some(r),
+        FoundRegions::Several => return None,
     };
     Some(Mouth {
         outer,
@@ -255,7 +242,7 @@ pub fn mouth_candidate(
         candidate_form C m ramp.boundary result ≡ found_mouth C ramp.boundary m }
 {
     let a = ramp.boundary;
-    if kind_at(context.boundaries, m) != 0 {
+    if has_ramp(context.boundaries, m) {
         return None;
     }
     if !context.full_cut(m) {

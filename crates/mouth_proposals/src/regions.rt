@@ -3,6 +3,7 @@ ghost use Rattle.std.specs.Prelude.{◌≡◌, ◌-◌, ◌≤◌, length, get_o
 ghost use Rattle.mouth_proposals.specs.Outers.{mark_at, inner_fits};
 
 use crate::approaches::Sides;
+use context::region_marks;
 
 #[derive(Clone, Copy)]
 pub struct RegionMarks<'a> {
@@ -15,7 +16,7 @@ impl RegionMarks<'_> {
         requires { (1 ≤ r) × (r ≤ length self.marks.now) }
         ensures { result ≡ mark_at self.entry.marks.now r }
     {
-        self.marks[r as usize - 1] % 2 == 1
+        region_marks::is_anchored(self.marks, r)
     }
 
     pub fn incident_count(self, r: u32) -> u32

@@ -10,6 +10,7 @@ ghost use Rattle.mouth_proposals.specs.Rows.{rows_of, shape_form};
 
 use context::PartitionContext;
 use context::pairs::{Pair, row_at};
+use std::ops::Range;
 
 // MouthShape of ramp_boundaries.rs: of one pair, or a star about an outer region; `shape_form` of specs/Rows.antt gives the inner ones.
 #[derive(Clone, Copy, PartialEq, Eq)]
@@ -29,22 +30,22 @@ pub fn region_of(p: Pair, lo: bool, hi: bool) -> Option<u32>
     }
 }
 
-// Whether every row from `first` on, before `end`, names region r.
-fn in_all(pairs: &[u32], first: usize, end: usize, r: u32) -> bool
-    requires { (first ≤ end) × (numbers_per_pair * end ≤ length pairs.now) }
-    ensures { result ≡ all (contains r) (pairs_between pairs.now first end) }
+// Whether every one of the rows names region r.
+fn in_all(pairs: &[u32], mut rows: Range<usize>, r: u32) -> bool
+    requires { (rows.start ≤ rows.end) × (numbers_per_pair * rows.end ≤ length pairs.now) }
+    ensures { result ≡ all (contains r) (pairs_between pairs.now rows.start rows.end) }
 {
-    (first..end).all(|k| row_at(pairs, k).contains(r))
+    rows.all(|k| row_at(pairs, k).contains(r))
 }
 
 // The star of two rows or more: exactly one region stands in all of them.
-fn star_of(pairs: &[u32], first: usize, end: usize) -> Option<Shape>
-    requires { (first + 2 ≤ end) × (numbers_per_pair * end ≤ length pairs.now) }
-    ensures { shape_form (pairs_between pairs.now first end) result ≡ mouth_shape true (pairs_between pairs.now first end) }
+fn star_of(pairs: &[u32], rows: Range<usize>) -> Option<Shape>
+    requires { (rows.start + 2 ≤ rows.end) × (numbers_per_pair * rows.end ≤ length pairs.now) }
+    ensures { shape_form (pairs_between pairs.now rows.start rows.end) result ≡ mouth_shape true (pairs_between pairs.now rows.start rows.end) }
 {
-    let p = row_at(pairs, first);
-    let lo = in_all(pairs, first, end, p.lo);
-    let hi = in_all(pairs, first, end, p.hi);
+    let p = row_at(pairs, rows.start);
+    let lo = in_all(pairs, rows.start..rows.end, p.lo);
+    let hi = in_all(pairs, rows, p.hi);
     let outer = region_of(p, lo, hi)?;
     Some(Shape::Star(outer))
 }
@@ -60,7 +61,7 @@ pub fn star(context: PartitionContext, m: usize) -> Option<Shape>
     match end - first {
         0 => None,
         1 => Some(Shape::Single(row_at(context.pairs, first))),
-        _ => star_of(context.pairs, first, end),
+        _ => star_of(context.pairs, first..end),
     }
 }
 

@@ -16,7 +16,7 @@ use Rattle.definitions.specs.RampInteriors.{region_fits}
 use Rattle.laws.specs.ListLaws.Below.{below_none}
 use Rattle.laws.specs.ListLaws.ScanSteps.{any_next, all_next, all_intro}
 use Rattle.context.specs.declared.Region.{Region}
-use Rattle.interior_proposals.specs.declared.owners.Owner.{Owner}
+use Rattle.context.specs.declared.found_regions.FoundRegions.{FoundRegions}
 use Rattle.interior_proposals.specs.Owners.{owned_by, name_of, owner_at, name_at}
 use Rattle.interior_proposals.specs.declared.ports.Ports.{Ports}
 use Rattle.interior_regions.specs.declared.Interior.{Interior}
@@ -94,7 +94,7 @@ module _ (C : Context) (pairs names : List ℕ) (x : Interior) where
 
 -- ---- boundaries
 
-pub judges_asks : {C : Context} {records : List Region} {boundaries pairs starts names : List ℕ} {owners : List Owner} {found : List (Option Ports)} {count i : ℕ} {x : Interior} → Judges C records boundaries pairs starts names owners found count → Stretched C pairs names owners i x
+pub judges_asks : {C : Context} {records : List Region} {boundaries pairs starts names : List ℕ} {owners : List FoundRegions} {found : List (Option Ports)} {count i : ℕ} {x : Interior} → Judges C records boundaries pairs starts names owners found count → Stretched C pairs names owners i x
     → Asks C records boundaries pairs names x
 judges_asks h T =
     record {
@@ -109,14 +109,14 @@ judges_asks h T =
     }
 
 -- the edges of what is accepted at the boundaries before i are marked
-pub record Judging (C : Context) (owners : List Owner) (marked : List Bool) (count i : ℕ) : Type 0 where
+pub record Judging (C : Context) (owners : List FoundRegions) (marked : List Bool) (count i : ℕ) : Type 0 where
   pub at : (j : ℕ) → j < count → get_or marked j false ≡ marked_before C owners i j
 
-pub judging_start : (C : Context) (owners : List Owner) {marked : List Bool} {count : ℕ} → Unmarked marked count → Judging C owners marked count 0
+pub judging_start : (C : Context) (owners : List FoundRegions) {marked : List Bool} {count : ℕ} → Unmarked marked count → Judging C owners marked count 0
 unfolding any_below_lem
 judging_start C owners u = record { at = u.clear }
 
-pub judging_more : {C : Context} {pairs names : List ℕ} {owners : List Owner} {was marked : List Bool} {count i : ℕ} {x : Interior} {fits : Bool} → Stretched C pairs names owners i x
+pub judging_more : {C : Context} {pairs names : List ℕ} {owners : List FoundRegions} {was marked : List Bool} {count i : ℕ} {x : Interior} {fits : Bool} → Stretched C pairs names owners i x
     → fits ≡ interior_fits_lem C pairs names x.name x.begin x.ports.first x.ports.second x.end
     → Judging C owners was count i → ((j : ℕ) → j < count → get_or marked j false ≡ (get_or was j false || (fits && owned_by x.name (owner_at owners j)))) → Judging C owners marked count (i + 1)
 judging_more {C} {owners = owners} {i = i} T e h m =
@@ -127,7 +127,7 @@ judging_more {C} {owners = owners} {i = i} T e h m =
     }
 
 -- nothing is accepted at boundary i
-pub judging_past : {C : Context} {owners : List Owner} {marked : List Bool} {count i : ℕ} → accepted C owners i ≡ false → Judging C owners marked count i → Judging C owners marked count (i + 1)
+pub judging_past : {C : Context} {owners : List FoundRegions} {marked : List Bool} {count i : ℕ} → accepted C owners i ≡ false → Judging C owners marked count i → Judging C owners marked count (i + 1)
 judging_past {C} {owners} {i = i} e h =
     record {
       at = λ j l.
@@ -135,7 +135,7 @@ judging_past {C} {owners} {i = i} e h =
           ∙ sym (any_next (λ k. accepted C owners k && owned_by (name_at owners k) (owner_at owners j)) i);
     }
 
-pub judging_ends : {C : Context} {records : List Region} {boundaries pairs starts names : List ℕ} {owners : List Owner} {found : List (Option Ports)} {marked : List Bool} {count i : ℕ} → Judges C records boundaries pairs starts names owners found count → i ≡ count
+pub judging_ends : {C : Context} {records : List Region} {boundaries pairs starts names : List ℕ} {owners : List FoundRegions} {found : List (Option Ports)} {marked : List Bool} {count i : ℕ} → Judges C records boundaries pairs starts names owners found count → i ≡ count
     → Judging C owners marked count i → Collapsed C count marked
 judging_ends {C} {owners = owners} {count = count} {i = i} g e h =
     record {

@@ -6,7 +6,7 @@ use Rattle.definitions.specs.RampInteriors.{removed}
 use Rattle.laws.specs.FloatLaws.Pixels.{PixelContext}
 use Rattle.context.specs.declared.Region.{Region}
 use Rattle.context.specs.Shown.{ShownBoundaries}
-use Rattle.interior_proposals.specs.declared.owners.Owner.{Owner}
+use Rattle.context.specs.declared.found_regions.FoundRegions.{FoundRegions}
 use Rattle.interior_proposals.specs.declared.ports.Ports.{Ports}
 use Rattle.interior_proposals.specs.Given.{Lent}
 use Rattle.interior_regions.specs.declared.Interior.{Interior}
@@ -26,7 +26,7 @@ pub record Asks (C : Context) (records : List Region) (boundaries pairs names : 
   pub second : x.ports.second < C.count
 
 -- the lists hold what was found of the components of C, and the records are its records
-pub record Judges (C : Context) (records : List Region) (boundaries pairs starts names : List ℕ) (owners : List Owner) (found : List (Option Ports)) (count : ℕ) : Type 0 where
+pub record Judges (C : Context) (records : List Region) (boundaries pairs starts names : List ℕ) (owners : List FoundRegions) (found : List (Option Ports)) (count : ℕ) : Type 0 where
   pub held : HoldsRecords C records
   pub tallies : List ℕ
   pub interiors : interiors.Interiors C boundaries tallies pairs starts names owners found count

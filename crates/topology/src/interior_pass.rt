@@ -7,9 +7,9 @@ ghost use Rattle.topology.specs.Interiors.{Asks, Judges, Collapses, Collapsed};
 ghost use Rattle.topology.specs.Proposals.{Unmarked};
 
 use crate::slice::record_at;
+use context::found_regions::FoundRegions;
 use context::{PartitionContext, Region};
 use interior_proposals::fits::{reach_of, region_fits};
-use interior_proposals::owners::Owner;
 use interior_proposals::ports::Ports;
 use interior_regions::{
     Interior, find_interiors, interior_at, is_inside, mark_edges, record_place,
@@ -48,7 +48,7 @@ pub fn judge_interiors(
     records: &[Region],
     context: PartitionContext,
     names: &[u32],
-    owners: &[Owner; 256],
+    owners: &[FoundRegions; 256],
     found: &[Option<Ports>; 256],
     removed: &mut [bool; 256],
 )
@@ -86,7 +86,7 @@ pub fn collapse_ramp_interiors(
         context.entry.count regions marks.old counts.old →
         Collapsed C context.entry.count removed.new }
 {
-    let mut owners = [Owner::None; 256];
+    let mut owners = [FoundRegions::None; 256];
     let mut found = [None; 256];
     find_interiors(context, regions, marks, counts, &mut owners, &mut found);
     judge_interiors(records, context, counts, &owners, &found, removed);

@@ -4,13 +4,13 @@ use Rattle.std.specs.Prelude.{Option, None, Some, MatchOption}
 use Rattle.std.specs.Iterator.Adapters.{rev_source}
 use Rattle.std.specs.declared.ops.Range.{Range}
 use Rattle.std.specs.declared.iter.Rev.{Rev}
-use Rattle.interior_proposals.specs.declared.owners.Owner.{Owner}
+use Rattle.context.specs.declared.found_regions.FoundRegions.{FoundRegions}
 use Rattle.interior_proposals.specs.Owners.{owned_by, owner_at}
 use Rattle.interior_regions.specs.Marks.{EndOf}
 use Rattle.interior_regions.proofs.Backwards.{last_from_range}
 use Rattle.interior_regions.proofs.end_of.Goals as goal
 
-module _ (owners : List Owner) (count name : ℕ) (s : Rev (Range ℕ)) (e : rev_source s ≡ record { start = 0; end = count }) where
+module _ (owners : List FoundRegions) (count name : ℕ) (s : Rev (Range ℕ)) (e : rev_source s ≡ record { start = 0; end = count }) where
   abbrev Ends : Option ℕ → Type 0
   Ends r = MatchOption r (EndOf owners count name 0) (λ j. EndOf owners count name (j + 1) × (j < count))
 

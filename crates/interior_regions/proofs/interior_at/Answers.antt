@@ -9,7 +9,7 @@ use Rattle.std.specs.Prelude.{Option, None, Some}
 use Rattle.definitions.specs.Limits.{max_entries}
 use Rattle.interior_proposals.specs.declared.ports.Ports.{Ports}
 use mathlib.Core.Logic.{⊎_elim}
-use Rattle.interior_proposals.specs.declared.owners.Owner.{Owner}
+use Rattle.context.specs.declared.found_regions.FoundRegions.{FoundRegions}
 use Rattle.interior_proposals.specs.Owners.{is_one}
 use Rattle.interior_regions.specs.Marks.{SomeInteriors, EndOf}
 use Rattle.interior_regions.proofs.PlaceLaws.{starts_fit}
@@ -17,7 +17,7 @@ use Rattle.interior_regions.proofs.Stretches.{stretched_none, stretched_other, p
 use Rattle.interior_regions.proofs.interior_at.Goals as goal
 
 -- what the bounds need, over plain variables
-module _ {pairs starts : List ℕ} {owners : List Owner} {found : List (Option Ports)} {count i : ℕ} (pre : SomeInteriors pairs starts owners found count) (l : i < count) where
+module _ {pairs starts : List ℕ} {owners : List FoundRegions} {found : List (Option Ports)} {count i : ℕ} (pre : SomeInteriors pairs starts owners found count) (l : i < count) where
   few : count ≤ max_entries
   few = let I = pre.1.1.1.1 in omega (arith, I.owning.counted, I.owning.given.paired.few)
 

@@ -3,7 +3,7 @@ use Rattle.std.proofs.Common.{rules, tests, arith, ℕ, Bool, ◌∙◌}
 use Rattle.std.proofs.lemmas.Iterator.{YieldsList-from_range}
 use Rattle.std.proofs.lemmas.Iterator.Consumers.{YieldsList-from_filter, count_from_yields_List}
 use Rattle.interior_proposals.specs.Owners.{owned_by, owner_at}
-use Rattle.interior_proposals.proofs.Counting.{counted_below}
+use Rattle.range_laws.specs.Ranges.{counted_range}
 use Rattle.interior_proposals.proofs.candidates.edge_count.Goals as goal
 
 pub returns : goal.returns
@@ -12,4 +12,4 @@ returns c =
     let f : ℕ → Bool = λ i. owned_by c.args.r (owner_at c.args.owners.now i) in
     count_from_yields_List c.filter.result c.count.result c.count.ensures.ran
     (YieldsList-from_filter _ f (YieldsList-from_range 0 n n c.filter.ensures.source (omega arith)) c.filter.ensures.closure (λ x b q k. (search rules, search (rules, tests))))
-    ∙ counted_below f n
+    ∙ counted_range f n

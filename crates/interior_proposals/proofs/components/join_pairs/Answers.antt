@@ -15,9 +15,9 @@ loop-k-init c = (search rules, search rules, λ cs P w. rows_start _ _ _ _ P)
 pub join-requires : goal.join-requires
 join-requires c =
     let names : List ℕ = c.requires.joinable.0 in
-    let merged : Merged names c.args.parents.now (pairs_between c.args.pairs.now c.args.first c.loop-k.k) c.loop-k.parents = c.loop-k.invariant.2 names c.requires.joinable.1.0 c.requires.joinable.1.1 in
+    let merged : Merged names c.args.parents.now (pairs_between c.args.pairs.now c.args.rows.start c.loop-k.k) c.loop-k.parents = c.loop-k.invariant.2 names c.requires.joinable.1.0 c.requires.joinable.1.1 in
     let k = c.loop-k.k in
-    (merge_all names (pairs_between c.args.pairs.now c.args.first k), (merged.parented, row-placed _ _ _ _ k merged (c.requires.joinable.1.1 k c.loop-k.invariant.0 c.loop-k-test.true) (row_low c.args.pairs.now c.loop-k.k c.row_at.ensures) (row_high c.args.pairs.now c.loop-k.k c.row_at.ensures)))
+    (merge_all names (pairs_between c.args.pairs.now c.args.rows.start k), (merged.parented, row-placed _ _ _ _ k merged (c.requires.joinable.1.1 k c.loop-k.invariant.0 c.loop-k-test.true) (row_low c.args.pairs.now c.loop-k.k c.row_at.ensures) (row_high c.args.pairs.now c.loop-k.k c.row_at.ensures)))
 
 pub loop-k-preserved : goal.loop-k-preserved
 loop-k-preserved c =

@@ -7,4 +7,4 @@ use Rattle.interior_proposals.specs.Forest.{Parented, Rows, Merged}
 use Rattle.interior_proposals.proofs.components.join_pairs.Given as goal
 
 abbrev pub invariant-loop-k : goal.invariant-loop-k
-invariant-loop-k l = (l.first ≤ l.k) × (l.k ≤ l.end) × ((cs : List ℕ) → Parented cs l.initial.parents → Rows (length cs) l.pairs l.first l.end → Merged cs l.initial.parents (pairs_between l.pairs l.first l.k) l.parents)
+invariant-loop-k l = (l.fn.rows.start ≤ l.k) × (l.k ≤ l.fn.rows.end) × ((cs : List ℕ) → Parented cs l.initial.parents → Rows (length cs) l.pairs l.fn.rows.start l.fn.rows.end → Merged cs l.initial.parents (pairs_between l.pairs l.fn.rows.start l.k) l.parents)

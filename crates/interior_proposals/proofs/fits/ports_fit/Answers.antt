@@ -7,8 +7,6 @@ use Rattle.interior_proposals.proofs.fits.ports_fit.Goals as goal
 
 pub returns : goal.returns
 returns c =
-    let second = c.kind_at-second.ensures in
-    let first = c.kind_at-first.ensures in
     λ C B T l m.
-    (λ j. not (eqb (first j) 0) && not (eqb (second j) 0) && c.full_cut.result && c.full_cut-2.result && eqb (c.ramp_at.ensures j) (c.ramp_at-2.ensures j) && not (eqb (first j) (second j)))
+    (λ j. c.has_ramp.ensures j && c.has_ramp-2.ensures j && c.full_cut.result && c.full_cut-2.result && eqb (c.ramp_at.ensures j) (c.ramp_at-2.ensures j) && not (c.same_kind.ensures j))
     ∙ ports_fit_is B l m (c.full_cut.ensures C T l) (c.full_cut-2.ensures C T m)

@@ -14,5 +14,5 @@ use Rattle.interior_proposals.proofs.leaves.clear_exteriors.Given as goal
 
 abbrev pub invariant-loop-k : goal.invariant-loop-k
 invariant-loop-k l =
-    (l.first ≤ l.k) × (l.k ≤ l.end) × (length l.marks ≡ length l.initial.marks)
-    × ((C : Context) (rs : List ℕ) (w : Walkable l.pairs l.first l.end C.regions) → Marked C (λ y. member y (exteriors rs (pairs_between l.pairs l.first l.end))) l.initial.marks → Clearing C (λ x. member x (exteriors rs (pairs_between l.pairs l.first l.end))) l.pairs l.first l.end w l.initial.marks l.k l.marks)
+    (l.fn.rows.start ≤ l.k) × (l.k ≤ l.fn.rows.end) × (length l.marks ≡ length l.initial.marks)
+    × ((C : Context) (rs : List ℕ) (w : Walkable l.pairs l.fn.rows.start l.fn.rows.end C.regions) → Marked C (λ y. member y (exteriors rs (pairs_between l.pairs l.fn.rows.start l.fn.rows.end))) l.initial.marks → Clearing C (λ x. member x (exteriors rs (pairs_between l.pairs l.fn.rows.start l.fn.rows.end))) l.pairs l.fn.rows.start l.fn.rows.end w l.initial.marks l.k l.marks)

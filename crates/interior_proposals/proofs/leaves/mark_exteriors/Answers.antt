@@ -12,8 +12,8 @@ loop-k-init c = (search rules, c.requires.1.0.rising, refl, λ C rs w I M. marki
 
 pub loop-k-preserved : goal.loop-k-preserved
 loop-k-preserved c =
-    let up : c.args.first ≤ c.loop-k.k = c.loop-k.invariant.0 in
-    let in_rows : c.loop-k.k < c.args.end = c.loop-k-test.true in (
+    let up : c.args.rows.start ≤ c.loop-k.k = c.loop-k.invariant.0 in
+    let in_rows : c.loop-k.k < c.args.rows.end = c.loop-k-test.true in (
       omega (arith, up),
       omega (arith, in_rows),
       c.mark_exterior-in-loop-k.ensures.marks_length ∙ c.mark_exterior.ensures.marks_length ∙ c.loop-k.invariant.2,

@@ -8,7 +8,7 @@ use Rattle.interior_proposals.proofs.owners.touches.Goals as goal
 
 pub returns : goal.returns
 returns c =
-    any-rows_is (pair_named c.args.names.now c.args.r) c.args.pairs.now c.args.first c.args.end c.requires.rising _
+    any-rows_is (pair_named c.args.names.now c.args.r) c.args.pairs.now c.args.rows.start c.args.rows.end c.requires.rising _
     (any_from_range _ _ _ c.any.result
     (λ k. pair_named c.args.names.now c.args.r (pair_at c.args.pairs.now k) ≡ true) (λ k. pair_named c.args.names.now c.args.r (pair_at c.args.pairs.now k) ≡ false)
     c.any.ensures.ran (λ x q k. search (rules, tests)) (λ x q k. search (rules, tests)))

@@ -2,17 +2,11 @@
 use Prim.Native.Nat.{ℕ}
 use native.Mathlib.Omega.{arith}
 use mathlib.Core.Path.{◌≡◌, sym, ap, ◌∙◌}
-use mathlib.Core.Bool.{Bool, false}
-use Rattle.definitions.specs.Scan.{bit}
 use mathlib.Core.List.{List}
-use Rattle.junction_proposals.specs.Unions.{mark_at}
 use Rattle.junction_proposals.specs.Bridges.{bridge_form, is_pocket_port}
 use Rattle.junction_proposals.proofs.FirstFound.{none_found, one_found, two_found, three-found, more_found}
-use Rattle.junction_proposals.proofs.BridgeWalk.{bit_one, bit-other, port_at_lem, other-count, is_anchored, other_length, of_three}
+use Rattle.junction_proposals.proofs.BridgeWalk.{port_at_lem, other-count, is_anchored, other_length, of_three}
 use Rattle.junction_proposals.proofs.bridges.bridge_of.Goals as goal
-
-free : {n : ℕ} {b : Bool} → n ≡ bit b → (n ≡ 1 → ⊥) → b ≡ false
-free {b = b} e h = bit-other b (λ q. h (e ∙ q))
 
 pub bounds-lists-r : goal.bounds-lists-r
 bounds-lists-r c =
@@ -26,36 +20,36 @@ returns-then-lists-r-ne3 c =
     let marks : List ℕ = c.args.lists.now.marks.now in
     other-count boundaries full marks counts c.args.r c.args.lists.now.count c.if-lists-r-ne3.true
 
-pub anchored_bit-requires : goal.anchored_bit-requires
-anchored_bit-requires c =
+pub is_anchored-requires : goal.is_anchored-requires
+is_anchored-requires c =
     omega (arith, c.requires.r_named, c.requires.lent.marks_long)
 
-pub returns-then-anchored_bit-eq1 : goal.returns-then-anchored_bit-eq1
-returns-then-anchored_bit-eq1 c =
+pub returns-then-is_anchored : goal.returns-then-is_anchored
+returns-then-is_anchored c =
     let boundaries : List ℕ = c.args.lists.now.boundaries.now in
     let full = c.args.lists.now.full.now in
     let counts : List ℕ = c.args.lists.now.counts.now in
     let marks : List ℕ = c.args.lists.now.marks.now in
-    is_anchored boundaries full marks counts c.args.r c.args.lists.now.count (bit_one (mark_at marks c.args.r) (sym c.anchored_bit.ensures ∙ c.if-anchored_bit-eq1.true))
+    is_anchored boundaries full marks counts c.args.r c.args.lists.now.count (sym c.is_anchored.ensures ∙ c.if-is_anchored.true)
 
 pub returns-in_err-i : goal.returns-in_err-i
 returns-in_err-i c =
-    ap (bridge_form c.args.r) c.from_residual.ensures ∙ other_length c.args.lists.now.boundaries.now c.args.lists.now.full.now c.args.lists.now.marks.now c.args.lists.now.counts.now c.args.r c.args.lists.now.count c.if-lists-r-ne3.false (free c.anchored_bit.ensures c.if-anchored_bit-eq1.false)
+    ap (bridge_form c.args.r) c.from_residual.ensures ∙ other_length c.args.lists.now.boundaries.now c.args.lists.now.full.now c.args.lists.now.marks.now c.args.lists.now.counts.now c.args.r c.args.lists.now.count c.if-lists-r-ne3.false (sym c.is_anchored.ensures ∙ c.if-is_anchored.false)
     (none_found (is_pocket_port c.args.lists.now.full.now c.args.r c.args.lists.now.boundaries.now) c.args.lists.now.count c.in_err-i.ensures.first)
 
 pub returns-in_err-j : goal.returns-in_err-j
 returns-in_err-j c =
-    ap (bridge_form c.args.r) c.from_residual-in_err-j.ensures ∙ other_length c.args.lists.now.boundaries.now c.args.lists.now.full.now c.args.lists.now.marks.now c.args.lists.now.counts.now c.args.r c.args.lists.now.count c.if-lists-r-ne3.false (free c.anchored_bit.ensures c.if-anchored_bit-eq1.false)
+    ap (bridge_form c.args.r) c.from_residual-in_err-j.ensures ∙ other_length c.args.lists.now.boundaries.now c.args.lists.now.full.now c.args.lists.now.marks.now c.args.lists.now.counts.now c.args.r c.args.lists.now.count c.if-lists-r-ne3.false (sym c.is_anchored.ensures ∙ c.if-is_anchored.false)
     (one_found (is_pocket_port c.args.lists.now.full.now c.args.r c.args.lists.now.boundaries.now) c.args.lists.now.count c.in_ok-i.ensures.first c.in_err-j.ensures.first)
 
 pub returns-in_err-k : goal.returns-in_err-k
 returns-in_err-k c =
-    ap (bridge_form c.args.r) c.from_residual-in_err-k.ensures ∙ other_length c.args.lists.now.boundaries.now c.args.lists.now.full.now c.args.lists.now.marks.now c.args.lists.now.counts.now c.args.r c.args.lists.now.count c.if-lists-r-ne3.false (free c.anchored_bit.ensures c.if-anchored_bit-eq1.false)
+    ap (bridge_form c.args.r) c.from_residual-in_err-k.ensures ∙ other_length c.args.lists.now.boundaries.now c.args.lists.now.full.now c.args.lists.now.marks.now c.args.lists.now.counts.now c.args.r c.args.lists.now.count c.if-lists-r-ne3.false (sym c.is_anchored.ensures ∙ c.if-is_anchored.false)
     (two_found (is_pocket_port c.args.lists.now.full.now c.args.r c.args.lists.now.boundaries.now) c.args.lists.now.count c.in_ok-i.ensures.first c.in_ok-j.ensures.first c.in_err-k.ensures.first)
 
 pub returns-in-Some : goal.returns-in-Some
 returns-in-Some c =
-    other_length c.args.lists.now.boundaries.now c.args.lists.now.full.now c.args.lists.now.marks.now c.args.lists.now.counts.now c.args.r c.args.lists.now.count c.if-lists-r-ne3.false (free c.anchored_bit.ensures c.if-anchored_bit-eq1.false)
+    other_length c.args.lists.now.boundaries.now c.args.lists.now.full.now c.args.lists.now.marks.now c.args.lists.now.counts.now c.args.r c.args.lists.now.count c.if-lists-r-ne3.false (sym c.is_anchored.ensures ∙ c.if-is_anchored.false)
     (more_found (is_pocket_port c.args.lists.now.full.now c.args.r c.args.lists.now.boundaries.now) c.args.lists.now.count c.in_ok-i.ensures.first c.in_ok-j.ensures.first c.in_ok-k.ensures.first c.in-Some.ensures.first)
 
 pub bridge_of_three-requires : goal.bridge_of_three-requires
@@ -70,6 +64,6 @@ bridge_of_three-requires c =
 
 pub returns-in-None : goal.returns-in-None
 returns-in-None c =
-    of_three c.args.lists.now.boundaries.now c.args.lists.now.full.now c.args.lists.now.marks.now c.args.lists.now.counts.now c.args.r c.args.lists.now.count c.if-lists-r-ne3.false (free c.anchored_bit.ensures c.if-anchored_bit-eq1.false) _ _ _
+    of_three c.args.lists.now.boundaries.now c.args.lists.now.full.now c.args.lists.now.marks.now c.args.lists.now.counts.now c.args.r c.args.lists.now.count c.if-lists-r-ne3.false (sym c.is_anchored.ensures ∙ c.if-is_anchored.false) _ _ _
     (three-found (is_pocket_port c.args.lists.now.full.now c.args.r c.args.lists.now.boundaries.now) c.args.lists.now.count c.in_ok-i.ensures.first c.in_ok-j.ensures.first c.in_ok-k.ensures.first c.in-None.ensures.first)
     c.bridge_of_three.ensures

@@ -6,15 +6,14 @@ use lib.Dec.{eqb}
 use Rattle.junction_proposals.specs.Unions.{mark_at}
 use Rattle.junction_proposals.specs.Bridges.{is_shared_at}
 use Rattle.junction_proposals.proofs.BridgeTests.{port-within}
-use Rattle.laws.specs.ListLaws.Flags.{bit-is_one}
 use Rattle.junction_proposals.proofs.bridges.is_shared.Goals as goal
 
-pub anchored_bit-requires : goal.anchored_bit-requires
-anchored_bit-requires c =
+pub is_anchored-requires : goal.is_anchored-requires
+is_anchored-requires c =
     omega (arith, c.region_beyond-third.ensures, port-within c.args.r c.requires.lent.pairs c.requires.t_is_port, c.requires.lent.marks_long)
 
 pub returns : goal.returns
 unfolding is_shared_at
 returns c =
     λ x. eqb (c.region_beyond-first.ensures x) (c.region_beyond-second.ensures x) && not (eqb (c.region_beyond-third.ensures x) (c.region_beyond-first.ensures x))
-    && (ap (λ n. eqb n 1) c.anchored_bit.ensures ∙ bit-is_one (mark_at c.args.lists.now.marks.now c.region_beyond-third.result) ∙ ap (mark_at c.args.lists.now.marks.now) c.region_beyond-third.ensures) x
+    && (c.is_anchored.ensures ∙ ap (mark_at c.args.lists.now.marks.now) c.region_beyond-third.ensures) x

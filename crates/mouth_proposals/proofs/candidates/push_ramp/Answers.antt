@@ -1,19 +1,18 @@
 -- `candidates::push_ramp` meets its contract, by its tests. Assumes nothing.
 use native.Mathlib.Omega.{arith}
 use mathlib.Core.Path.{sym, ap, ◌∙◌}
-use lib.Dec.{eqb}
-use borrow.Author.Tests.{eq-eqb, ne_eqb}
+use borrow.Author.Tests.{not-true, not-false}
 use Rattle.mouth_proposals.specs.Candidates.{mouth_candidate}
 use Rattle.mouth_proposals.proofs.SafeLists.{below, stretch_at, tallies_at, rows-counted, kind-shown}
 use Rattle.mouth_proposals.proofs.CandidateRoom.{filled-empty, no_ramp_none, no_cut_none}
 use Rattle.mouth_proposals.proofs.candidates.push_ramp.Goals as goal
 
-pub returns-then-kind_at-eq0 : goal.returns-then-kind_at-eq0
-returns-then-kind_at-eq0 c =
+pub returns-then-not-has_ramp : goal.returns-then-not-has_ramp
+returns-then-not-has_ramp c =
     record {
       bound = omega arith;
       still_roomy = c.requires.roomy;
-      filled = λ C S T. filled-empty (mouth_candidate C c.args.a) c.args.context.count (λ m. no_ramp_none C c.args.a m (kind-shown S.bounds c.args.a (below S.counted c.requires.place) ∙ ap (λ k. eqb k 0) (sym c.kind_at.ensures) ∙ eq-eqb _ 0 c.if-kind_at-eq0.true));
+      filled = λ C S T. filled-empty (mouth_candidate C c.args.a) c.args.context.count (λ m. no_ramp_none C c.args.a m (kind-shown S.bounds c.args.a (below S.counted c.requires.place) ∙ not-false _ (sym c.has_ramp.ensures ∙ c.if-not-has_ramp.true)));
     }
 
 pub returns-then-not-full_cut : goal.returns-then-not-full_cut
@@ -39,5 +38,5 @@ returns c =
       still_roomy = c.push_mouths.ensures.still_roomy;
       filled = λ C S T.
           let la = below S.counted c.requires.place in
-          c.push_mouths.ensures.filled C S T (kind-shown S.bounds c.args.a la ∙ ap (λ k. eqb k 0) (sym c.kind_at.ensures) ∙ ne_eqb _ 0 c.if-kind_at-eq0.false) (sym (c.full_cut.ensures C T la) ∙ c.if-not-full_cut.false) (c.find_other_ends-ends.ensures C S.counted S.bounds T S.rows);
+          c.push_mouths.ensures.filled C S T (kind-shown S.bounds c.args.a la ∙ not-true _ (sym c.has_ramp.ensures ∙ c.if-not-has_ramp.false)) (sym (c.full_cut.ensures C T la) ∙ c.if-not-full_cut.false) (c.find_other_ends-ends.ensures C S.counted S.bounds T S.rows);
     }

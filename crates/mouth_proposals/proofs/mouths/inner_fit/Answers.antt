@@ -16,4 +16,4 @@ returns c =
     let both : Pair → Bool = λ p. fits p.lo && fits p.hi in
     all_from_yields_List (λ k. both (pair_at s.pairs.now k)) _ _ c.all.result c.all.ensures.ran (YieldsList-from_range _ _ _ refl refl) (λ x b q k. search (rules, tests))
     ∙ all_in_rows both s.pairs.now _ _
-    ∙ sym (all-regions fits (pairs_between s.pairs.now s.first s.end))
+    ∙ sym (all-regions fits (pairs_between s.pairs.now s.rows.start s.rows.end))

@@ -1,8 +1,7 @@
 -- `mouths::mouth_candidate` meets its contract: each return by the tests that led there. Assumes nothing.
 use mathlib.Core.Path.{◌≡◌, refl, sym, ap, ◌∙◌}
 use mathlib.Core.Bool.{true, false, not, false≢true}
-use lib.Dec.{eqb}
-use borrow.Author.Tests.{eq-eqb, ne_eqb, not-true}
+use borrow.Author.Tests.{not-true, not-false}
 use Rattle.std.specs.Prelude.{Option, None, Some, is_some}
 use Rattle.definitions.specs.MouthShapes.{mouth_shape}
 use Rattle.definitions.specs.Context.{full_pair}
@@ -17,16 +16,16 @@ none_of : {A : Type 0} (o : Option A) → is_some o ≡ false → o ≡ None
 none_of None e = refl
 none_of (Some x) e = absurd (false≢true (sym e))
 
-pub returns-then-kind_at-ne0 : goal.returns-then-kind_at-ne0
-returns-then-kind_at-ne0 c =
+pub returns-then-has_ramp : goal.returns-then-has_ramp
+returns-then-has_ramp c =
     λ C S T ramp cut E.
-    has_ramp_lem C c.args.ramp.boundary c.args.m ramp cut (kind-shown S.bounds c.args.m (below S.counted c.requires.places.0) ∙ ap (λ k. eqb k 0) (sym c.kind_at.ensures) ∙ ne_eqb _ 0 c.if-kind_at-ne0.true)
+    has_ramp_lem C c.args.ramp.boundary c.args.m ramp cut (kind-shown S.bounds c.args.m (below S.counted c.requires.places.0) ∙ not-true _ (sym c.has_ramp.ensures ∙ c.if-has_ramp.true))
 
 pub returns-then-not-full_cut : goal.returns-then-not-full_cut
 returns-then-not-full_cut c =
     λ C S T ramp cut E.
     let lm = below S.counted c.requires.places.0 in
-    not_full C c.args.ramp.boundary c.args.m ramp cut (kind-shown S.bounds c.args.m lm ∙ ap (λ k. eqb k 0) (sym c.kind_at.ensures) ∙ eq-eqb _ 0 c.if-kind_at-ne0.false) (sym (c.full_cut.ensures C T lm) ∙ c.if-not-full_cut.true)
+    not_full C c.args.ramp.boundary c.args.m ramp cut (kind-shown S.bounds c.args.m lm ∙ not-false _ (sym c.has_ramp.ensures ∙ c.if-has_ramp.false)) (sym (c.full_cut.ensures C T lm) ∙ c.if-not-full_cut.true)
 
 pub triangle_representative-triangle-requires : goal.triangle_representative-triangle-requires
 triangle_representative-triangle-requires c =
@@ -45,14 +44,14 @@ returns-then-triangle-is_none c =
     let lm = below S.counted c.requires.places.0 in
     let la = below S.counted c.requires.places.1 in
     let h = both (not c.triangle_representative-triangle.result) c.is_none.result c.if-triangle-is_none.true in
-    no_shape (tried S lm la ramp cut c.kind_at.ensures c.if-kind_at-ne0.false (sym (c.full_cut.ensures C T lm) ∙ c.if-not-full_cut.false) c.triangle_representative-triangle.ensures (c.approach_of-approach.ensures C T S.rows lm la)) (not-true _ h.0) (none_of _ (c.is_none.ensures ∙ ap not h.1))
+    no_shape (tried S lm la ramp cut c.has_ramp.ensures c.if-has_ramp.false (sym (c.full_cut.ensures C T lm) ∙ c.if-not-full_cut.false) c.triangle_representative-triangle.ensures (c.approach_of-approach.ensures C T S.rows lm la)) (not-true _ h.0) (none_of _ (c.is_none.ensures ∙ ap not h.1))
 
 pub returns-then-not-any : goal.returns-then-not-any
 returns-then-not-any c =
     λ C S T ramp cut E.
     let lm = below S.counted c.requires.places.0 in
     let la = below S.counted c.requires.places.1 in
-    too_far (tried S lm la ramp cut c.kind_at.ensures c.if-kind_at-ne0.false (sym (c.full_cut.ensures C T lm) ∙ c.if-not-full_cut.false) c.triangle_representative-triangle.ensures (c.approach_of-approach.ensures C T S.rows lm la)) (c.of-measures.ensures C S.bounds lm la) (sym c.any.ensures ∙ c.if-not-any.true)
+    too_far (tried S lm la ramp cut c.has_ramp.ensures c.if-has_ramp.false (sym (c.full_cut.ensures C T lm) ∙ c.if-not-full_cut.false) c.triangle_representative-triangle.ensures (c.approach_of-approach.ensures C T S.rows lm la)) (c.of-measures.ensures C S.bounds lm la) (sym c.any.ensures ∙ c.if-not-any.true)
 
 pub triangle_mouth-requires : goal.triangle_mouth-requires
 triangle_mouth-requires c =
@@ -71,7 +70,7 @@ returns-then-measures-triangle c =
     let lm = below S.counted c.requires.places.0 in
     let la = below S.counted c.requires.places.1 in
     c.triangle_mouth.ensures C c.args.ramp.boundary S.rows S.anchored lm
-    ∙ by_triangle (tried S lm la ramp cut c.kind_at.ensures c.if-kind_at-ne0.false (sym (c.full_cut.ensures C T lm) ∙ c.if-not-full_cut.false) c.triangle_representative-triangle.ensures (c.approach_of-approach.ensures C T S.rows lm la)) (c.of-measures.ensures C S.bounds lm la) c.if-measures-triangle.true
+    ∙ by_triangle (tried S lm la ramp cut c.has_ramp.ensures c.if-has_ramp.false (sym (c.full_cut.ensures C T lm) ∙ c.if-not-full_cut.false) c.triangle_representative-triangle.ensures (c.approach_of-approach.ensures C T S.rows lm la)) (c.of-measures.ensures C S.bounds lm la) c.if-measures-triangle.true
 
 pub approach_mouth-requires : goal.approach_mouth-requires
 approach_mouth-requires c =
@@ -91,4 +90,4 @@ returns c =
     let M = c.of-measures.ensures C S.bounds lm la in
     let k = c.approach_of-approach.ensures C T S.rows lm la in
     c.approach_mouth.ensures C a S.rows S.incidents S.anchored lm (approach_named S.rows c.args.m lm (full_pair C a) k) (approach_known C a c.args.ramp.ends E (mouth_shape true (C.pairs c.args.m)) k) M
-    ∙ by_approach (tried S lm la ramp cut c.kind_at.ensures c.if-kind_at-ne0.false (sym (c.full_cut.ensures C T lm) ∙ c.if-not-full_cut.false) c.triangle_representative-triangle.ensures (c.approach_of-approach.ensures C T S.rows lm la)) M (sym c.any.ensures ∙ c.if-not-any.false) c.if-measures-triangle.false
+    ∙ by_approach (tried S lm la ramp cut c.has_ramp.ensures c.if-has_ramp.false (sym (c.full_cut.ensures C T lm) ∙ c.if-not-full_cut.false) c.triangle_representative-triangle.ensures (c.approach_of-approach.ensures C T S.rows lm la)) M (sym c.any.ensures ∙ c.if-not-any.false) c.if-measures-triangle.false

@@ -4,7 +4,7 @@ use Rattle.std.specs.Prelude.{Option}
 use Rattle.definitions.specs.Limits.{max_entries}
 use Rattle.definitions.specs.Context.{Context}
 use Rattle.context.specs.declared.Region.{Region}
-use Rattle.interior_proposals.specs.declared.owners.Owner.{Owner}
+use Rattle.context.specs.declared.found_regions.FoundRegions.{FoundRegions}
 use Rattle.interior_proposals.specs.Owners.{owned_by, owner_at}
 use Rattle.interior_proposals.specs.declared.ports.Ports.{Ports}
 use Rattle.interior_regions.specs.declared.Interior.{Interior}
@@ -15,13 +15,13 @@ use Rattle.topology.specs.Proposals.{Unmarked}
 use Rattle.topology.proofs.InteriorLoops.{judges_asks, Judging, judging_start, judging_past, judging_more, judging_ends}
 use Rattle.topology.proofs.interior_pass.judge_interiors.Goals as goal
 
-abbrev Inv : (records : List Region) (boundaries pairs starts names : List ℕ) (owners : List Owner) (found : List (Option Ports)) (count : ℕ) (removed : List Bool) (i : ℕ) → Type 0
+abbrev Inv : (records : List Region) (boundaries pairs starts names : List ℕ) (owners : List FoundRegions) (found : List (Option Ports)) (count : ℕ) (removed : List Bool) (i : ℕ) → Type 0
 Inv records boundaries pairs starts names owners found count removed i =
     (i ≤ count) × (length removed ≡ max_entries)
     × ((C : Context) → Judges C records boundaries pairs starts names owners found count → Judging C owners removed count i)
 
 -- what is asked, over plain variables
-module _ {records : List Region} {boundaries pairs starts names : List ℕ} {owners : List Owner} {found : List (Option Ports)} {count : ℕ} {removed : List Bool} where
+module _ {records : List Region} {boundaries pairs starts names : List ℕ} {owners : List FoundRegions} {found : List (Option Ports)} {count : ℕ} {removed : List Bool} where
   start : (length removed ≡ max_entries) × Unmarked removed count → Inv records boundaries pairs starts names owners found count removed 0
   start p = (omega arith, p.0, λ C J. judging_start C _ p.1)
 
