@@ -1,5 +1,5 @@
 -- A report with a run more, from its parts. Assumes nothing.
-use Rattle.std.proofs.Common.{◌≡◌, ℕ, zero, suc, ◌/◌, ◌%◌, ◌<◌, ◌≤◌, true, List, [], ◌∷◌, length, get_or, set, refl, ap, arith}
+use Rattle.std.proofs.Common.{◌≡◌, ℕ, zero, suc, ◌/◌, ◌%◌, ◌<◌, true, List, [], ◌∷◌, length, get_or, set, replicate, refl, ap, ap₂, arith}
 use Rattle.std.specs.Prelude.{None}
 use Rattle.report.specs.Runs as def
 use Rattle.report.specs.Runs.{refused_run, accepted_run, squared_lengths}
@@ -19,11 +19,12 @@ counted [] i h = absurd (omega arith)
 counted (n ∷ l) zero h = refl
 counted (n ∷ l) (suc i) h = ap {B = List ℕ} (λ m. n ∷ m) (counted l i (omega arith))
 
-pub not-counted : (l : List ℕ) (i : ℕ) → length l ≤ i → l ≡ count_at sum64 i l
-unfolding count_at
-not-counted [] i h = refl
-not-counted (n ∷ l) zero h = absurd (omega arith)
-not-counted (n ∷ l) (suc i) h = ap {B = List ℕ} (λ m. n ∷ m) (not-counted l i (omega arith))
+-- counts that are all 0
+pub zeros : (l : List ℕ) (n : ℕ) → length l ≡ n → ((i d : ℕ) → i < n → get_or l i d ≡ 0) → l ≡ replicate n 0
+zeros [] zero e h = refl
+zeros [] (suc n) e h = absurd (omega arith)
+zeros (k ∷ l) zero e h = absurd (omega arith)
+zeros (k ∷ l) (suc n) e h = ap₂ {C = List ℕ} (λ m t. m ∷ t) (h 0 0 (omega arith)) (zeros l n (omega (arith, e)) (λ i d m. h (suc i) d (omega arith)))
 
 -- ---- means
 

@@ -1,6 +1,6 @@
 -- A call that met the contract of the pass: what it answered and left in the output is the run that the report's definition adds for what it was lent. Assumes nothing.
-use Rattle.std.proofs.Common.{◌≡◌, ℕ, zero, suc, ◌+◌, ◌*◌, ◌/◌, ◌%◌, ◌<◌, ◌≤◌, Bool, true, false, not, ◌&&◌, eqb, leb, List, length, get_or, drop, sym, refl, ap, ◌∙◌, subst, arith, length-append, get_or-drop, leb-true}
-use Rattle.definitions.specs.Limits.{max_entries, numbers_per_span, numbers_per_boundary, numbers_per_anchor, numbers_per_row}
+use Rattle.std.proofs.Common.{◌≡◌, ℕ, zero, suc, ◌/◌, ◌%◌, ◌≤◌, Bool, true, false, not, ◌&&◌, eqb, leb, List, length, drop, sym, refl, ap, ◌∙◌, subst, arith, length-append, leb-true}
+use Rattle.definitions.specs.Limits.{max_entries, numbers_per_span, numbers_per_boundary, numbers_per_anchor}
 use Rattle.definitions.specs.Lists.{overwrite}
 use Rattle.definitions.specs.Scan.{to_list, only_if, member}
 use Rattle.definitions.specs.Sort.{list_lt}
@@ -16,7 +16,7 @@ use Rattle.laws.specs.ListLaws.NoFault.{no_fault_lem}
 use Rattle.laws.specs.ListLaws.Members.{all_default}
 use Rattle.laws.specs.ListLaws.ScansOfAll.{collect-below}
 use Rattle.laws.specs.OrderLaws.StableSort.{all-sort}
-use Rattle.laws.specs.ListLaws.FlatRows.{flat-length, row_at, rows_in_lem, rows_of-flat}
+use Rattle.laws.specs.ListLaws.FlatRows.{flat-length, row_in, rows_in_lem, rows_of-flat}
 use Rattle.laws.specs.FloatLaws.Pixels.{PixelSegment, canonical-pixel}
 use Rattle.laws.specs.FloatLaws.MapPixels.{OnMap, map-pixel}
 use Rattle.laws.specs.TableLaws.AcceptedCalls.{accepted, accepted-count}
@@ -26,28 +26,6 @@ use Rattle.report.specs.Runs.{accepted_run, squared_lengths, figures_from, figur
 use Rattle.report.specs.ReportLaws.Named.{unnamed_below, removed-unnamed}
 use Rattle.report_figures.specs.Forms.{RowsOnMap}
 use Rattle.report_figures.specs.Calls.{call_run, CallLeft}
-
--- ---- the rows that a list begins with
-
--- row k of them is the one that stands at its place
-row_in : (n k : ℕ) (l : List ℕ) (d : Row) → k < n → get_or (rows_in_lem n l) k d ≡ row_at l (numbers_per_row * k)
-unfolding rows_in_lem
-row_in zero k l d h = absurd (omega arith)
-row_in (suc n) zero l d h = refl
-row_in (suc n) (suc k) l d h = row_in n k (drop 5 l) d (omega arith) ∙ further
-  where
-    place : (j : ℕ) → get_or (drop 5 l) (5 * k + j) 0 ≡ get_or l (5 * suc k + j) 0
-    place j =
-        let e : 5 + (5 * k + j) ≡ 5 * suc k + j = omega arith in
-        get_or-drop 5 l (5 * k + j) 0 ∙ ap (λ n. get_or l n 0) e
-
-    first : get_or (drop 5 l) (5 * k) 0 ≡ get_or l (5 * suc k) 0
-    first =
-        let e : 5 + 5 * k ≡ 5 * suc k = omega arith in
-        get_or-drop 5 l (5 * k) 0 ∙ ap (λ n. get_or l n 0) e
-
-    further : row_at (drop 5 l) (5 * k) ≡ row_at l (5 * suc k)
-    further = λ i. record { number = first i; line = record { a = at (place 1 i) (place 2 i); b = at (place 3 i) (place 4 i) } }
 
 -- ---- their lines lie on the map
 
@@ -101,7 +79,7 @@ module _ (L : Lent) {a : Answer} {o : List ℕ} (A : a ≡ verdict L) (O : o ≡
           few = omega (arith, counted, rows_few L.pass (map_in L), boundary_count_lem L, boundaries-few);
           held = omega (arith, counted, ap length output_is ∙ length-append (flat_rows rows) (drop (length (flat_rows rows)) L.output), flat-length rows);
           lines = λ k l.
-              subst (λ r. PixelSegment r.line) (row_in a.value k o nowhere l)
+              subst (λ r. PixelSegment r.line) (row_in a.value o nowhere k l)
               (all_default {P = λ r. PixelSegment r.line} nowhere (record { first = record { x-le = omega arith; y-le = omega arith }; second = record { x-le = omega arith; y-le = omega arith } })
               (subst (All (λ r. PixelSegment r.line)) (sym rows_are) (rows-on_map L.pass (map_in L) (accepted-on_map L none_refused))) k);
         }

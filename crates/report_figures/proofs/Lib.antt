@@ -1,3 +1,4 @@
+mod Held
 mod Counting
 mod Lengths
 mod Adding

@@ -11,13 +11,14 @@ ghost use Rattle.report.specs.Report.{empty_report, mean_of, mean_kept};
 ghost use Rattle.report_figures.specs.Forms.{report_form, mean_form};
 
 use checks::passes::Pass;
+use refusals::answers::Answer;
 
 // How many refusals are counted by number: 1 to 24, and a count for 0 that stays as it is.
 pub const REFUSAL_NUMBERS: usize = 25;
 
 // Of accepted runs of a pass: how many they are, and of these the boundaries in, kept and removed.
 #[repr(C)]
-#[derive(Clone, Copy)]
+#[derive(Clone, Copy, Default)]
 pub struct Figures {
     pub accepted: u64,
     pub boundaries: u64,
@@ -27,7 +28,7 @@ pub struct Figures {
 
 // All runs, refused ones by their number, the figures of each pass, and the total of squared lengths of kept rows in square pixels.
 #[repr(C)]
-#[derive(Clone, Copy)]
+#[derive(Clone, Copy, Default)]
 pub struct Report {
     pub runs: u64,
     pub refused: [u64; REFUSAL_NUMBERS],
@@ -46,33 +47,24 @@ pub struct Reported {
     pub report: Report,
 }
 
+impl Reported {
+    // The answer, and the report with the run.
+    pub fn new(answer: Answer, report: Report) -> Reported
+        ensures { result ≡ record { number = answer.number; value = answer.value; report = report } }
+    {
+        Reported {
+            number: answer.number,
+            value: answer.value,
+            report,
+        }
+    }
+}
+
 // A report starts empty.
 pub fn report_figures_empty_report() -> Report
     ensures { report_form result ≡ empty_report }
 {
-    Report {
-        runs: 0,
-        refused: [0; REFUSAL_NUMBERS],
-        pass_1: Figures {
-            accepted: 0,
-            boundaries: 0,
-            kept: 0,
-            removed: 0,
-        },
-        pass_2: Figures {
-            accepted: 0,
-            boundaries: 0,
-            kept: 0,
-            removed: 0,
-        },
-        pass_3: Figures {
-            accepted: 0,
-            boundaries: 0,
-            kept: 0,
-            removed: 0,
-        },
-        squared: 0,
-    }
+    Report::default()
 }
 
 // Quotient and remainder are 0 where there is no mean.

@@ -4,4 +4,4 @@ use Rattle.report_figures.proofs.Adding.{refused-added}
 use Rattle.report_figures.proofs.sums.with_refused.Goals as goal
 
 pub returns : goal.returns
-returns c = refused-added c.args.report c.args.number refl c.count_at-added.ensures
+returns c = refused-added c.args.report _ refl c.count_at-added.ensures
