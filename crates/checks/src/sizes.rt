@@ -1,4 +1,4 @@
-// The checks of sizes and lengths: numbers 1 to 4 and 10.
+// The checks of sizes and lengths: numbers 1 to 3 and 10. Number 4 is `passes`.
 ghost use Rattle.std.specs.Prelude.{◌≡◌, ◌&&◌, ◌≤◌, ◌<◌, ◌*◌, ◌/◌, ◌%◌, eqb, leb, length};
 ghost use Rattle.definitions.specs.Limits.{max_side, is_side, max_entries};
 ghost use Rattle.definitions.specs.Refusals.{partition_room, output_room};
@@ -26,13 +26,6 @@ pub fn is_whole(size: usize, numbers: usize) -> bool
     ensures { result ≡ (eqb (numbers % size) 0 && leb (numbers / size) max_entries) }
 {
     (numbers % size == 0) & (numbers / size <= MAX_ENTRIES)
-}
-
-// 4: "pass not 1, 2 or 3"
-pub fn pass_fits(pass: u64) -> bool
-    ensures { result ≡ (leb 1 pass && leb pass 3) }
-{
-    (1 <= pass) & (pass <= 3)
 }
 
 // 10: "labels, masks, queue, tallies or output too short", of lists of these lengths. A quotient on the right, as a product on the left might not fit.

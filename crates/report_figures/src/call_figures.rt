@@ -24,8 +24,8 @@ pub fn with_call(
     requires { CallLeft pass number value output.now }
     ensures { report_form result ≡ added_by sum64 (report_form report) (call_run pass number value count output.now) }
 {
-    match (number, Pass::of(pass)) {
-        (0, Some(pass)) => {
+    match (number, Pass::try_from(pass)) {
+        (0, Ok(pass)) => {
             let kept = value as usize;
             let run = Figures {
                 accepted: 1,
