@@ -12,7 +12,7 @@ use Rattle.checks.proofs.cells.elevations_fault.Goals as goal
 by_index : (fits : ℕ → Bool) (xs : List ℕ) (r : Option ℕ)
     → MatchOption r (AllWithin (λ x. fits x ≡ true) xs 0 (length xs)) (λ i. (i < length xs) × HoldsAt (λ x. fits x ≡ false) xs i × AllWithin (λ x. fits x ≡ true) xs 0 i)
     → MatchOption r ((k : ℕ) → 0 ≤ k → k < length xs → fits (get_or xs k 0) ≡ true)
-      (λ i. (0 ≤ i) × (i < length xs) × (fits (get_or xs i 0) ≡ false) × ((k : ℕ) → 0 ≤ k → k < i → fits (get_or xs k 0) ≡ true))
+    (λ i. (0 ≤ i) × (i < length xs) × (fits (get_or xs i 0) ≡ false) × ((k : ℕ) → 0 ≤ k → k < i → fits (get_or xs k 0) ≡ true))
 by_index fits xs None h = λ k. h k 0
 by_index fits xs (Some i) (l, e, before) = (omega arith, l, e 0, λ k. before k 0)
 
