@@ -8,6 +8,13 @@ use Rattle.definitions.specs.Verdict.{refusal}
 abbrev pub is_whole_of : ℕ → ℕ → Bool
 is_whole_of size numbers = eqb (numbers % size) 0 && leb (numbers / size) max_entries
 
+-- checks 1 to 3
+unfoldable pub whole_refusal : ℕ → ℕ → List ℕ → List ℕ → List ℕ → List ℕ → Option Refusal
+whole_refusal w h cells spans boundaries anchors =
+    or_else (refusal 1 (sides_fault w h))
+    (or_else (refusal 2 (cells_fault w h cells))
+    (refusal 3 (unless (is_whole numbers_per_span spans && is_whole numbers_per_boundary boundaries && is_whole numbers_per_anchor anchors))))
+
 -- checks 1 to 4
 unfoldable pub sizes_refusal : ℕ → ℕ → ℕ → List ℕ → List ℕ → List ℕ → List ℕ → Option Refusal
 sizes_refusal pass w h cells spans boundaries anchors =
@@ -27,8 +34,12 @@ abbrev pub has_room_lem : ℕ → ℕ → List ℕ → List ℕ → ℕ → ℕ 
 has_room_lem w h spans boundaries labels masks queue tallies output =
     partition_room (w * h) (length spans / numbers_per_span) labels masks queue tallies && output_room (length boundaries / numbers_per_boundary) output
 
+-- checks 5 to 10
+abbrev pub lists_refusal : ℕ → ℕ → List ℕ → List ℕ → List ℕ → List ℕ → ℕ → ℕ → ℕ → ℕ → ℕ → Option Refusal
+lists_refusal w h cells spans boundaries anchors labels masks queue tallies output =
+    or_else (entries_refusal w h cells spans boundaries anchors) (refusal 10 (unless (has_room_lem w h spans boundaries labels masks queue tallies output)))
+
 unfoldable pub early_refusal : ℕ → ℕ → ℕ → List ℕ → List ℕ → List ℕ → List ℕ → ℕ → ℕ → ℕ → ℕ → ℕ → Option Refusal
 unfolding sizes_refusal entries_refusal
 early_refusal pass w h cells spans boundaries anchors labels masks queue tallies output =
-    or_else (sizes_refusal pass w h cells spans boundaries anchors)
-    (or_else (entries_refusal w h cells spans boundaries anchors) (refusal 10 (unless (has_room_lem w h spans boundaries labels masks queue tallies output))))
+    or_else (sizes_refusal pass w h cells spans boundaries anchors) (lists_refusal w h cells spans boundaries anchors labels masks queue tallies output)

@@ -12,6 +12,8 @@ use Rattle.definitions.specs.AtExit.{tallies_of}
 use Rattle.row_runs.specs.Contract.{Chain}
 use Rattle.refusals.specs.declared.Refusal.{Refusal}
 use Rattle.refusals.specs.Refusals.{number_of}
+use Rattle.checks.specs.declared.passes.Pass.{Pass}
+use Rattle.checks.specs.Passes.{pass_number}
 use Rattle.call_partition.specs.declared.Ready.{Ready}
 use Rattle.call_partition.specs.Early.{early_refusal}
 use Rattle.call_partition.specs.Contract.{given, Ran}
@@ -35,6 +37,12 @@ pub record ReadyAs (pass w h : ℕ) (cells spans boundaries anchors : List ℕ) 
 abbrev pub PreparedAs : (pass w h : ℕ) (cells spans boundaries anchors : List ℕ) (room output : ℕ) (l m q t p : List ℕ) → Result Ready Refusal → (l' m' q' t' p' : List ℕ) → Type 0
 PreparedAs pass w h cells spans boundaries anchors room output l m q t p (Err r) l' m' q' t' p' = (s : List Region) (o : List ℕ) → length s ≡ room → length o ≡ output → Ran (given pass w h cells spans boundaries anchors l m q t p s o) (record { number = number_of r.cause; value = r.place }) l' m' q' t' p' s o
 PreparedAs pass w h cells spans boundaries anchors room output l m q t p (Ok ready) l' m' q' t' p' = ReadyAs pass w h cells spans boundaries anchors room output l m q t p ready.regions ready.rows l' m' q' t' p'
+
+-- the same of a call that asks for its pass by number: with what is ready stands the pass of this number
+abbrev pub PassPreparedAs : (pass w h : ℕ) (cells spans boundaries anchors : List ℕ) (room output : ℕ) (l m q t p : List ℕ) → Result (Pass × Ready) Refusal → (l' m' q' t' p' : List ℕ) → Type 0
+PassPreparedAs pass w h cells spans boundaries anchors room output l m q t p (Err r) l' m' q' t' p' = PreparedAs pass w h cells spans boundaries anchors room output l m q t p (Err r) l' m' q' t' p'
+PassPreparedAs pass w h cells spans boundaries anchors room output l m q t p (Ok y) l' m' q' t' p' =
+    (pass_number y.0 ≡ pass) × PreparedAs pass w h cells spans boundaries anchors room output l m q t p (Ok y.1) l' m' q' t' p'
 
 -- the same of lists that no check before 11 refuses, of whatever pass, boundaries, anchors and output
 abbrev pub DividedAs : (w h : ℕ) (cells spans : List ℕ) (room : ℕ) (l m q t p : List ℕ) → Result Ready Refusal → (l' m' q' t' p' : List ℕ) → Type 0

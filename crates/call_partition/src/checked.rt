@@ -1,21 +1,21 @@
 // Checks 1 to 10 of the table of SPECIFICATION 4, in its order.
-ghost use Rattle.std.specs.Prelude.{◌≡◌, ◌&&◌, ◌≤◌};
+ghost use Rattle.std.specs.Prelude.{◌≡◌, ◌&&◌, ◌≤◌, ◌*◌, length, IfOk};
 ghost use Rattle.definitions.specs.Limits.{max_side, numbers_per_span, numbers_per_boundary, numbers_per_anchor};
 ghost use Rattle.definitions.specs.Refusals.{unless, partition_room, output_room};
 ghost use Rattle.definitions.specs.Verdict.{refusal};
 ghost use Rattle.refusals.specs.Refusals.{refusal_in};
 ghost use Rattle.areas.specs.Lists.{of_lengths};
 ghost use Rattle.call_partition.specs.Asking.{of_asked};
-ghost use Rattle.call_partition.specs.Early.{is_whole_of, sizes_refusal, entries_refusal, early_refusal};
+ghost use Rattle.checks.specs.Passes.{pass_number};
+ghost use Rattle.call_partition.specs.Early.{is_whole_of, whole_refusal, entries_refusal, lists_refusal, early_refusal};
 
 use crate::asked::Asked;
 use areas::lists::PartitionLists;
 use checks::anchors::anchors_fault;
 use checks::boundaries::boundaries_fault;
 use checks::cells::elevations_fault;
-use checks::sizes::{
-    cells_fit, is_whole, output_has_room, partition_has_room, pass_fits, sides_fit,
-};
+use checks::passes::Pass;
+use checks::sizes::{cells_fit, is_whole, output_has_room, partition_has_room, sides_fit};
 use checks::spans::spans_fault;
 use definitions::limits::{NUMBERS_PER_ANCHOR, NUMBERS_PER_BOUNDARY, NUMBERS_PER_SPAN};
 use refusals::{Cause, Refusal, ensure, no_fault};
@@ -29,9 +29,9 @@ fn all_whole(spans: usize, boundaries: usize, anchors: usize) -> bool
         & is_whole(NUMBERS_PER_ANCHOR, anchors)
 }
 
-// Checks 1 to 4.
-pub fn check_sizes(pass: u64, asked: Asked) -> Result<(), Refusal>
-    ensures { refusal_in result ≡ of_asked (sizes_refusal pass) asked.entry }
+// Checks 1 to 3.
+pub fn check_sizes(asked: Asked) -> Result<(), Refusal>
+    ensures { refusal_in result ≡ of_asked whole_refusal asked.entry }
 {
     ensure(sides_fit(asked.width, asked.height), Cause::Sides)?;
     let counted = cells_fit(asked.width, asked.height, asked.cells);
@@ -41,8 +41,7 @@ pub fn check_sizes(pass: u64, asked: Asked) -> Result<(), Refusal>
         asked.boundaries.len(),
         asked.anchors.len(),
     );
-    ensure(whole, Cause::Entries)?;
-    ensure(pass_fits(pass), Cause::Pass)
+    ensure(whole, Cause::Entries)
 }
 
 // Checks 5 to 9.
@@ -84,16 +83,12 @@ pub fn check_room(
     ensure(partition & output_has_room(boundaries, output), Cause::Room)
 }
 
-// All of them. Of the lists that are filled, only the lengths matter.
-pub fn checks_before(
-    pass: u64,
-    asked: Asked,
-    lists: &PartitionLists,
-    output: usize,
-) -> Result<(), Refusal>
-    ensures { refusal_in result ≡ of_lengths (of_asked (early_refusal pass) asked.entry) lists.now output }
+// Checks 5 to 10, of cells as many as the sides say. Of the lists that are filled, only the lengths matter.
+pub fn check_lists(asked: Asked, lists: &PartitionLists, output: usize) -> Result<(), Refusal>
+    requires sides { (asked.width ≤ max_side) × (asked.height ≤ max_side) }
+    requires counted { length asked.cells.now ≡ asked.width * asked.height }
+    ensures { refusal_in result ≡ of_lengths (of_asked lists_refusal asked.entry) lists.now output }
 {
-    check_sizes(pass, asked)?;
     check_entries(asked)?;
     check_room(
         asked.cells.len(),
@@ -102,4 +97,20 @@ pub fn checks_before(
         lists,
         output,
     )
+}
+
+// All of them, and the pass of the number that is asked for.
+pub fn checks_before(
+    pass: u64,
+    asked: Asked,
+    lists: &PartitionLists,
+    output: usize,
+) -> Result<Pass, Refusal>
+    ensures refused { refusal_in result ≡ of_lengths (of_asked (early_refusal pass) asked.entry) lists.now output }
+    ensures named { IfOk result (λ p. pass_number p ≡ pass) }
+{
+    check_sizes(asked)?;
+    let pass = Pass::try_from(pass)?;
+    check_lists(asked, lists, output)?;
+    Ok(pass)
 }

@@ -6,17 +6,20 @@
 pub mod asked;
 pub mod checked;
 
+ghost use Rattle.std.specs.Prelude.{ℕ};
 ghost use Rattle.areas.specs.Fit.{Fit};
 ghost use Rattle.areas.specs.Lists.{of_lists, of_lengths, SameLists};
 ghost use Rattle.call_partition.specs.Asking.{of_asked};
-ghost use Rattle.call_partition.specs.Prepared.{PreparedAs, DividedAs};
+ghost use Rattle.checks.specs.Passes.{IsPass};
+ghost use Rattle.call_partition.specs.Prepared.{PreparedAs, PassPreparedAs, DividedAs};
 
 use areas::labels::label_regions;
 use areas::lists::PartitionLists;
 use areas::scratch::clear_scratch;
 use asked::Asked;
 use assessments::assess_spans;
-use checked::checks_before;
+use checked::{check_lists, check_sizes, checks_before};
+use checks::passes::Pass;
 use definitions::limits::{NUMBERS_PER_SPAN, TALLIES_PER_SPAN};
 use grid_steps::grid::TerrainGrid;
 use refusals::{Cause, Refusal};
@@ -68,17 +71,34 @@ pub fn divide(
     }
 }
 
-// All that comes before the records: `room` records and an output of length `output` are lent.
+// All that comes before the records, of a call that asks for its pass by number: `room` records and an output of length `output` are lent.
 pub fn prepare(
     pass: u64,
     asked: Asked,
     room: usize,
     output: usize,
     lists: &mut PartitionLists,
-) -> Result<Ready, Refusal>
-    ensures prepared { of_lists (of_lists (of_asked (PreparedAs pass) asked.entry room output) lists.old result) lists.new }
+) -> Result<(Pass, Ready), Refusal>
+    ensures prepared { of_lists (of_lists (of_asked (PassPreparedAs pass) asked.entry room output) lists.old result) lists.new }
     ensures same { SameLists lists.old lists.new }
 {
-    checks_before(pass, asked, &*lists, output)?;
+    let pass = checks_before(pass, asked, &*lists, output)?;
+    let ready = divide(asked.grid(), asked.spans, room, lists)?;
+    Ok((pass, ready))
+}
+
+// The same of a call that asks for no number: what it leaves is what the call leaves that asks for any pass.
+pub fn prepare_lists(
+    asked: Asked,
+    room: usize,
+    output: usize,
+    lists: &mut PartitionLists,
+) -> Result<Ready, Refusal>
+    ensures prepared { (pass : ℕ) → IsPass pass
+        → of_lists (of_lists (of_asked (PreparedAs pass) asked.entry room output) lists.old result) lists.new }
+    ensures same { SameLists lists.old lists.new }
+{
+    check_sizes(asked)?;
+    check_lists(asked, &*lists, output)?;
     divide(asked.grid(), asked.spans, room, lists)
 }

@@ -13,5 +13,5 @@ pub fn elevation_fits(cell: u8) -> bool
 pub fn elevations_fault(cells: &[u8]) -> Option<usize>
     ensures { result ≡ elevations_fault cells.now }
 {
-    (0..cells.len()).find(|&i| !elevation_fits(cells[i]))
+    cells.iter().position(|&cell| !elevation_fits(cell))
 }

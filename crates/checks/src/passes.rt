@@ -1,6 +1,8 @@
-// The passes by the names of the Rust's functions, and their numbers in a call (SPECIFICATION 3).
-ghost use Rattle.std.specs.Prelude.{◌≡◌, MatchOption};
-ghost use Rattle.checks.specs.Passes.{pass_number, IsPass};
+// The passes by the names of the Rust's functions, and their numbers in a call (SPECIFICATION 3). A number that is no pass's is check 4.
+ghost use Rattle.std.specs.Prelude.{◌≡◌};
+ghost use Rattle.checks.specs.Passes.{pass_number, PassAsked};
+
+use refusals::{Cause, Refusal};
 
 #[derive(Clone, Copy, PartialEq, Eq)]
 pub enum Pass {
@@ -9,23 +11,30 @@ pub enum Pass {
     RemoveJunctionBoundaries,
 }
 
-impl Pass {
-    // The pass of this number; of no other number is there a pass.
-    pub fn of(number: u64) -> Option<Pass>
-        ensures { MatchOption result (IsPass number → ⊥) (λ pass. pass_number pass ≡ number) }
-    {
+// "pass not 1, 2 or 3"
+impl TryFrom<u64> for Pass {
+    type Error = Refusal;
+
+    ghost try_from_gives = { PassAsked };
+
+    fn try_from(number: u64) -> Result<Pass, Refusal> {
         match number {
-            1 => Some(Pass::ReplaceRampMouths),
-            2 => Some(Pass::CollapseRampInteriors),
-            3 => Some(Pass::RemoveJunctionBoundaries),
-            _ => None,
+            1 => Ok(Pass::ReplaceRampMouths),
+            2 => Ok(Pass::CollapseRampInteriors),
+            3 => Ok(Pass::RemoveJunctionBoundaries),
+            _ => Err(Refusal {
+                cause: Cause::Pass,
+                place: 0,
+            }),
         }
     }
+}
 
-    pub fn number(self) -> u64
-        ensures { result ≡ pass_number self }
-    {
-        match self {
+impl From<Pass> for u64 {
+    ghost from_gives = { λ pass number. number ≡ pass_number pass };
+
+    fn from(pass: Pass) -> u64 {
+        match pass {
             Pass::ReplaceRampMouths => 1,
             Pass::CollapseRampInteriors => 2,
             Pass::RemoveJunctionBoundaries => 3,

@@ -1,9 +1,12 @@
-// The checks of sizes and lengths: numbers 1 to 4 and 10.
+// The checks of sizes and lengths: numbers 1 to 3 and 10. Number 4 is `passes`.
 ghost use Rattle.std.specs.Prelude.{◌≡◌, ◌&&◌, ◌≤◌, ◌<◌, ◌*◌, ◌/◌, ◌%◌, eqb, leb, length};
-ghost use Rattle.definitions.specs.Limits.{max_side, is_side, max_entries};
+ghost use Rattle.definitions.specs.Limits.{max_side, is_side, max_entries, numbers_per_boundary, numbers_per_anchor};
 ghost use Rattle.definitions.specs.Refusals.{partition_room, output_room};
 
-use definitions::limits::{MAX_ENTRIES, MAX_SIDE, NUMBERS_PER_ROW, TALLIES_PER_SPAN};
+use definitions::limits::{
+    MAX_ENTRIES, MAX_SIDE, NUMBERS_PER_ANCHOR, NUMBERS_PER_BOUNDARY, NUMBERS_PER_ROW,
+    TALLIES_PER_SPAN,
+};
 
 // 1: "a side is 0 or over 1,024"
 pub fn sides_fit(width: u64, height: u64) -> bool
@@ -28,11 +31,13 @@ pub fn is_whole(size: usize, numbers: usize) -> bool
     (numbers % size == 0) & (numbers / size <= MAX_ENTRIES)
 }
 
-// 4: "pass not 1, 2 or 3"
-pub fn pass_fits(pass: u64) -> bool
-    ensures { result ≡ (leb 1 pass && leb pass 3) }
+// 3, of boundaries and anchors in lists of these lengths.
+pub fn are_whole(boundaries: usize, anchors: usize) -> bool
+    ensures { result
+        ≡ (eqb (boundaries % numbers_per_boundary) 0 && leb (boundaries / numbers_per_boundary) max_entries
+        && (eqb (anchors % numbers_per_anchor) 0 && leb (anchors / numbers_per_anchor) max_entries)) }
 {
-    (1 <= pass) & (pass <= 3)
+    is_whole(NUMBERS_PER_BOUNDARY, boundaries) & is_whole(NUMBERS_PER_ANCHOR, anchors)
 }
 
 // 10: "labels, masks, queue, tallies or output too short", of lists of these lengths. A quotient on the right, as a product on the left might not fit.

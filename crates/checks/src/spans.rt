@@ -53,6 +53,7 @@ pub fn spans_fault(width: u64, height: u64, spans: &[u64]) -> Result<(), Refusal
     requires { (width ≤ max_side) × (height ≤ max_side) }
     ensures { refusal_in result ≡ spans_refusal width height spans.now }
 {
+    // Kept: i is also the place that a refusal names, and with `chunks_exact` it stands beside each span all the same.
     for i in 0..spans.len() / NUMBERS_PER_SPAN {
         check_span(width, height, spans, i)?;
     }

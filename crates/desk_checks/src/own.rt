@@ -1,16 +1,17 @@
 // A desk's own checks, in their order: 3 of boundaries and anchors, 4, 7, 20, 8, 10 of the output.
-ghost use Rattle.std.specs.Prelude.{◌≡◌, ◌&&◌, ◌+◌, ◌≤◌, ◌<◌, length};
-ghost use Rattle.definitions.specs.Limits.{max_side, numbers_per_boundary, numbers_per_anchor};
+ghost use Rattle.std.specs.Prelude.{◌≡◌, ◌&&◌, ◌+◌, ◌≤◌, ◌<◌, length, IfOk};
+ghost use Rattle.definitions.specs.Limits.{max_side};
 ghost use Rattle.definitions.specs.Grid.{segment_at};
+ghost use Rattle.checks.specs.Passes.{pass_number};
 ghost use Rattle.refusals.specs.Refusals.{refusal_in};
-ghost use Rattle.call_partition.specs.Early.{is_whole_of};
 ghost use Rattle.desks.specs.Desks.{is_span, desk_fault, own_refusal};
 ghost use Rattle.desk_checks.specs.Own.{lies_on, places_refusal};
 
 use checks::anchors::anchors_fault;
 use checks::boundaries::boundaries_fault;
-use checks::sizes::{is_whole, output_has_room, pass_fits};
-use definitions::limits::{NUMBERS_PER_ANCHOR, NUMBERS_PER_BOUNDARY, NUMBERS_PER_SPAN};
+use checks::passes::Pass;
+use checks::sizes::{are_whole, output_has_room};
+use definitions::limits::{NUMBERS_PER_BOUNDARY, NUMBERS_PER_SPAN};
 use refusals::{Cause, Refusal, ensure, no_fault};
 
 // Whether the four numbers from b on are the span of the four from s on, up to the order of its endpoints.
@@ -47,13 +48,6 @@ pub fn desk_fault(spans: &[u64], boundaries: &[u64]) -> Option<usize>
     (0..count).find(|&i| !lies_on(spans, boundaries, i))
 }
 
-// Check 3, of boundaries and anchors.
-fn both_whole(boundaries: usize, anchors: usize) -> bool
-    ensures { result ≡ (is_whole_of numbers_per_boundary boundaries && is_whole_of numbers_per_anchor anchors) }
-{
-    is_whole(NUMBERS_PER_BOUNDARY, boundaries) & is_whole(NUMBERS_PER_ANCHOR, anchors)
-}
-
 // What a desk asks over the shared map: its pass, its boundaries and its anchors.
 #[derive(Clone, Copy)]
 pub struct Desk<'a> {
@@ -85,20 +79,22 @@ fn check_places(
     ensure(room, Cause::Room)
 }
 
-// All of them. Of the output only the length matters.
+// All of them, and the desk's pass. Of the output only the length matters.
 pub fn check_desk(
     width: u64,
     height: u64,
     spans: &[u64],
     desk: Desk,
     output: usize,
-) -> Result<(), Refusal>
+) -> Result<Pass, Refusal>
     requires { (width ≤ max_side) × (height ≤ max_side) }
-    ensures { refusal_in result
+    ensures named { IfOk result (λ pass. pass_number pass ≡ desk.entry.pass) }
+    ensures refused { refusal_in result
         ≡ own_refusal width height spans.now desk.entry.pass desk.entry.boundaries.now desk.entry.anchors.now output }
 {
-    let whole = both_whole(desk.boundaries.len(), desk.anchors.len());
+    let whole = are_whole(desk.boundaries.len(), desk.anchors.len());
     ensure(whole, Cause::Entries)?;
-    ensure(pass_fits(desk.pass), Cause::Pass)?;
-    check_places(width, height, spans, desk, output)
+    let pass = Pass::try_from(desk.pass)?;
+    check_places(width, height, spans, desk, output)?;
+    Ok(pass)
 }

@@ -4,14 +4,10 @@ ghost use Rattle.desk_checks.specs.Shared.{SharedAs};
 
 use areas::lists::PartitionLists;
 use call_partition::asked::Asked;
-use call_partition::checked::checks_before;
-use call_partition::{Ready, divide};
+use call_partition::{Ready, prepare_lists};
 use refusals::Refusal;
 
-// A pass that the checks let through: none is run here.
-const ANY_PASS: u64 = 1;
-
-// As the call with no boundaries, no anchors and no output has it; `room` records are lent.
+// As the call with no boundaries, no anchors and no output has it, whatever pass it asks for; `room` records are lent.
 pub fn prepare_shared(
     width: u64,
     height: u64,
@@ -31,6 +27,5 @@ pub fn prepare_shared(
         boundaries: &spans[..0],
         anchors: &spans[..0],
     };
-    checks_before(ANY_PASS, asked, &*lists, 0)?;
-    divide(asked.grid(), spans, room, lists)
+    prepare_lists(asked, room, 0, lists)
 }

@@ -1,5 +1,6 @@
 // The checks of the call before its first partition, in their order: 1 to 4, 16, and 5 to 10; and this partition.
-ghost use Rattle.std.specs.Prelude.{◌≡◌};
+ghost use Rattle.std.specs.Prelude.{◌≡◌, IfOk};
+ghost use Rattle.checks.specs.Passes.{pass_number};
 ghost use Rattle.refusals.specs.Refusals.{refusal_in};
 ghost use Rattle.areas.specs.Lists.{of_lists, of_lengths, SameLists};
 ghost use Rattle.call_partition.specs.Asking.{of_asked};
@@ -8,28 +9,32 @@ ghost use Rattle.game_lists.specs.Prepared.{GamePreparedAs};
 
 use areas::lists::PartitionLists;
 use call_partition::asked::Asked;
-use call_partition::checked::{check_sizes, checks_before};
+use call_partition::checked::{check_lists, check_sizes};
 use call_partition::{Ready, divide};
+use checks::passes::Pass;
 use refusals::{Cause, Refusal, ensure, no_fault};
 use rest_lists::lists::lists_fault;
 
 // Room for the verdicts of the largest graph.
 const VERDICTS_ROOM: usize = 6144;
 
-// Of the lists that are filled, only the lengths matter. The sizes are checked first, since 16 stands behind 4, and once more with the others.
+// Of the lists that are filled, only the lengths matter. The pass of the number that is asked for is given.
 pub fn game_checks(
     pass: u64,
     asked: Asked,
     lists: &PartitionLists,
     output: usize,
     verdicts: usize,
-) -> Result<(), Refusal>
-    ensures { refusal_in result ≡ of_lengths (of_asked (game_early pass) asked.entry) lists.now output verdicts }
+) -> Result<Pass, Refusal>
+    ensures named { IfOk result (λ p. pass_number p ≡ pass) }
+    ensures refused { refusal_in result ≡ of_lengths (of_asked (game_early pass) asked.entry) lists.now output verdicts }
 {
-    check_sizes(pass, asked)?;
+    check_sizes(asked)?;
+    let pass = Pass::try_from(pass)?;
     no_fault(lists_fault(asked.spans, asked.boundaries), Cause::Lists)?;
-    checks_before(pass, asked, lists, output)?;
-    ensure(VERDICTS_ROOM <= verdicts, Cause::Room)
+    check_lists(asked, lists, output)?;
+    ensure(VERDICTS_ROOM <= verdicts, Cause::Room)?;
+    Ok(pass)
 }
 
 // All that comes before the records: `room` records, an output of length `output` and so many numbers for verdicts are lent.
@@ -40,10 +45,11 @@ pub fn prepare_game(
     output: usize,
     verdicts: usize,
     lists: &mut PartitionLists,
-) -> Result<Ready, Refusal>
+) -> Result<(Pass, Ready), Refusal>
     ensures prepared { of_lists (of_lists (of_asked (GamePreparedAs pass) asked.entry room output verdicts) lists.old result) lists.new }
     ensures same { SameLists lists.old lists.new }
 {
-    game_checks(pass, asked, &*lists, output, verdicts)?;
-    divide(asked.grid(), asked.spans, room, lists)
+    let pass = game_checks(pass, asked, &*lists, output, verdicts)?;
+    let ready = divide(asked.grid(), asked.spans, room, lists)?;
+    Ok((pass, ready))
 }

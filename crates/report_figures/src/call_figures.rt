@@ -45,7 +45,7 @@ pub fn with_call(
     match kept {
         Ok(kept) => {
             let (rows, _) = output.as_chunks::<NUMBERS_PER_ROW>();
-            with_kept(report, Pass::of(pass).unwrap(), &rows[..kept], count)
+            with_kept(report, Pass::try_from(pass).unwrap(), &rows[..kept], count)
         }
         Err(refusal) => with_refused(report, refusal.cause),
     }

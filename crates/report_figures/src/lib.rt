@@ -104,10 +104,10 @@ fn mean_of(figures: Figures) -> Mean
 pub fn report_figures_mean_kept(report: Report, pass: u64) -> Mean
     ensures { result ≡ mean_form (mean_kept (report_form report) pass) }
 {
-    match Pass::of(pass) {
-        None => no_mean(),
-        Some(Pass::ReplaceRampMouths) => mean_of(report.pass_1),
-        Some(Pass::CollapseRampInteriors) => mean_of(report.pass_2),
-        Some(Pass::RemoveJunctionBoundaries) => mean_of(report.pass_3),
+    match Pass::try_from(pass) {
+        Err(_) => no_mean(),
+        Ok(Pass::ReplaceRampMouths) => mean_of(report.pass_1),
+        Ok(Pass::CollapseRampInteriors) => mean_of(report.pass_2),
+        Ok(Pass::RemoveJunctionBoundaries) => mean_of(report.pass_3),
     }
 }

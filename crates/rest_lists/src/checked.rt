@@ -8,22 +8,14 @@ ghost use Rattle.rest_lists.specs.Early.{rest_early};
 use crate::lists::lists_fault;
 use areas::lists::PartitionLists;
 use call_partition::asked::Asked;
-use call_partition::checked::{check_entries, check_room, check_sizes};
-use definitions::limits::{NUMBERS_PER_BOUNDARY, NUMBERS_PER_SPAN};
+use call_partition::checked::{check_lists, check_sizes};
 use refusals::{Cause, Refusal, no_fault};
 
-// Of the lists that are filled, only the lengths matter. No pass is asked for: pass 1 fits.
+// Of the lists that are filled, only the lengths matter. No pass is asked for.
 pub fn rest_checks(asked: Asked, lists: &PartitionLists, output: usize) -> Result<(), Refusal>
     ensures { refusal_in result ≡ of_lengths (of_asked rest_early asked.entry) lists.now output }
 {
-    check_sizes(1, asked)?;
+    check_sizes(asked)?;
     no_fault(lists_fault(asked.spans, asked.boundaries), Cause::Lists)?;
-    check_entries(asked)?;
-    check_room(
-        asked.cells.len(),
-        asked.spans.len() / NUMBERS_PER_SPAN,
-        asked.boundaries.len() / NUMBERS_PER_BOUNDARY,
-        lists,
-        output,
-    )
+    check_lists(asked, lists, output)
 }

@@ -20,7 +20,7 @@ use byte_writer::Writer;
 use checks::anchors::anchors_fault;
 use checks::boundaries::boundaries_fault;
 use checks::cells::elevation_fits;
-use checks::sizes::pass_fits;
+use checks::passes::Pass;
 use checks::spans::spans_fault;
 use definitions::limits::{NUMBERS_PER_BOUNDARY, NUMBERS_PER_SPAN};
 use put_shortest::put_shortest;
@@ -106,7 +106,7 @@ fn map_check(
         ≡ map_refusal plan.pass plan.width plan.height (cells_in bytes.now plan.parts)
         spans.now boundaries.now anchors.now }
 {
-    ensure(pass_fits(plan.pass), Cause::Pass)?;
+    Pass::try_from(plan.pass)?;
     let width = plan.width as u64;
     let height = plan.height as u64;
     lists_check(width, height, spans, boundaries, anchors)?;

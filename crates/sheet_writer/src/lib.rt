@@ -3,8 +3,7 @@
 
 #![tactic(auto)]
 
-ghost use Rattle.std.specs.Prelude.{◌≡◌, ◌&&◌, ◌/◌, ◌%◌, leb, eqb, length};
-ghost use Rattle.definitions.specs.Limits.{max_entries, numbers_per_boundary, numbers_per_anchor};
+ghost use Rattle.std.specs.Prelude.{◌≡◌, length};
 ghost use Rattle.definitions.specs.Scan.{concat_map};
 ghost use Rattle.results.specs.Shortest.{shortest};
 ghost use Rattle.map_sheets.specs.SheetBytes.{sheet_bytes};
@@ -15,21 +14,12 @@ ghost use Rattle.result_writer.specs.Contract.{spent};
 ghost use Rattle.sheet_writer.specs.Contract.{opening, stated};
 
 use byte_writer::Writer;
-use checks::sizes::{cells_fit, is_whole, sides_fit};
+use checks::sizes::{are_whole, cells_fit, sides_fit};
 use definitions::limits::{NUMBERS_PER_ANCHOR, NUMBERS_PER_BOUNDARY};
 use put_shortest::put_shortest;
 use refusals::Cause;
 use refusals::answers::Answer;
 use result_writer::{group_count, put_list, spend_list, spend_number};
-
-// No last boundary or anchor is unfinished, and there are at most 256 of each, in lists of these lengths.
-fn are_whole(boundaries: usize, anchors: usize) -> bool
-    ensures { result
-        ≡ (eqb (boundaries % numbers_per_boundary) 0 && leb (boundaries / numbers_per_boundary) max_entries
-        && (eqb (anchors % numbers_per_anchor) 0 && leb (anchors / numbers_per_anchor) max_entries)) }
-{
-    is_whole(NUMBERS_PER_BOUNDARY, boundaries) & is_whole(NUMBERS_PER_ANCHOR, anchors)
-}
 
 // ---- the room
 

@@ -1,45 +1,32 @@
 -- `call_partition::checked::checks_before` meets its contract: the refusals of its parts, one after the other. Assumes nothing.
-use Prim.Native.Nat.{ℕ, ◌*◌, ◌/◌}
-use mathlib.Core.Path.{◌≡◌, sym, ap, ◌∙◌}
-use mathlib.Core.Bool.{◌&&◌}
-use borrow.Author.Rules.{rules}
-use Rattle.std.specs.Prelude.{Option, None, Some}
-use mathlib.Core.List.{List}
-use lib.ListN.{length}
-use Rattle.definitions.specs.Limits.{numbers_per_span, numbers_per_boundary}
-use Rattle.definitions.specs.Refusals.{Refusal, unless, partition_room, output_room}
-use Rattle.definitions.specs.Verdict.{refusal}
+use Rattle.std.proofs.Common.{rules, sym, ◌≡◌, ◌∙◌}
+use Rattle.std.specs.Prelude.{Some}
 use Rattle.refusals.specs.Refusals.{refusal_in, refusal_of}
 use Rattle.refusals.proofs.Steps.{here, next}
-use Rattle.call_partition.specs.Early.{early_refusal, sizes_refusal}
-use Rattle.call_partition.proofs.SizesPassed.{sizes-fit}
+use Rattle.call_partition.proofs.SizesPassed.{early-joined, whole-fit}
 use Rattle.call_partition.proofs.checked.checks_before.Goals as goal
 
--- the cells are as many as the sides say
-room-counted : (pass w h : ℕ) (cells spans boundaries anchors : List ℕ) (l m q t u : ℕ) {o : Option Refusal} → sizes_refusal pass w h cells spans boundaries anchors ≡ None → o ≡ refusal 10 (unless (partition_room (length cells) (length spans / numbers_per_span) l m q t && output_room (length boundaries / numbers_per_boundary) u)) → o ≡ refusal 10 (unless (partition_room (w * h) (length spans / numbers_per_span) l m q t && output_room (length boundaries / numbers_per_boundary) u))
-room-counted pass w h cells spans boundaries anchors l m q t u e p =
-    p ∙ ap (λ n. refusal 10 (unless (partition_room n (length spans / numbers_per_span) l m q t && output_room (length boundaries / numbers_per_boundary) u))) (sizes-fit e).counted
-
-pub returns-in_err-check_sizes : goal.returns-in_err-check_sizes
-unfolding early_refusal
-returns-in_err-check_sizes c =
+pub returns-in_err-check_sizes-clause-refused : goal.returns-in_err-check_sizes-clause-refused
+returns-in_err-check_sizes-clause-refused c =
     let r : refusal_in c.from_residual.result ≡ Some (refusal_of c.in_err-check_sizes.field-0.0) = search rules in
-    r ∙ here _ (sym c.in_err-check_sizes.ensures)
+    r ∙ here _ (sym c.in_err-check_sizes.ensures) ∙ sym (early-joined _ _ _ _ _ _ _ _ _ _ _ _)
 
-pub check_entries-requires : goal.check_entries-requires
-check_entries-requires c = let s = sizes-fit (sym c.in_ok-check_sizes.ensures) in (s.narrow, s.short)
+pub returns-in_err-pass-clause-refused : goal.returns-in_err-pass-clause-refused
+returns-in_err-pass-clause-refused c =
+    let r : refusal_in c.from_residual-in_err-pass.result ≡ Some (refusal_of c.in_err-pass.field-0.0) = search rules in
+    r ∙ next (sym c.in_ok-check_sizes.ensures) (here _ (sym c.in_err-pass.ensures.0)) ∙ sym (early-joined _ _ _ _ _ _ _ _ _ _ _ _)
 
-pub returns-in_err-check_entries : goal.returns-in_err-check_entries
-unfolding early_refusal
-returns-in_err-check_entries c =
-    let r : refusal_in c.from_residual-in_err-check_entries.result ≡ Some (refusal_of c.in_err-check_entries.field-0.0) = search rules in
-    r ∙ next (sym c.in_ok-check_sizes.ensures) (here _ (sym c.in_err-check_entries.ensures))
+pub check_lists-requires-clause-sides : goal.check_lists-requires-clause-sides
+check_lists-requires-clause-sides c = let s = whole-fit (sym c.in_ok-check_sizes.ensures) in (s.narrow, s.short)
 
-pub returns : goal.returns
-unfolding early_refusal
-returns c =
-    let a = c.args in
-    next (sym c.in_ok-check_sizes.ensures)
-    (next (sym c.in_ok-check_entries.ensures)
-    (room-counted a.pass a.asked.width a.asked.height a.asked.cells.now a.asked.spans.now a.asked.boundaries.now a.asked.anchors.now (length a.lists.now.labels.now) (length a.lists.now.masks.now) (length a.lists.now.queue.now) (length a.lists.now.tallies.now) a.output
-    (sym c.in_ok-check_sizes.ensures) c.check_room.ensures))
+pub check_lists-requires-clause-counted : goal.check_lists-requires-clause-counted
+check_lists-requires-clause-counted c = (whole-fit (sym c.in_ok-check_sizes.ensures)).counted
+
+pub returns-in_err-check_lists-clause-refused : goal.returns-in_err-check_lists-clause-refused
+returns-in_err-check_lists-clause-refused c =
+    let r : refusal_in c.from_residual-in_err-check_lists.result ≡ Some (refusal_of c.in_err-check_lists.field-0.0) = search rules in
+    r ∙ next (sym c.in_ok-check_sizes.ensures) (next (sym c.in_ok-pass.ensures.0) c.in_err-check_lists.ensures) ∙ sym (early-joined _ _ _ _ _ _ _ _ _ _ _ _)
+
+pub returns-clause-refused : goal.returns-clause-refused
+returns-clause-refused c =
+    next (sym c.in_ok-check_sizes.ensures) (next (sym c.in_ok-pass.ensures.0) c.in_ok-check_lists.ensures) ∙ sym (early-joined _ _ _ _ _ _ _ _ _ _ _ _)

@@ -1,7 +1,7 @@
--- `sheet_writer::are_whole` meets its contract: each list by its own test. Assumes nothing.
+-- `checks::sizes::are_whole` meets its contract: each list by its own test. Assumes nothing.
 use mathlib.Core.Path.{ap₂}
 use mathlib.Core.Bool.{◌&&◌}
-use Rattle.sheet_writer.proofs.are_whole.Goals as goal
+use Rattle.checks.proofs.sizes.are_whole.Goals as goal
 
 pub returns : goal.returns
 returns c =
