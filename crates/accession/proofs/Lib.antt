@@ -1,3 +1,4 @@
+pub mod Copying
 pub mod Holding
 pub mod Steps
 pub mod Checking

@@ -2,7 +2,7 @@
 ghost use Rattle.std.specs.Prelude.{◌≡◌, ◌<◌};
 ghost use Rattle.catalogue.specs.Accession.{accession_at, accession_count};
 
-pub const NUMBERS_PER_ACCESSION: usize = 4;
+use catalogue::sizes::NUMBERS_PER_ACCESSION;
 
 pub fn record_count(records: &[u64]) -> usize
     ensures { result ≡ accession_count records.now }

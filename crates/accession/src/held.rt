@@ -62,12 +62,13 @@ impl<const SLOTS: usize, const ROOM: usize> Held<SLOTS, ROOM> {
         ensures { one_more result ≡ previous records.now i }
     {
         let number = map_of(records, i);
-        for k in (self.count..i).rev() {
-            if map_of(records, k) == number {
-                return Some(k);
-            }
+        let behind = (self.count..i)
+            .rev()
+            .find(|&k| map_of(records, k) == number);
+        match behind {
+            Some(k) => Some(k),
+            None => self.last_held(records, number),
         }
-        self.last_held(records, number)
     }
 
     // Holds one record more, if there is room.

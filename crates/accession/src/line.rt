@@ -10,8 +10,9 @@ ghost use Rattle.catalogue.specs.AccessionLaws.MapLine.{is_of_map, map_line};
 ghost use Rattle.refusals.specs.Answers.{answer_of};
 ghost use Rattle.accession.specs.Contract.{Finds, room_verdict, room_exit};
 
-use crate::fields::{NUMBERS_PER_ACCESSION, day_of, map_of, own_of, record_count, superseded_of};
+use crate::fields::{map_of, own_of, record_count};
 use crate::rules::first_broken;
+use catalogue::sizes::NUMBERS_PER_ACCESSION;
 use refusals::{Cause, Refusal, ensure, no_fault};
 
 // The position of a record with an own number.
@@ -33,10 +34,9 @@ fn put_record(records: &[u64], i: usize, output: &mut [u64], k: usize)
     requires { (i < accession_count records.now) × (k + 3 < length output.old) }
     ensures { output.new ≡ sets output.old k (flat_accession (accession_at records.now i)) }
 {
-    output[k] = own_of(records, i);
-    output[k + 1] = map_of(records, i);
-    output[k + 2] = day_of(records, i);
-    output[k + 3] = superseded_of(records, i);
+    let at = NUMBERS_PER_ACCESSION * i;
+    let record = &records[at..at + NUMBERS_PER_ACCESSION];
+    output[k..k + NUMBERS_PER_ACCESSION].copy_from_slice(record);
 }
 
 // Record i, if it is of the map. Returns where the next one goes.

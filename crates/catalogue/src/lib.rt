@@ -1,3 +1,5 @@
-// Definitions and theorems only: see specs/.
+// Definitions and theorems (see specs/), and how many numbers an entry of each list has.
 
 #![tactic(auto)]
+
+pub mod sizes;

@@ -2,10 +2,14 @@
 use Rattle.std.specs.Prelude.{ℕ, Bool, ◌&&◌, List, eqb, Option, None, Some}
 use Rattle.catalogue.specs.Dates.{Date}
 use Rattle.catalogue.specs.Terms as def
+use Rattle.pool_terms.specs.declared.calendar.Date as declared
 use Rattle.pool_terms.specs.declared.terms.Days.{Days}
 
 abbrev pub date : ℕ → ℕ → ℕ → Date
 date year month day = record { year = year; month = month; day = day }
+
+abbrev pub date_as : declared.Date → Date
+date_as d = date d.year d.month d.day
 
 abbrev pub days_as : Days → def.Days
 days_as d = record { from = d.from; to = d.to }

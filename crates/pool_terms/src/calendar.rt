@@ -1,11 +1,25 @@
 // The number of a Gregorian date from 1 January 2000 to 31 December 2099.
 ghost use Rattle.std.specs.Prelude.{◌≡◌, true, ◌≤◌};
 ghost use Rattle.catalogue.specs.Dates.{is_leap, month_days, is_day, days_before_month, day_number, day_of, is_last_end, end_of};
-ghost use Rattle.pool_terms.specs.Contract.{date};
+ghost use Rattle.pool_terms.specs.Contract.{date_as};
+
+// A date as it is written: any three numbers.
+#[derive(Clone, Copy, PartialEq, Eq)]
+pub struct Date {
+    pub year: u64,
+    pub month: u64,
+    pub day: u64,
+}
 
 const FIRST_YEAR: u64 = 2000;
 
 const LAST_YEAR: u64 = 2099;
+
+const LAST_END: Date = Date {
+    year: 2100,
+    month: 1,
+    day: 1,
+};
 
 const CENTURY_DAYS: u64 = 36525;
 
@@ -50,47 +64,47 @@ fn days_before_month(year: u64, month: u64) -> u64
 }
 
 // Of the years from 2000 on every fourth one is a leap year up to 2099, the first among them.
-fn day_number(year: u64, month: u64, day: u64) -> u64
-    requires { is_day (date year month day) ≡ true }
-    ensures { result ≡ day_number (date year month day) }
+fn day_number(date: Date) -> u64
+    requires { is_day (date_as date) ≡ true }
+    ensures { result ≡ day_number (date_as date) }
 {
-    let years = year - FIRST_YEAR;
-    365 * years + (years + 3) / 4 + days_before_month(year, month) + (day - 1)
+    let years = date.year - FIRST_YEAR;
+    365 * years + (years + 3) / 4 + days_before_month(date.year, date.month) + (date.day - 1)
 }
 
 // Whether the date is a day from 1 January 2000 to 31 December 2099. Year and month are known to be in range before their lengths are asked for.
-fn is_day(year: u64, month: u64, day: u64) -> bool
-    ensures { result ≡ is_day (date year month day) }
+fn is_day(date: Date) -> bool
+    ensures { result ≡ is_day (date_as date) }
 {
-    let in_range = (FIRST_YEAR <= year)
-        & (year <= LAST_YEAR)
-        & (1 <= month)
-        & (month <= 12)
-        & (1 <= day);
-    in_range && day <= month_days(year, month)
+    let in_range = (FIRST_YEAR <= date.year)
+        & (date.year <= LAST_YEAR)
+        & (1 <= date.month)
+        & (date.month <= 12)
+        & (1 <= date.day);
+    in_range && date.day <= month_days(date.year, date.month)
 }
 
 // A day of a term, or the day asked for; none where the date is bad.
-pub fn day_of(year: u64, month: u64, day: u64) -> Option<u64>
-    ensures { result ≡ day_of (date year month day) }
+pub fn day_of(date: Date) -> Option<u64>
+    ensures { result ≡ day_of (date_as date) }
 {
-    is_day(year, month, day).then(|| day_number(year, month, day))
+    is_day(date).then(|| day_number(date))
 }
 
 // 1 January 2100.
-fn is_last_end(year: u64, month: u64, day: u64) -> bool
-    ensures { result ≡ is_last_end (date year month day) }
+fn is_last_end(date: Date) -> bool
+    ensures { result ≡ is_last_end (date_as date) }
 {
-    year == LAST_YEAR + 1 && month == 1 && day == 1
+    date == LAST_END
 }
 
 // The end of a term; none where the date is bad.
-pub fn end_of(year: u64, month: u64, day: u64) -> Option<u64>
-    ensures { result ≡ end_of (date year month day) }
+pub fn end_of(date: Date) -> Option<u64>
+    ensures { result ≡ end_of (date_as date) }
 {
-    if is_last_end(year, month, day) {
+    if is_last_end(date) {
         Some(CENTURY_DAYS)
     } else {
-        day_of(year, month, day)
+        day_of(date)
     }
 }

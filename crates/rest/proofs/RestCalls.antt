@@ -30,7 +30,7 @@ use Rattle.rest.specs.PrintedIsland.{printed_island}
 use Rattle.rest.proofs.PrintedIsland.{rest-island-printed}
 use Rattle.rest.specs.KeptAlike.{has_row, number_at}
 use Rattle.rest.proofs.KeptAlike.{rest-kept, rest-kept-lent}
-use Rattle.rest.specs.InnerCalls.{rest-accepted, accepted-answer}
+use Rattle.rest.specs.AcceptedRuns.{rest-accepted, accepted-answer}
 use Rattle.rest.specs.RestCalls.{RestRan, rest_rows-held, SameAtRest, SameAsLent}
 
 module _

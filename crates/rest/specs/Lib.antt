@@ -11,6 +11,7 @@ pub mod Runs
 pub mod PrintedIsland
 pub mod KeptAlike
 pub mod FlatLists
+pub mod AcceptedRuns
 pub mod InnerCalls
 pub mod Clearing
 pub mod Turning

@@ -27,7 +27,7 @@ use Rattle.rest.specs.Runs.{numbered, printed}
 use Rattle.rest.specs.IslandRest.{final_rows}
 use Rattle.rest.specs.PrintedIsland.{printed_island}
 use Rattle.rest.specs.KeptAlike.{has_row, number_at}
-use Rattle.rest.specs.InnerCalls.{rest-accepted, accepted-answer}
+use Rattle.rest.specs.AcceptedRuns.{rest-accepted, accepted-answer}
 
 -- what was lent, the answer, and at exit labels l, masks m, queue q, tallies t, pairs p, records s and output o
 pub record RestRan (L : Lent) (a : RestAnswer) (l m q t p : List ℕ) (s : List Region) (o : List ℕ) : Type 0 where

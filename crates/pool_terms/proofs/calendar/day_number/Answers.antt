@@ -33,7 +33,7 @@ days_before_month-requires c =
 pub overflow_add-result-3 : goal.overflow_add-result-3
 overflow_add-result-3 c =
     let P = parts _ c.requires in
-    omega (arith, c.days_before_month.ensures, P.from_2000, P.to_2099, months_most c.args.year c.args.month P.month_from P.month_to)
+    omega (arith, c.days_before_month.ensures, P.from_2000, P.to_2099, months_most c.args.date.year c.args.date.month P.month_from P.month_to)
 
 pub overflow_sub-result : goal.overflow_sub-result
 overflow_sub-result c =
@@ -43,10 +43,10 @@ overflow_sub-result c =
 pub overflow_add-result-4 : goal.overflow_add-result-4
 overflow_add-result-4 c =
     let P = parts _ c.requires in
-    omega (arith, c.days_before_month.ensures, P.from_2000, P.to_2099, P.day_from, P.day_to, months_most c.args.year c.args.month P.month_from P.month_to, month_most c.args.year c.args.month P.month_to)
+    omega (arith, c.days_before_month.ensures, P.from_2000, P.to_2099, P.day_from, P.day_to, months_most c.args.date.year c.args.date.month P.month_from P.month_to, month_most c.args.date.year c.args.date.month P.month_to)
 
 pub returns : goal.returns
 unfolding day_number
 returns c =
     let P = parts _ c.requires in
-    omega (arith, c.days_before_month.ensures, years_before c.args.year (omega (arith, P.to_2099)))
+    omega (arith, c.days_before_month.ensures, years_before c.args.date.year (omega (arith, P.to_2099)))

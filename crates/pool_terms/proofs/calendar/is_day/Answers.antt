@@ -8,9 +8,9 @@ use Rattle.pool_terms.proofs.calendar.is_day.Goals as goal
 pub returns-then-in_range : goal.returns-then-in_range
 unfolding is_day
 returns-then-in_range c =
-    ap (leb c.args.day) c.month_days.ensures ∙ ap (λ b. b && leb c.args.day (month_days c.args.year c.args.month)) (sym c.if-in_range.true)
+    ap (leb c.args.date.day) c.month_days.ensures ∙ ap (λ b. b && leb c.args.date.day (month_days c.args.date.year c.args.date.month)) (sym c.if-in_range.true)
 
 pub returns-else-in_range : goal.returns-else-in_range
 unfolding is_day
 returns-else-in_range c =
-    c.if-in_range.false ∙ ap (λ b. b && leb c.args.day (month_days c.args.year c.args.month)) (sym c.if-in_range.false)
+    c.if-in_range.false ∙ ap (λ b. b && leb c.args.date.day (month_days c.args.date.year c.args.date.month)) (sym c.if-in_range.false)
