@@ -4,4 +4,3 @@ pub mod Apart
 pub mod Outcomes
 pub mod NearestRoot
 pub mod Aligned
-pub mod Columns

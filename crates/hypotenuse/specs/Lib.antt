@@ -1,4 +1,3 @@
-pub mod Wide
 pub mod Roots
 pub mod Rounding
 pub mod Short

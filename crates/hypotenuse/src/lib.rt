@@ -6,10 +6,10 @@ ghost use Rattle.std.specs.Prelude.{◌≡◌};
 ghost use Rattle.definitions.specs.Hypotenuse.{hypot_number, hypot_value};
 ghost use Rattle.hypotenuse.specs.Contract.{number_of, value_of};
 
+mod layout;
 mod patterns;
 mod root;
 mod short;
-mod wide;
 
 // The hypotenuse of x and y, whatever their signs; none where one of them is a NaN, or not zero and not of a magnitude from 2^-64 to 2^15. The hypotenuse of zeros is +0.
 pub fn hypotenuse(x: f64, y: f64) -> Option<f64>

@@ -8,14 +8,10 @@ ghost use Rattle.laws.specs.FloatLaws.Patterns.{pattern_of};
 ghost use Rattle.laws.specs.FloatLaws.PatternOrder.{pattern_in_range};
 ghost use Rattle.hypotenuse.specs.Rounding.{Rounded};
 
-use crate::root::floor_root;
+use crate::layout::{LEADING, SIGN};
+use crate::root::{floor_root, square};
 use crate::short::short_root;
-use crate::wide::{shifted, square, sum};
 
-// 2^52: the place of the exponent, and the leading digit of a significand.
-const LEADING: u64 = 4503599627370496;
-// 2^63: the place of the sign.
-const SIGN: u64 = 9223372036854775808;
 // The pattern of 2^-64.
 const LEAST: u64 = 4318952042648305664;
 // The pattern of 2^15.
@@ -88,14 +84,31 @@ fn rounded_pattern(k: u64, t: u64, extra: u64) -> u64
     }
 }
 
+// A number without its lowest digits, and these digits.
+#[derive(Clone, Copy)]
+struct Cut {
+    kept: u128,
+    lost: u64,
+}
+
+// w without its lowest n bits.
+fn shifted(w: u128, n: u64) -> Cut
+    requires { n ≤ 54 }
+    ensures { (result.kept * 2 ^ n + result.lost ≡ w) × (result.lost < 2 ^ n) }
+{
+    Cut {
+        kept: w >> n,
+        lost: (w % (1 << n)) as u64,
+    }
+}
+
 // The pattern of the double nearest to the root of (x * 2^k)^2 + (y * 2^(k - gap))^2. The squares are taken of half units, and the smaller one is shifted to the larger one's unit.
 fn near_pattern(k: u64, x: u64, y: u64, gap: u64, start: u64) -> u64
     requires { (2 ^ 52 ≤ x) × (x < 2 ^ 53) × (y < 2 ^ 53) × (gap ≤ 27) × (gap ≤ k) × (k < 1040) × (2 ^ 53 ≤ start) × (start < 2 ^ 55) }
     ensures { (of_bits binary64 result ≡ root_of (x * 2 ^ k * (x * 2 ^ k) + y * 2 ^ (k - gap) * (y * 2 ^ (k - gap)))) × (result < 2047 * 2 ^ 52) }
 {
     let cut = shifted(square(2 * y), 2 * gap);
-    let kept = cut.kept;
-    let found = floor_root(sum(square(2 * x), kept), start);
+    let found = floor_root(square(2 * x) + cut.kept, start);
     rounded_pattern(k, found.root, found.rest + cut.lost)
 }
 

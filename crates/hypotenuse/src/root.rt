@@ -1,16 +1,18 @@
-// Whole roots of numbers of two words, in bounded time: a good guess is made exact by at most five steps, and where these do not reach the root it is worked out digit by digit, in 55 turns.
+// Whole roots of numbers of 110 bits, in bounded time: a good guess is made exact by at most five steps, and where these do not reach the root the library works it out digit by digit.
 ghost use Rattle.std.specs.Prelude.{◌≡◌, ◌+◌, ◌*◌, ◌<◌, ◌≤◌, ◌^◌};
-ghost use Rattle.hypotenuse.specs.Wide.{wide, Words110};
 ghost use Rattle.hypotenuse.specs.Roots.{IsRoot};
 
-use crate::wide::{difference, less, square};
-
-// 2^55, above every root here.
-const ROOTS: u64 = 36028797018963968;
 // The steps start so far below the guess.
 const MARGIN: u64 = 32;
-// They are tried where the higher words of the number and of the start's square differ by this much at most.
-const MAX_DISTANCE: u64 = 64;
+// They are tried where the number is above the start's square by less than this, 2^62.
+const MAX_REST: u128 = 4611686018427387904;
+
+// t * t
+pub fn square(t: u64) -> u128
+    ensures { result ≡ t * t }
+{
+    u128::from(t) * u128::from(t)
+}
 
 // The number root * root + rest.
 #[derive(Clone, Copy)]
@@ -19,23 +21,15 @@ pub struct Rooted {
     pub rest: u64,
 }
 
-// The whole root of f. Each turn settles one binary digit of it, the highest first: the root is from `root` up to below `root + width`.
-fn digit_root(f: [u64; 2]) -> Rooted
-    requires { Words110 f }
-    ensures { IsRoot (wide f) result.root result.rest }
+// The whole root of f, by the library.
+fn digit_root(f: u128) -> Rooted
+    requires { f < 2 ^ 110 }
+    ensures { IsRoot f result.root result.rest }
 {
-    let mut root = 0;
-    let mut width = ROOTS;
-    for _ in 0..55u64 {
-        width /= 2;
-        let next = root + width;
-        if !less(f, square(next)) {
-            root = next;
-        }
-    }
+    let root = f.isqrt();
     Rooted {
-        root,
-        rest: difference(f, square(root)),
+        root: root as u64,
+        rest: (f - root * root) as u64,
     }
 }
 
@@ -74,21 +68,18 @@ fn single_steps(from: Rooted) -> Rooted
 }
 
 // The whole root of f, whatever the guess. One that is at most 32 away makes it quick.
-pub fn floor_root(f: [u64; 2], guess: u64) -> Rooted
-    requires { Words110 f × (2 ^ 53 ≤ guess) × (guess < 2 ^ 55) }
-    ensures { IsRoot (wide f) result.root result.rest }
+pub fn floor_root(f: u128, guess: u64) -> Rooted
+    requires { (f < 2 ^ 110) × (2 ^ 53 ≤ guess) × (guess < 2 ^ 55) }
+    ensures { IsRoot f result.root result.rest }
 {
     let low = guess - MARGIN;
-    let s = square(low);
-    if less(f, s) {
-        return digit_root(f);
-    }
-    if f[1] - s[1] > MAX_DISTANCE {
-        return digit_root(f);
-    }
-    let found = single_steps(division_step(low, difference(f, s)));
-    if found.rest <= 2 * found.root {
-        return found;
+    if let Some(rest) = f.checked_sub(square(low)) {
+        if rest < MAX_REST {
+            let found = single_steps(division_step(low, rest as u64));
+            if found.rest <= 2 * found.root {
+                return found;
+            }
+        }
     }
     digit_root(f)
 }

@@ -7,16 +7,13 @@ ghost use Rattle.definitions.specs.Hypotenuse.{root_of};
 ghost use Rattle.definitions.specs.Nearest.{pattern_magnitude};
 ghost use Rattle.hypotenuse.specs.Short.{short_squares, Steps, NearestWhole};
 
-// 2^52: the place of the exponent, and the leading digit of a significand.
-const LEADING: u64 = 4503599627370496;
-// 2^63: the place of the sign.
-const SIGN: u64 = 9223372036854775808;
+use crate::layout::{LEADING, SIGN};
+use crate::root::square;
+
 // 2^36: the place of the last of 17 digits.
 const LAST_PLACE: u64 = 68719476736;
-// 2^22: the base of the columns of a square.
-const COLUMN: u64 = 4194304;
-// 2^34: where the guess is near, less than this is left of a column.
-const LIMIT: u64 = 17179869184;
+// 2^44: the unit of a sum of squares.
+const SQUARE_UNIT: u128 = 17592186044416;
 // This less half the pattern of s is the pattern of 0.73 divided by the root of s, to 5 in 100.
 const START: u64 = 6908488151547772928;
 
@@ -42,18 +39,14 @@ fn guess(larger: u64, smaller: u64) -> Option<u64>
     Some(f64::to_bits(near))
 }
 
-// How far b * b is below n + b, for n = m * 2^44, where b is near the root of n. With b of two digits, high and low, what is left of each column is passed down to the next.
+// How far b * b is below n + b, for n = m * 2^44, where b is near the root of n.
 fn excess(m: u64, b: u64) -> Option<u64>
     requires { b < 2 ^ 53 }
     ensures { IfSome result (λ e. b * b + e ≡ m * 2 ^ 44 + b) }
 {
-    let high = b / COLUMN;
-    let low = b % COLUMN;
-    let first = m.checked_sub(high * high).filter(|&left| left < LIMIT)?;
-    let second = (first * COLUMN + high)
-        .checked_sub(2 * (high * low))
-        .filter(|&left| left < LIMIT)?;
-    (second * COLUMN + low).checked_sub(low * low)
+    let most = u128::from(m) * SQUARE_UNIT + u128::from(b);
+    let left = most.checked_sub(square(b))?;
+    u64::try_from(left).ok()
 }
 
 // How many steps by one lead from b to the whole number nearest to the root, by the excess e over b * b.

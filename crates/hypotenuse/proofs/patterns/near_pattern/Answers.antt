@@ -10,7 +10,6 @@ use lib.Pow.{pow_mono}
 use Rattle.definitions.specs.Hypotenuse.{root_of}
 use Rattle.laws.specs.NumberLaws.Comparisons.{le_or_lt}
 use Rattle.hypotenuse.specs.Rounding.{Rounded}
-use Rattle.hypotenuse.specs.Wide.{wide}
 use Rattle.hypotenuse.proofs.Close.{Near, total, double-le, high_le, powers, root_ge, root_lt, nearest-root}
 use Rattle.hypotenuse.proofs.patterns.near_pattern.Goals as goal
 
@@ -41,28 +40,23 @@ module _ {k x y gap kept lost F t rest : ℕ} (near : Near k x y gap kept lost F
       double : 2 ^ (k + 1) ≡ 2 * (2 ^ gap * 2 ^ (k - gap))
       double = ap (λ (z : ℕ). 2 ^ z) (add-one k) ∙ pow-succ' 2 k ∙ ap (λ (z : ℕ). 2 * z) (powers k gap near.gap-k)
 
-pub sum-requires : goal.sum-requires
-sum-requires c =
-    let cut_is = c.shifted-cut.ensures.0 ∙ c.square.ensures.0 in
-    omega (arith, c.square-2.ensures.0, sum_lt c.args.x c.args.y c.args.gap (wide c.shifted-cut.result.kept) c.shifted-cut.result.lost c.requires.1 c.requires.2 cut_is)
-
 pub floor_root-found-requires : goal.floor_root-found-requires
 floor_root-found-requires c =
-    let cut_is = c.shifted-cut.ensures.0 ∙ c.square.ensures.0 in
-    omega (arith, c.square-2.ensures.0, c.sum.ensures.0, sum_lt c.args.x c.args.y c.args.gap (wide c.shifted-cut.result.kept) c.shifted-cut.result.lost c.requires.1 c.requires.2 cut_is)
+    let cut_is = c.shifted-cut.ensures.0 ∙ c.square.ensures in
+    omega (arith, c.square-2.ensures, sum_lt c.args.x c.args.y c.args.gap c.shifted-cut.result.kept c.shifted-cut.result.lost c.requires.1 c.requires.2 cut_is)
 
 pub overflow_add-found : goal.overflow_add-found
 overflow_add-found c =
-    let near : Near c.args.k c.args.x c.args.y c.args.gap (wide c.shifted-cut.result.kept) c.shifted-cut.result.lost (wide c.sum.result) c.floor_root-found.result.root c.floor_root-found.result.rest =
+    let near : Near c.args.k c.args.x c.args.y c.args.gap c.shifted-cut.result.kept c.shifted-cut.result.lost (c.square-2.result + c.shifted-cut.result.kept) c.floor_root-found.result.root c.floor_root-found.result.rest =
     record {
       x-lo = c.requires.0;
       x-hi = c.requires.1;
       y-hi = c.requires.2;
       gap-k = c.requires.4;
       k_lt = c.requires.5;
-      shifted = c.shifted-cut.ensures.0 ∙ c.square.ensures.0;
-      lost_lt = c.shifted-cut.ensures.2;
-      sum = c.sum.ensures.0 ∙ ap (λ (z : ℕ). z + wide c.shifted-cut.result.kept) c.square-2.ensures.0;
+      shifted = c.shifted-cut.ensures.0 ∙ c.square.ensures;
+      lost_lt = c.shifted-cut.ensures.1;
+      sum = ap (λ (z : ℕ). z + c.shifted-cut.result.kept) c.square-2.ensures;
       root = c.floor_root-found.ensures.sum;
       rest_le = c.floor_root-found.ensures.below;
     } in
@@ -70,16 +64,16 @@ overflow_add-found c =
 
 pub rounded_pattern-requires : goal.rounded_pattern-requires
 rounded_pattern-requires c =
-    let near : Near c.args.k c.args.x c.args.y c.args.gap (wide c.shifted-cut.result.kept) c.shifted-cut.result.lost (wide c.sum.result) c.floor_root-found.result.root c.floor_root-found.result.rest =
+    let near : Near c.args.k c.args.x c.args.y c.args.gap c.shifted-cut.result.kept c.shifted-cut.result.lost (c.square-2.result + c.shifted-cut.result.kept) c.floor_root-found.result.root c.floor_root-found.result.rest =
     record {
       x-lo = c.requires.0;
       x-hi = c.requires.1;
       y-hi = c.requires.2;
       gap-k = c.requires.4;
       k_lt = c.requires.5;
-      shifted = c.shifted-cut.ensures.0 ∙ c.square.ensures.0;
-      lost_lt = c.shifted-cut.ensures.2;
-      sum = c.sum.ensures.0 ∙ ap (λ (z : ℕ). z + wide c.shifted-cut.result.kept) c.square-2.ensures.0;
+      shifted = c.shifted-cut.ensures.0 ∙ c.square.ensures;
+      lost_lt = c.shifted-cut.ensures.1;
+      sum = ap (λ (z : ℕ). z + c.shifted-cut.result.kept) c.square-2.ensures;
       root = c.floor_root-found.ensures.sum;
       rest_le = c.floor_root-found.ensures.below;
     } in
@@ -87,16 +81,16 @@ rounded_pattern-requires c =
 
 pub returns : goal.returns
 returns c =
-    let near : Near c.args.k c.args.x c.args.y c.args.gap (wide c.shifted-cut.result.kept) c.shifted-cut.result.lost (wide c.sum.result) c.floor_root-found.result.root c.floor_root-found.result.rest =
+    let near : Near c.args.k c.args.x c.args.y c.args.gap c.shifted-cut.result.kept c.shifted-cut.result.lost (c.square-2.result + c.shifted-cut.result.kept) c.floor_root-found.result.root c.floor_root-found.result.rest =
     record {
       x-lo = c.requires.0;
       x-hi = c.requires.1;
       y-hi = c.requires.2;
       gap-k = c.requires.4;
       k_lt = c.requires.5;
-      shifted = c.shifted-cut.ensures.0 ∙ c.square.ensures.0;
-      lost_lt = c.shifted-cut.ensures.2;
-      sum = c.sum.ensures.0 ∙ ap (λ (z : ℕ). z + wide c.shifted-cut.result.kept) c.square-2.ensures.0;
+      shifted = c.shifted-cut.ensures.0 ∙ c.square.ensures;
+      lost_lt = c.shifted-cut.ensures.1;
+      sum = ap (λ (z : ℕ). z + c.shifted-cut.result.kept) c.square-2.ensures;
       root = c.floor_root-found.ensures.sum;
       rest_le = c.floor_root-found.ensures.below;
     } in
