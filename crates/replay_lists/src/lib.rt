@@ -6,6 +6,9 @@
 ghost use Rattle.std.specs.Prelude.{◌≤◌, ◌<◌, ◌≡◌, length, take, IfOk};
 ghost use Rattle.replay_lists.specs.Contract.{held_at, HeldBefore, IsOther, Changed, Zeros};
 
+use areas::lists::PartitionLists;
+use refusals::Refusal;
+use refusals::answers::Answer;
 use std::io::{Read, Write};
 use std::{array, io};
 use streams::read_full;
@@ -105,28 +108,24 @@ fn write_zeros<T: Copy + Into<u64>, W: Write>(
 // Writes an answer and the lists that a partition fills and clears. Answers how many entries it wrote of labels, tallies and pairs.
 pub fn write_partition<W: Write>(
     output: &mut W,
-    number: u64,
-    value: usize,
-    labels: &[u32],
-    masks: &[u16],
-    queue: &[u32],
-    tallies: &[u32],
-    pairs: &[u32],
+    answer: Result<usize, Refusal>,
+    lists: &PartitionLists,
 ) -> io::Result<Written>
-    ensures labels_changed { IfOk result (λ w. Changed (λ x y. y ≡ x) (take 4096 labels.now) w.labels) }
-    ensures tallies_changed { IfOk result (λ w. Changed (λ x y. y ≡ x) (take 4096 tallies.now) w.tallies) }
-    ensures pairs_changed { IfOk result (λ w. Changed (λ x y. y ≡ x) (take 4096 pairs.now) w.pairs) }
+    ensures labels_changed { IfOk result (λ w. Changed (λ x y. y ≡ x) (take 4096 lists.now.labels.now) w.labels) }
+    ensures tallies_changed { IfOk result (λ w. Changed (λ x y. y ≡ x) (take 4096 lists.now.tallies.now) w.tallies) }
+    ensures pairs_changed { IfOk result (λ w. Changed (λ x y. y ≡ x) (take 4096 lists.now.pairs.now) w.pairs) }
 {
+    let Answer { number, value } = Answer::from(answer);
     writeln!(output, "answer {number} {value}")?;
-    let of_labels = write_numbers(output, b"labels ", lent(labels))?;
-    let of_tallies = write_numbers(output, b"tallies ", lent(tallies))?;
-    let of_pairs = write_numbers(output, b"pairs ", lent(pairs))?;
-    write_zeros(output, b"masks ", lent(masks))?;
-    write_zeros(output, b"queue ", lent(queue))?;
+    let labels = write_numbers(output, b"labels ", lent(lists.labels))?;
+    let tallies = write_numbers(output, b"tallies ", lent(lists.tallies))?;
+    let pairs = write_numbers(output, b"pairs ", lent(lists.pairs))?;
+    write_zeros(output, b"masks ", lent(lists.masks))?;
+    write_zeros(output, b"queue ", lent(lists.queue))?;
     Ok(Written {
-        labels: of_labels,
-        tallies: of_tallies,
-        pairs: of_pairs,
+        labels,
+        tallies,
+        pairs,
     })
 }
 
@@ -210,6 +209,48 @@ impl Opening {
         ensures { IfOk result (λ n. n ≤ length buffer.new) }
     {
         read_full(input, &mut buffer[..usize::from(self.sheet)])
+    }
+}
+
+// ---- what a case lends
+
+// The lists that a partition fills, each with as many entries as a case can lend.
+#[derive(Clone, Copy)]
+pub struct LentRoom {
+    labels: [u32; 4096],
+    masks: [u16; 4096],
+    queue: [u32; 4096],
+    tallies: [u32; 4096],
+    pairs: [u32; 4096],
+}
+
+impl LentRoom {
+    pub fn new() -> LentRoom {
+        LentRoom {
+            labels: entries_before(),
+            masks: entries_before(),
+            queue: entries_before(),
+            tallies: entries_before(),
+            pairs: entries_before(),
+        }
+    }
+
+    // As much of them as the opening says.
+    pub fn lists(&mut self, opening: &Opening) -> PartitionLists {
+        let LentRoom {
+            labels,
+            masks,
+            queue,
+            tallies,
+            pairs,
+        } = self;
+        PartitionLists {
+            labels: &mut labels[..length_within(opening.labels, 4096)],
+            masks: &mut masks[..length_within(opening.masks, 4096)],
+            queue: &mut queue[..length_within(opening.queue, 4096)],
+            tallies: &mut tallies[..length_within(opening.tallies, 4096)],
+            pairs: &mut pairs[..length_within(opening.pairs, 4096)],
+        }
     }
 }
 

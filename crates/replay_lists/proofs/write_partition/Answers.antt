@@ -4,10 +4,10 @@ use Rattle.replay_lists.specs.Contract.{Changed}
 use Rattle.replay_lists.proofs.write_partition.Goals as goal
 
 pub returns-clause-labels_changed : goal.returns-clause-labels_changed
-returns-clause-labels_changed g c = subst (λ l. Changed (λ x y. y ≡ x) l c.in_ok-of_labels.of_labels) c.lent.ensures c.in_ok-of_labels.ensures
+returns-clause-labels_changed g c = subst (λ l. Changed (λ x y. y ≡ x) l c.in_ok-labels.labels) c.lent.ensures c.in_ok-labels.ensures
 
 pub returns-clause-tallies_changed : goal.returns-clause-tallies_changed
-returns-clause-tallies_changed g c = subst (λ l. Changed (λ x y. y ≡ x) l c.in_ok-of_tallies.of_tallies) c.lent-2.ensures c.in_ok-of_tallies.ensures
+returns-clause-tallies_changed g c = subst (λ l. Changed (λ x y. y ≡ x) l c.in_ok-tallies.tallies) c.lent-2.ensures c.in_ok-tallies.ensures
 
 pub returns-clause-pairs_changed : goal.returns-clause-pairs_changed
-returns-clause-pairs_changed g c = subst (λ l. Changed (λ x y. y ≡ x) l c.in_ok-of_pairs.of_pairs) c.lent-3.ensures c.in_ok-of_pairs.ensures
+returns-clause-pairs_changed g c = subst (λ l. Changed (λ x y. y ≡ x) l c.in_ok-pairs.pairs) c.lent-3.ensures c.in_ok-pairs.ensures
