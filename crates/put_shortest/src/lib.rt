@@ -1,12 +1,37 @@
-// A number of a sheet in shortest form, as bytes in a lent list.
+// A number of a sheet in shortest form, as bytes in a lent list; and the types of numbers that a sheet's lists have.
 
 #![tactic(auto)]
 
-ghost use Rattle.std.specs.Prelude.{◌≡◌, ◌+◌, ◌%◌, ◌<◌, length};
+ghost use Rattle.std.specs.Prelude.{◌≡◌, ℕ, ◌+◌, ◌%◌, ◌<◌, length};
 ghost use Rattle.results.specs.Shortest.{shortest};
 ghost use Rattle.byte_writer.specs.Contract.{HasRoom, Appends};
 
 use byte_writer::Writer;
+
+// An entry of a list that is written: cells are bytes, and all else has 64 bits.
+pub trait Entry: Copy {
+    // The number that it is.
+    ghost value: { Self → ℕ };
+
+    fn value(self) -> u64
+        ensures { result ≡ value self };
+}
+
+impl Entry for u8 {
+    ghost value = { λ n. n };
+
+    fn value(self) -> u64 {
+        u64::from(self)
+    }
+}
+
+impl Entry for u64 {
+    ghost value = { λ n. n };
+
+    fn value(self) -> u64 {
+        self
+    }
+}
 
 // The lowest group of a number, to be continued.
 fn continued(n: u64) -> u8
@@ -29,7 +54,7 @@ pub fn put_shortest(w: &mut Writer, n: u64)
     ensures { Appends w.old (shortest n) w.new }
 {
     let mut left = n;
-    // Kept: how many groups there are shows only as the number is divided, so that a `for` would be left early on every path.
+    // Kept: a range over the groups would take their count from `ilog2` and divide the number all the same: a line more.
     while 128 <= left {
         w.put_byte(continued(left));
         left /= 128;

@@ -4,57 +4,58 @@
 #![tactic(auto)]
 
 ghost use Rattle.std.specs.Prelude.{◌≤◌, ◌<◌, ◌≡◌, length, take, IfOk};
-ghost use Rattle.replay_lists.specs.Contract.{held_at, HeldBefore, Copied, Changed, Zeros};
+ghost use Rattle.replay_lists.specs.Contract.{held_at, HeldBefore, IsOther, Changed, Zeros};
 
+use areas::lists::PartitionLists;
+use refusals::Refusal;
+use refusals::answers::Answer;
 use std::io::{Read, Write};
 use std::{array, io};
 use streams::read_full;
 
 // Reading ends after so many cases at the latest.
-pub const CASES: u64 = 65536;
+const CASES: u64 = 65536;
 
 // ---- what a list held before the call
 
 // Entry i: no number of an answer on maps of so few cells is one of these.
-fn held_before(i: usize) -> u64
-    ensures { (result ≡ held_at i) × (result < 65536) }
+fn held_before(i: usize) -> u16
+    ensures { result ≡ held_at i }
 {
-    60000 + (i % 5000) as u64
+    60000 + (i % 5000) as u16
 }
 
-// Kept: three alike, of masks, numbers and wide numbers, since a bound of `From` says nothing of the value that a contract speaks of.
-pub fn masks_before() -> [u16; 4096]
-    ensures { HeldBefore 4096 result }
+// Masks, numbers or wide numbers.
+pub fn entries_before<T: From<u16>>() -> [T; 4096]
+    ensures { HeldBefore T.from_gives 4096 result }
 {
-    array::from_fn(|i| held_before(i) as u16)
+    array::from_fn(|i| T::from(held_before(i)))
 }
 
-pub fn numbers_before() -> [u32; 4096]
-    ensures { HeldBefore 4096 result }
+// Entry i of a list is not as it was.
+fn is_changed<T: Copy + Into<u64>>(list: &[T], i: usize) -> bool
+    requires { i < length list.now }
+    ensures { IsOther T.converts list.now i result }
 {
-    array::from_fn(|i| held_before(i) as u32)
-}
-
-pub fn wide_numbers_before() -> [u64; 4096]
-    ensures { HeldBefore 4096 result }
-{
-    array::from_fn(|i| held_before(i))
+    list[i].into() != u64::from(held_before(i))
 }
 
 // How many entries there are up to the last one that is not as it was.
-fn changed(list: &[u64]) -> usize
-    ensures { Changed list.now result }
+fn changed<T: Copy + Into<u64>>(list: &[T]) -> usize
+    ensures { Changed T.converts list.now result }
 {
     (0..list.len())
-        .rfind(|&last| list[last] != held_before(last))
+        .rfind(|&last| is_changed(list, last))
         .map_or(0, |last| last + 1)
 }
 
 // How many entries in front are zero.
-fn zeros(list: &[u64]) -> usize
-    ensures { Zeros list.now result }
+fn zeros<T: Copy + Into<u64>>(list: &[T]) -> usize
+    ensures { Zeros T.converts list.now result }
 {
-    list.iter().position(|&x| x != 0).unwrap_or(list.len())
+    list.iter()
+        .position(|&x| x.into() != 0)
+        .unwrap_or(list.len())
 }
 
 // ---- writing. What the system makes of it no contract can say: a function answers how many entries it wrote.
@@ -67,95 +68,65 @@ pub struct Written {
     pub pairs: usize,
 }
 
+// The first entries of a list, as many as a case can lend.
+fn lent<T>(list: &[T]) -> &[T]
+    ensures { result.now ≡ take 4096 list.now }
+{
+    &list[..list.len().min(4096)]
+}
+
 // Writes a list's entries as far as they changed, and how many behind them are as they were. Answers how many entries it wrote.
-pub fn write_wide_numbers<W: Write>(output: &mut W, word: &[u8], list: &[u64]) -> io::Result<usize>
-    ensures { IfOk result (λ n. Changed list.now n) }
+pub fn write_numbers<T: Copy + Into<u64>, W: Write>(
+    output: &mut W,
+    word: &[u8],
+    list: &[T],
+) -> io::Result<usize>
+    ensures { IfOk result (λ n. Changed T.converts list.now n) }
 {
     let n = changed(list);
     output.write_all(word)?;
     write!(output, "{n}")?;
-    for x in &list[..n] {
-        write!(output, " {x}")?;
+    for &x in &list[..n] {
+        let number: u64 = x.into();
+        write!(output, " {number}")?;
     }
     writeln!(output, " kept {}", list.len() - n)?;
     Ok(n)
 }
 
 // Of a list that is cleared.
-fn write_zeros<W: Write>(output: &mut W, word: &[u8], list: &[u64]) -> io::Result<()> {
+fn write_zeros<T: Copy + Into<u64>, W: Write>(
+    output: &mut W,
+    word: &[u8],
+    list: &[T],
+) -> io::Result<()> {
     let n = changed(list);
     output.write_all(word)?;
     writeln!(output, "{n} zeros {} kept {}", zeros(list), list.len() - n)
 }
 
-// Kept: two alike, of numbers and of masks, since a bound of `Into` says nothing of the value that a contract speaks of.
-fn widen(list: &[u32], out: &mut [u64])
-    ensures { Copied list.now out.new }
-{
-    let n = list.len().min(out.len());
-    for i in 0..n {
-        out[i] = u64::from(list[i]);
-    }
-}
-
-fn widen_masks(masks: &[u16], out: &mut [u64])
-    ensures { Copied masks.now out.new }
-{
-    let n = masks.len().min(out.len());
-    for i in 0..n {
-        out[i] = u64::from(masks[i]);
-    }
-}
-
-fn write_numbers<W: Write>(output: &mut W, word: &[u8], list: &[u32]) -> io::Result<usize>
-    ensures { IfOk result (λ n. Changed (take 4096 list.now) n) }
-{
-    let mut numbers = [0u64; 4096];
-    widen(list, &mut numbers);
-    let n = list.len().min(4096);
-    write_wide_numbers(output, word, &numbers[0..n])
-}
-
 // Writes an answer and the lists that a partition fills and clears. Answers how many entries it wrote of labels, tallies and pairs.
 pub fn write_partition<W: Write>(
     output: &mut W,
-    number: u64,
-    value: usize,
-    labels: &[u32],
-    masks: &[u16],
-    queue: &[u32],
-    tallies: &[u32],
-    pairs: &[u32],
+    answer: Result<usize, Refusal>,
+    lists: &PartitionLists,
 ) -> io::Result<Written>
-    ensures labels_changed { IfOk result (λ w. Changed (take 4096 labels.now) w.labels) }
-    ensures tallies_changed { IfOk result (λ w. Changed (take 4096 tallies.now) w.tallies) }
-    ensures pairs_changed { IfOk result (λ w. Changed (take 4096 pairs.now) w.pairs) }
+    ensures labels_changed { IfOk result (λ w. Changed (λ x y. y ≡ x) (take 4096 lists.now.labels.now) w.labels) }
+    ensures tallies_changed { IfOk result (λ w. Changed (λ x y. y ≡ x) (take 4096 lists.now.tallies.now) w.tallies) }
+    ensures pairs_changed { IfOk result (λ w. Changed (λ x y. y ≡ x) (take 4096 lists.now.pairs.now) w.pairs) }
 {
+    let Answer { number, value } = Answer::from(answer);
     writeln!(output, "answer {number} {value}")?;
-    let of_labels = write_numbers(output, b"labels ", labels)?;
-    let of_tallies = write_numbers(output, b"tallies ", tallies)?;
-    let of_pairs = write_numbers(output, b"pairs ", pairs)?;
-    write_cleared_masks(output, masks)?;
-    write_cleared_queue(output, queue)?;
+    let labels = write_numbers(output, b"labels ", lent(lists.labels))?;
+    let tallies = write_numbers(output, b"tallies ", lent(lists.tallies))?;
+    let pairs = write_numbers(output, b"pairs ", lent(lists.pairs))?;
+    write_zeros(output, b"masks ", lent(lists.masks))?;
+    write_zeros(output, b"queue ", lent(lists.queue))?;
     Ok(Written {
-        labels: of_labels,
-        tallies: of_tallies,
-        pairs: of_pairs,
+        labels,
+        tallies,
+        pairs,
     })
-}
-
-fn write_cleared_masks<W: Write>(output: &mut W, masks: &[u16]) -> io::Result<()> {
-    let mut numbers = [0u64; 4096];
-    widen_masks(masks, &mut numbers);
-    let n = masks.len().min(4096);
-    write_zeros(output, b"masks ", &numbers[0..n])
-}
-
-fn write_cleared_queue<W: Write>(output: &mut W, queue: &[u32]) -> io::Result<()> {
-    let mut numbers = [0u64; 4096];
-    widen(queue, &mut numbers);
-    let n = queue.len().min(4096);
-    write_zeros(output, b"queue ", &numbers[0..n])
 }
 
 // ---- what a case begins with
@@ -239,4 +210,83 @@ impl Opening {
     {
         read_full(input, &mut buffer[..usize::from(self.sheet)])
     }
+}
+
+// ---- what a case lends
+
+// The lists that a partition fills, each with as many entries as a case can lend.
+#[derive(Clone, Copy)]
+pub struct LentRoom {
+    labels: [u32; 4096],
+    masks: [u16; 4096],
+    queue: [u32; 4096],
+    tallies: [u32; 4096],
+    pairs: [u32; 4096],
+}
+
+impl LentRoom {
+    pub fn new() -> LentRoom {
+        LentRoom {
+            labels: entries_before(),
+            masks: entries_before(),
+            queue: entries_before(),
+            tallies: entries_before(),
+            pairs: entries_before(),
+        }
+    }
+
+    // As much of them as the opening says.
+    pub fn lists(&mut self, opening: &Opening) -> PartitionLists {
+        let LentRoom {
+            labels,
+            masks,
+            queue,
+            tallies,
+            pairs,
+        } = self;
+        PartitionLists {
+            labels: &mut labels[..length_within(opening.labels, 4096)],
+            masks: &mut masks[..length_within(opening.masks, 4096)],
+            queue: &mut queue[..length_within(opening.queue, 4096)],
+            tallies: &mut tallies[..length_within(opening.tallies, 4096)],
+            pairs: &mut pairs[..length_within(opening.pairs, 4096)],
+        }
+    }
+}
+
+// ---- case after case
+
+// Replays the next case; false where there is none.
+fn replay_next<R: Read, W: Write, F: Fn(&mut W, &Opening, &[u8]) -> io::Result<()>>(
+    input: &mut R,
+    out: &mut W,
+    buffer: &mut [u8],
+    replay: F,
+) -> io::Result<bool>
+    requires room { 65536 ≤ length buffer.old }
+    requires callable { F.IsAlwaysCallable replay }
+{
+    let Some(opening) = Opening::read(input)? else {
+        return Ok(false);
+    };
+    let size = opening.read_sheet(input, &mut *buffer)?;
+    replay(out, &opening, &buffer[0..size])?;
+    Ok(true)
+}
+
+// Replays the cases, each as `replay` does it from its opening and the bytes of its sheet.
+pub fn replay_cases<R: Read, W: Write, F: Fn(&mut W, &Opening, &[u8]) -> io::Result<()>>(
+    input: &mut R,
+    out: &mut W,
+    replay: F,
+) -> io::Result<()>
+    requires { F.IsAlwaysCallable replay }
+{
+    let mut buffer = [0u8; 65536];
+    for _ in 0..CASES {
+        if !replay_next(input, out, &mut buffer, &replay)? {
+            return Ok(());
+        }
+    }
+    Ok(())
 }

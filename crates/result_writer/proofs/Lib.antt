@@ -4,3 +4,5 @@ pub mod Ascending
 pub mod Spending
 pub mod Placing
 pub mod Answering
+mod Groups
+pub mod Mapped

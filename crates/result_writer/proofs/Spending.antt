@@ -1,4 +1,4 @@
--- The room that numbers take: their groups while they are counted (`CountingGroups`), the sizes while they are taken from the room (`Spending`), and the room for the
+-- The room that numbers take: the sizes while they are taken from the room (`Spending`), and the room for the
 -- whole sheet. Assumes nothing.
 use Prim.Native.Nat.{ℕ, zero, suc, ◌+◌, ◌-◌, ◌*◌, ◌/◌, ◌^◌, ◌<◌, ◌≤◌}
 use native.Mathlib.Omega.{arith}
@@ -19,32 +19,6 @@ use Rattle.results.specs.Result.{Result}
 use Rattle.results.specs.ResultAnswers.{result_bytes}
 use Rattle.result_writer.specs.Contract.{spent}
 use Rattle.std.specs.Prelude.{Option, None, Some, SomeIff, is_some}
-
--- ---- one number
-
--- the groups of `left` are still to be counted
-pub record CountingGroups (n left count : ℕ) : Type 0 where
-  pub more : ℕ
-  pub below : left < 128 ^ suc more
-  pub fits : more + count ≡ 10
-  pub same : length (shortest_within (suc more) left) + count ≡ length (shortest n) + 1
-
-pub counting-starts : (n : ℕ) → n < 2 ^ 64 → CountingGroups n n 1
-unfolding shortest
-counting-starts n h = record { more = 9; below = omega arith; fits = refl; same = refl }
-
-module _ {n left count : ℕ} (C : CountingGroups n left count) where
-  pub counting-goes_on : 128 ≤ left → CountingGroups n (left / 128) (count + 1)
-  counting-goes_on h = go C.more C.below C.fits C.same
-    where
-      go : (m : ℕ) → left < 128 ^ suc m → m + count ≡ 10 → length (shortest_within (suc m) left) + count ≡ length (shortest n) + 1 → CountingGroups n (left / 128) (count + 1)
-      go zero b f s = absurd (omega arith)
-      go (suc m) b f s =
-          let power : 128 ^ suc (suc m) ≡ 128 ^ suc m * 128 = pow-suc 128 (suc m) in
-          record { more = m; below = omega arith; fits = omega arith; same = omega (arith, s, ap length (more_groups (suc m) left h)) }
-
-  pub counting-ends : left < 128 → count ≡ length (shortest n)
-  counting-ends h = omega (arith, C.same, ap length (one_group C.more left h))
 
 -- ---- what is taken from a room
 

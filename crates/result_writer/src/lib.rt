@@ -3,7 +3,7 @@
 
 #![tactic(auto)]
 
-ghost use Rattle.std.specs.Prelude.{◌≡◌, ◌&&◌, ◌+◌, ◌-◌, ◌/◌, ◌%◌, ◌≤◌, ◌<◌, leb, eqb, length};
+ghost use Rattle.std.specs.Prelude.{◌≡◌, ◌&&◌, ◌+◌, ◌-◌, ◌/◌, ◌%◌, ◌≤◌, ◌<◌, leb, eqb, length, map};
 ghost use Rattle.definitions.specs.Refusals.{unless};
 ghost use Rattle.definitions.specs.Scan.{concat_map};
 ghost use Rattle.definitions.specs.Sort.{list_lt};
@@ -16,7 +16,7 @@ ghost use Rattle.result_writer.specs.Contract.{turn_of, key_in, entry_at, Neighb
 
 use byte_writer::Writer;
 use definitions::limits::{NUMBERS_PER_PAIR, NUMBERS_PER_ROW, TALLIES_PER_SPAN};
-use put_shortest::put_shortest;
+use put_shortest::{Entry, put_shortest};
 use refusals::Cause;
 use refusals::answers::Answer;
 
@@ -73,18 +73,11 @@ const LABEL_SIZE: usize = 1;
 
 // ---- the room
 
-// How many bytes a number takes.
+// How many bytes a number takes: one for each seven bits.
 pub fn group_count(n: u64) -> usize
     ensures { result ≡ length (shortest n) }
 {
-    let mut left = n;
-    let mut count = 1;
-    // Kept: how many groups there are shows only as the number is divided, so that a `for` would be left early on every path.
-    while 128 <= left {
-        left /= 128;
-        count += 1;
-    }
-    count
+    (n.max(1).ilog2() / 7) as usize + 1
 }
 
 // Takes the size of a number from the bytes of a lent list that are left, if there are so many. Sizes are taken from the room, since their sum may be beyond
@@ -96,12 +89,12 @@ pub fn spend_number(room: Option<usize>, n: u64) -> Option<usize>
 }
 
 // Takes the size of each of these numbers.
-fn spend_numbers(room: Option<usize>, numbers: &[u64]) -> Option<usize>
-    ensures { result ≡ spent room (length (concat_map shortest numbers.now)) }
+pub fn spend_numbers<T: Entry>(room: Option<usize>, numbers: &[T]) -> Option<usize>
+    ensures { result ≡ spent room (length (concat_map shortest (map T.value numbers.now))) }
 {
     let mut left = room?;
     for &n in numbers {
-        left = left.checked_sub(group_count(n))?;
+        left = left.checked_sub(group_count(n.value()))?;
     }
     Some(left)
 }
@@ -118,12 +111,12 @@ pub fn spend_list(room: Option<usize>, size: usize, numbers: &[u64]) -> Option<u
 // ---- writing
 
 // Writes these numbers.
-fn put_numbers(w: &mut Writer, numbers: &[u64])
-    requires { HasRoom w.old (length (concat_map shortest numbers.now)) }
-    ensures { Appends w.old (concat_map shortest numbers.now) w.new }
+pub fn put_numbers<T: Entry>(w: &mut Writer, numbers: &[T])
+    requires { HasRoom w.old (length (concat_map shortest (map T.value numbers.now))) }
+    ensures { Appends w.old (concat_map shortest (map T.value numbers.now)) w.new }
 {
     for &n in numbers {
-        put_shortest(w, n);
+        put_shortest(w, n.value());
     }
 }
 

@@ -12,7 +12,8 @@ use Rattle.byte_writer.specs.declared.Writer.{Writer}
 use Rattle.byte_writer.specs.Contract.{Appends}
 use Rattle.byte_writer.specs.Chains.{appends_then}
 use Rattle.result_writer.specs.Contract.{spent}
-use Rattle.std.specs.Prelude.{Option}
+use Rattle.std.specs.Prelude.{Option, map}
+use Rattle.result_writer.proofs.Mapped.{themselves}
 use Rattle.result_writer.proofs.Spending.{spent-then}
 use Rattle.sheet_writer.specs.Contract.{opening}
 
@@ -35,21 +36,23 @@ opening-put pass width height p q s t = appends_then (appends_then (appends_then
 
 module _ (pass width height : ℕ) (cells boundaries anchors : List ℕ) where
   parts : List ℕ
-  parts = opening pass width height ++ concat_map shortest cells ++ list_bytes numbers_per_boundary boundaries ++ list_bytes numbers_per_anchor anchors
+  parts = opening pass width height ++ concat_map shortest (map (λ n. n) cells) ++ list_bytes numbers_per_boundary boundaries ++ list_bytes numbers_per_anchor anchors
 
   in_parts : sheet_bytes 3 (stating pass width height cells boundaries anchors) ≡ parts
   unfolding parts sheet_bytes stating opening
-  in_parts = ap (λ l. l ++ list_bytes numbers_per_boundary boundaries ++ list_bytes numbers_per_anchor anchors) (append-nil (opening pass width height ++ concat_map shortest cells))
+  in_parts =
+      ap (λ l. l ++ list_bytes numbers_per_boundary boundaries ++ list_bytes numbers_per_anchor anchors) (append-nil (opening pass width height ++ concat_map shortest cells))
+      ∙ ap (λ l. opening pass width height ++ concat_map shortest l ++ list_bytes numbers_per_boundary boundaries ++ list_bytes numbers_per_anchor anchors) (sym (themselves cells))
 
   pub sheet-length : length (sheet_bytes 3 (stating pass width height cells boundaries anchors))
-      ≡ length (opening pass width height) + length (concat_map shortest cells) + length (list_bytes numbers_per_boundary boundaries) + length (list_bytes numbers_per_anchor anchors)
+      ≡ length (opening pass width height) + length (concat_map shortest (map (λ n. n) cells)) + length (list_bytes numbers_per_boundary boundaries) + length (list_bytes numbers_per_anchor anchors)
   unfolding parts
-  sheet-length = ap length in_parts ∙ four (opening pass width height) (concat_map shortest cells) (list_bytes numbers_per_boundary boundaries) (list_bytes numbers_per_anchor anchors)
+  sheet-length = ap length in_parts ∙ four (opening pass width height) (concat_map shortest (map (λ n. n) cells)) (list_bytes numbers_per_boundary boundaries) (list_bytes numbers_per_anchor anchors)
     where
       four : (a b c d : List ℕ) → length (a ++ b ++ c ++ d) ≡ length a + length b + length c + length d
       four a b c d = simp length-append refl
 
-  pub sheet-put : {o a b c d : Writer} → Appends o (opening pass width height) a → Appends a (concat_map shortest cells) b
+  pub sheet-put : {o a b c d : Writer} → Appends o (opening pass width height) a → Appends a (concat_map shortest (map (λ n. n) cells)) b
       → Appends b (list_bytes numbers_per_boundary boundaries) c → Appends c (list_bytes numbers_per_anchor anchors) d
       → Appends o (sheet_bytes 3 (stating pass width height cells boundaries anchors)) d
   unfolding parts
@@ -58,7 +61,7 @@ module _ (pass width height : ℕ) (cells boundaries anchors : List ℕ) where
       rw in_parts all
 
   pub sheet-spent : (room : Option ℕ) {a b c d e f g : Option ℕ} → a ≡ spent room (length (shortest 3)) → b ≡ spent a (length (shortest pass))
-      → c ≡ spent b (length (shortest width)) → d ≡ spent c (length (shortest height)) → e ≡ spent d (length (concat_map shortest cells))
+      → c ≡ spent b (length (shortest width)) → d ≡ spent c (length (shortest height)) → e ≡ spent d (length (concat_map shortest (map (λ n. n) cells)))
       → f ≡ spent e (length (list_bytes numbers_per_boundary boundaries)) → g ≡ spent f (length (list_bytes numbers_per_anchor anchors))
       → g ≡ spent room (length (sheet_bytes 3 (stating pass width height cells boundaries anchors)))
   sheet-spent room u v w x y z t =
@@ -66,7 +69,7 @@ module _ (pass width height : ℕ) (cells boundaries anchors : List ℕ) where
       let first : ℕ = length (shortest pass) in
       let wide : ℕ = length (shortest width) in
       let high : ℕ = length (shortest height) in
-      let inner : ℕ = length (concat_map shortest cells) in
+      let inner : ℕ = length (concat_map shortest (map (λ n. n) cells)) in
       let lines : ℕ = length (list_bytes numbers_per_boundary boundaries) in
       let points : ℕ = length (list_bytes numbers_per_anchor anchors) in
       let two = spent-then room kind first u v in

@@ -3,14 +3,11 @@
 
 #![tactic(auto)]
 
-ghost use Rattle.std.specs.Prelude.{◌≡◌, length};
-ghost use Rattle.definitions.specs.Scan.{concat_map};
-ghost use Rattle.results.specs.Shortest.{shortest};
+ghost use Rattle.std.specs.Prelude.{◌≡◌, leb, length};
 ghost use Rattle.map_sheets.specs.SheetBytes.{sheet_bytes};
 ghost use Rattle.map_sheets.specs.Writing.{stating, Writes};
 ghost use Rattle.byte_writer.specs.Contract.{HasRoom, Appends};
 ghost use Rattle.refusals.specs.Answers.{answer_in};
-ghost use Rattle.result_writer.specs.Contract.{spent};
 ghost use Rattle.sheet_writer.specs.Contract.{opening, stated};
 
 use byte_writer::Writer;
@@ -19,34 +16,7 @@ use definitions::limits::{NUMBERS_PER_ANCHOR, NUMBERS_PER_BOUNDARY};
 use put_shortest::put_shortest;
 use refusals::Cause;
 use refusals::answers::Answer;
-use result_writer::{group_count, put_list, spend_list, spend_number};
-
-// ---- the room
-
-// Takes the size of each of these cells.
-// Kept: alike `spend_numbers` of result_writer, since a bound of `Into` says nothing of the value that a contract speaks of.
-fn spend_cells(room: Option<usize>, cells: &[u8]) -> Option<usize>
-    ensures { result ≡ spent room (length (concat_map shortest cells.now)) }
-{
-    let mut left = room?;
-    for &cell in cells {
-        left = left.checked_sub(group_count(u64::from(cell)))?;
-    }
-    Some(left)
-}
-
-// ---- writing
-
-// Writes these cells.
-// Kept: alike `put_numbers` of result_writer, since a bound of `Into` says nothing of the value that a contract speaks of.
-fn put_cells(w: &mut Writer, cells: &[u8])
-    requires { HasRoom w.old (length (concat_map shortest cells.now)) }
-    ensures { Appends w.old (concat_map shortest cells.now) w.new }
-{
-    for &cell in cells {
-        put_shortest(w, u64::from(cell));
-    }
-}
+use result_writer::{put_list, put_numbers, spend_list, spend_number, spend_numbers};
 
 const KIND: u64 = 3;
 
@@ -70,7 +40,7 @@ impl Map<'_> {
         let b = spend_number(a, self.pass);
         let c = spend_number(b, self.width);
         let d = spend_number(c, self.height);
-        let e = spend_cells(d, self.cells);
+        let e = spend_numbers(d, self.cells);
         let f = spend_list(e, NUMBERS_PER_BOUNDARY, self.boundaries);
         spend_list(f, NUMBERS_PER_ANCHOR, self.anchors).is_some()
     }
@@ -92,7 +62,7 @@ impl Map<'_> {
         ensures { Appends w.old (sheet_bytes 3 (stated self.entry)) w.new }
     {
         self.put_opening(w);
-        put_cells(w, self.cells);
+        put_numbers(w, self.cells);
         put_list(w, NUMBERS_PER_BOUNDARY, self.boundaries);
         put_list(w, NUMBERS_PER_ANCHOR, self.anchors);
     }

@@ -13,4 +13,4 @@ returns c =
     c.is_some.ensures
     ∙ has_room given.room (length (sheet_bytes 3 (stating given.self.pass given.self.width given.self.height given.self.cells.now given.self.boundaries.now given.self.anchors.now)))
     (sheet-spent given.self.pass given.self.width given.self.height given.self.cells.now given.self.boundaries.now given.self.anchors.now (Some given.room) c.spend_number-a.ensures c.spend_number-b.ensures
-    c.spend_number-c.ensures c.spend_number-d.ensures c.spend_cells-e.ensures c.spend_list-f.ensures c.spend_list.ensures)
+    c.spend_number-c.ensures c.spend_number-d.ensures c.spend_numbers-e.ensures c.spend_list-f.ensures c.spend_list.ensures)

@@ -8,8 +8,8 @@ pub put_opening-requires : goal.put_opening-requires
 put_opening-requires c =
     omega (arith, c.requires, sheet-length c.args.self.pass c.args.self.width c.args.self.height c.args.self.cells.now c.args.self.boundaries.now c.args.self.anchors.now)
 
-pub put_cells-requires : goal.put_cells-requires
-put_cells-requires c =
+pub put_numbers-requires : goal.put_numbers-requires
+put_numbers-requires c =
     omega (
       arith,
       c.requires,
@@ -27,8 +27,8 @@ put_list-requires c = (
     sheet-length c.args.self.pass c.args.self.width c.args.self.height c.args.self.cells.now c.args.self.boundaries.now c.args.self.anchors.now,
     c.put_opening.ensures.put.next_is,
     put-long c.put_opening.ensures.put,
-    c.put_cells.ensures.put.next_is,
-    put-long c.put_cells.ensures.put,
+    c.put_numbers.ensures.put.next_is,
+    put-long c.put_numbers.ensures.put,
   ),
 )
 
@@ -41,8 +41,8 @@ put_list-requires-2 c = (
     sheet-length c.args.self.pass c.args.self.width c.args.self.height c.args.self.cells.now c.args.self.boundaries.now c.args.self.anchors.now,
     c.put_opening.ensures.put.next_is,
     put-long c.put_opening.ensures.put,
-    c.put_cells.ensures.put.next_is,
-    put-long c.put_cells.ensures.put,
+    c.put_numbers.ensures.put.next_is,
+    put-long c.put_numbers.ensures.put,
     c.put_list.ensures.put.next_is,
     put-long c.put_list.ensures.put,
   ),
@@ -51,4 +51,4 @@ put_list-requires-2 c = (
 pub returns : goal.returns
 returns c =
     sheet-put c.args.self.pass c.args.self.width c.args.self.height c.args.self.cells.now c.args.self.boundaries.now c.args.self.anchors.now
-    c.put_opening.ensures c.put_cells.ensures c.put_list.ensures c.put_list-2.ensures
+    c.put_opening.ensures c.put_numbers.ensures c.put_list.ensures c.put_list-2.ensures
