@@ -1,5 +1,5 @@
 -- What is known once the components are proposed, and which of them the pass takes. Definitions only; assumes nothing.
-use Rattle.std.specs.Prelude.{ℕ, ◌*◌, ◌≤◌, ◌<◌, ◌≡◌, Bool, false, ◌&&◌, List, length, Option, MatchOption}
+use Rattle.std.specs.Prelude.{ℕ, ◌+◌, ◌*◌, ◌≤◌, ◌<◌, ◌≡◌, Bool, false, ◌&&◌, List, length, Option, MatchOption}
 use Rattle.definitions.specs.Limits.{max_side}
 use Rattle.definitions.specs.Scan.{any_below_lem}
 use Rattle.definitions.specs.Context.{Context}
@@ -40,6 +40,10 @@ marked_before C owners i j = any_below_lem i (λ k. accepted C owners k && owned
 pub record EndOf (owners : List FoundRegions) (count name n : ℕ) : Type 0 where
   pub upto : n ≤ count
   pub none : (j : ℕ) → n ≤ j → j < count → owned_by name (owner_at owners j) ≡ false
+
+-- the last boundary that it owns, if it owns one
+abbrev pub LastEdge : List FoundRegions → ℕ → ℕ → Option ℕ → Type 0
+LastEdge owners count name last = MatchOption last (EndOf owners count name 0) (λ j. (j < count) × EndOf owners count name (j + 1))
 
 -- the component, the places of its regions, and its ports
 pub record Stretched (C : Context) (pairs names : List ℕ) (owners : List FoundRegions) (i : ℕ) (x : Interior) : Type 0 where

@@ -9,7 +9,7 @@ ghost use Rattle.definitions.specs.Context.{Context};
 ghost use Rattle.laws.specs.FloatLaws.Pixels.{PixelContext};
 ghost use Rattle.interior_proposals.specs.Given.{Lent, SomeLent};
 ghost use Rattle.interior_proposals.specs.Owners.{owned_by, owner_at};
-ghost use Rattle.interior_regions.specs.Marks.{Interiors, SomeInteriors, StandsAt, EndOf};
+ghost use Rattle.interior_regions.specs.Marks.{Interiors, SomeInteriors, StandsAt, LastEdge};
 ghost use Rattle.interior_regions.specs.Places.{region_at, Readable, is_named};
 
 use context::PartitionContext;
@@ -72,21 +72,17 @@ pub fn mark_edges(
     if !on {
         return;
     }
-    for j in 0..count {
-        removed[j] |= owners[j] == FoundRegions::One(name);
+    for (j, &owner) in owners[..count].iter().enumerate() {
+        removed[j] |= owner == FoundRegions::One(name);
     }
 }
 
-// The number after the last boundary that the component with the name owns; 0 where there is none.
-fn end_of(owners: &[FoundRegions; 256], count: usize, name: u32) -> usize
+// The last boundary that the component with the name owns.
+fn last_edge(owners: &[FoundRegions; 256], count: usize, name: u32) -> Option<usize>
     requires { count ≤ max_entries }
-    ensures { EndOf owners.now count name result }
+    ensures { LastEdge owners.now count name result }
 {
-    let last = (0..count).rev().find(|&j| owners[j] == FoundRegions::One(name));
-    match last {
-        None => 0,
-        Some(j) => j + 1,
-    }
+    (0..count).rev().find(|&j| owners[j] == FoundRegions::One(name))
 }
 
 // What stands at boundary i, if ports were found. It is the first edge, and each region of the interior stands in a row of an edge or of a port.
@@ -108,8 +104,9 @@ pub fn interior_at(
         FoundRegions::None | FoundRegions::Several => None,
         FoundRegions::One(name) => {
             let low = i.min(ports.first.min(ports.second));
-            let end = end_of(owners, context.count, name);
-            let high = end.max(ports.first.max(ports.second) + 1);
+            // Boundary i is an edge itself.
+            let last = last_edge(owners, context.count, name).unwrap_or(i);
+            let high = last.max(ports.first.max(ports.second)) + 1;
             Some(Interior {
                 name,
                 begin: REGIONS_PER_PAIR * context.starts[low],

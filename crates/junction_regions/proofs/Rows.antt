@@ -45,14 +45,14 @@ module _ {C : Context} {boundaries marks : List ℕ} {rows : List Candidate} {k 
     allowed-bridge n e = e ∙ ap₂ bridge_of h.first_is ends ∙ rw n
 
     -- n counts the anchored regions
-    pub allowed-union : {r : Bool} {n : ℕ} → eqb row.kind 0 ≡ true → n ≡ bit (mark_at marks row.first) + bit (mark_at marks row.second)
-        → r ≡ union_of (record_of first) (record_of second) s (eqb n 1) → r ≡ is_allowed C row
+    pub allowed-union : {r one : Bool} → eqb row.kind 0 ≡ true → one ≡ eqb (bit (mark_at marks row.first) + bit (mark_at marks row.second)) 1
+        → r ≡ union_of (record_of first) (record_of second) s one → r ≡ is_allowed C row
     unfolding is_allowed union_regions union_of is_local
-    allowed-union {n = n} z m e =
-        e ∙ (λ i. union_of (h.first_is i) (h.second_is i) (ends i) (eqb (anchored i) 1)) ∙ rw z
+    allowed-union {one = one} z m e =
+        e ∙ (λ i. union_of (h.first_is i) (h.second_is i) (ends i) (anchored i)) ∙ rw z
       where
-        anchored : n ≡ bit (C.anchored row.first) + bit (C.anchored row.second)
+        anchored : one ≡ eqb (bit (C.anchored row.first) + bit (C.anchored row.second)) 1
         anchored =
             m
-            ∙ ap₂ (λ a b. bit a + bit b) (sym (h.told.anchored.at row.first h.fits.first_from h.fits.first_to))
+            ∙ ap₂ (λ a b. eqb (bit a + bit b) 1) (sym (h.told.anchored.at row.first h.fits.first_from h.fits.first_to))
             (sym (h.told.anchored.at row.second h.fits.second_from h.fits.second_to))

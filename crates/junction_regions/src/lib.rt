@@ -17,13 +17,13 @@ ghost use Rattle.junction_regions.specs.Tests.{near_middle, near_span, accepted_
 ghost use Rattle.junction_regions.specs.Asked.{OnMap, Asked};
 
 use context::Region;
+use context::region_marks::is_anchored;
 use elevations::Share;
 use geometry::Point;
 use geometry::boundaries::segment_of;
 use geometry::points::{center, point, point_segment_distance};
 use junction_proposals::distances::within_distance;
 use junction_proposals::proposals::Candidate;
-use junction_proposals::unions::anchored_bit;
 use span_geometry::PixelPosition;
 
 const MAX_UNION_RADIUS_PIXELS: f64 = 512.0;
@@ -172,6 +172,6 @@ pub fn is_allowed(
     if !row.kind.is_union() {
         return bridge_region(first, ends.a, ends.b);
     }
-    let anchored = anchored_bit(marks, row.first) + anchored_bit(marks, row.second);
-    union_regions(first, second, ends.a, ends.b, anchored == 1)
+    let one = is_anchored(marks, row.first) != is_anchored(marks, row.second);
+    union_regions(first, second, ends.a, ends.b, one)
 }

@@ -1,18 +1,19 @@
 -- Conflicts of proposals as the code finds them: regions by the kinds of two proposals, one after the other among those taken, and ports by marks. Assumes nothing.
-use Rattle.std.specs.Prelude.{Option}
+use Rattle.std.specs.Prelude.{Option, MatchBool}
+use Rattle.std.specs.List.{AllWithin, HoldsAt}
 use Prim.Native.Nat.{ℕ, zero, suc, ◌<◌}
 use native.Mathlib.Omega.{arith}
-use mathlib.Core.Path.{◌≡◌, refl, ap, ◌∙◌}
+use mathlib.Core.Path.{◌≡◌, refl, sym, ap, ◌∙◌}
 use mathlib.Core.Bool.{Bool, true, false, ◌&&◌, ◌||◌, and-false, true≢false}
 use mathlib.Core.List.{List, ◌∷◌}
 use borrow.Author.Tests.{eqb-true, eqb-false}
-use lib.ListN.{get_or}
+use lib.ListN.{length, get_or}
 use lib.Dec.{eqb}
 use Rattle.definitions.specs.Scan.{any, any_below_lem}
 use Rattle.definitions.specs.Junctions.{Proposal, names_region, region_conflict}
 use Rattle.laws.specs.ListLaws.Disjunction.{disjunction, or_middle}
 use Rattle.laws.specs.ListLaws.Lists.{All, done, more}
-use Rattle.laws.specs.ListLaws.Below.{below_none, below_ext}
+use Rattle.laws.specs.ListLaws.Below.{below_at, below_none, below_ext}
 use Rattle.laws.specs.ListLaws.Scans.{any-picked}
 use Rattle.laws.specs.ListLaws.ScanSteps.{any-either, any_one}
 use Rattle.junction_proposals.specs.declared.proposals.Candidate.{Candidate}
@@ -56,6 +57,13 @@ module _ (q p : Proposal) where
 pub any-taken : (f : Proposal → Bool) (rows : List Candidate) (taken : List ℕ) (t : ℕ) → any f (order_of rows taken t) ≡ any_below_lem t (λ k. f (row_at rows (get_or taken k 0)))
 unfolding order_of
 any-taken f rows taken t = any-picked (λ k. true) (λ k. row_at rows (get_or taken k 0)) f t
+
+-- as `any` over them gives it
+pub any-of_taken : (f : Proposal → Bool) (rows : List Candidate) (taken : List ℕ) (r : Bool)
+    → MatchBool r ((k : ℕ) × (k < length taken) × HoldsAt (λ q. f (row_at rows q) ≡ true) taken k) (AllWithin (λ q. f (row_at rows q) ≡ false) taken 0 (length taken))
+    → r ≡ any f (order_of rows taken (length taken))
+any-of_taken f rows taken true (k, l, h) = sym (any-taken f rows taken (length taken) ∙ below_at (length taken) (λ k. f (row_at rows (get_or taken k 0))) k l (h 0))
+any-of_taken f rows taken false h = sym (any-taken f rows taken (length taken) ∙ below_none (length taken) (λ k. f (row_at rows (get_or taken k 0))) (λ k l. h k 0 (omega arith) l))
 
 -- ---- all that keeps p from being taken, by what the taken ones have marked
 

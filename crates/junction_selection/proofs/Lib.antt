@@ -1,4 +1,3 @@
-pub mod RankLaws
 pub mod Insertion
 pub mod Sorting
 pub mod Lists

@@ -5,7 +5,8 @@ use mathlib.Core.Path.{◌≡◌, refl, sym, ap, ap₂, ◌∙◌, subst}
 use mathlib.Core.Bool.{Bool, true, false, ◌&&◌, ◌||◌, cond, or-false, or-true}
 use Rattle.std.specs.Prelude.{Option, Some}
 use mathlib.Core.List.{List, [], ◌∷◌, ◌++◌}
-use lib.ListN.{length, get_or, set}
+use lib.ListN.{length, get_or, set, take}
+use lib.Seq.{get_or-take, length-take-le}
 use lib.Seq.{get_or-set_same, get_or-set_other}
 use lib.Dec.{eqb}
 use borrow.Author.Tests.{eqb-true, eqb-false}
@@ -60,6 +61,16 @@ marked_more {was} {reserved} {test} {j} {t} h l e =
 pub order-all : (rows : List Candidate) (order : List ℕ) (count n t : ℕ) → ((k : ℕ) → k < n → (row_at rows k).index < count) → Rows order t n → All (λ q. q.index < count) (order_of rows order t)
 unfolding order_of
 order-all rows order count n t below rs = collect-below (λ q. q.index < count) (λ k. Some (row_at rows (get_or order k 0))) t (λ k l. more (below (get_or order k 0) (rs k l)) done)
+
+-- the order that its first numbers are
+pub order-front : (rows : List Candidate) (order : List ℕ) (m : ℕ) → m ≤ length order → order_of rows (take m order) (length (take m order)) ≡ order_of rows order m
+unfolding order_of
+order-front rows order m l =
+    ap (λ n. collect n (λ k. Some (row_at rows (get_or (take m order) k 0)))) (length-take-le m order l)
+    ∙ collect_ext m (λ k. Some (row_at rows (get_or (take m order) k 0))) (λ k. Some (row_at rows (get_or order k 0))) (λ k h. ap (λ x. Some (row_at rows x)) (get_or-take m order k 0 h))
+
+pub rows-front : (order : List ℕ) {m n : ℕ} → m ≤ length order → Rows order m n → (k : ℕ) → k < m → get_or (take m order) k 0 < n
+rows-front order {m} l rs k h = rw (get_or-take m order k 0 h) (rs k h)
 
 -- one more in the order
 order_more : (rows : List Candidate) (taken : List ℕ) (t p : ℕ) → t < length taken → order_of rows (set taken t p) (t + 1) ≡ order_of rows taken t ++ (row_at rows p ∷ [])

@@ -27,6 +27,14 @@ pub record Selecting (rows : List Candidate) (taken : List ℕ) (removed reserve
   pub room : max_proposals ≤ length taken
   pub below : (k : ℕ) → k < n → (row_at rows k).index < count
 
+-- rows whose boundaries have marks
+pub record Selectable (rows : List Candidate) (removed : List Bool) (count n : ℕ) : Type 0 where
+  pub few : n ≤ max_proposals
+  pub whole : n ≤ length rows
+  pub small : count ≤ 256
+  pub removed-long : count ≤ length removed
+  pub below : (k : ℕ) → k < n → (row_at rows k).index < count
+
 -- the first t taken rows are `chosen`, and the marks are those of the boundaries that they remove and reserve
 pub record Standing (full : List (Option declared.Pair)) (rows : List Candidate) (taken : List ℕ) (removed reserved : List Bool) (count n t : ℕ) (chosen : List Proposal) : Type 0 where
   pub are : order_of rows taken t ≡ chosen

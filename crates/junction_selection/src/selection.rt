@@ -4,7 +4,7 @@ ghost use Rattle.definitions.specs.Scan.{any, any_below_lem};
 ghost use Rattle.definitions.specs.Junctions.{Proposal, region_conflict};
 ghost use Rattle.junction_proposals.specs.Rows.{row_at};
 ghost use Rattle.junction_selection.specs.Ranks.{order_of, reserves_at, conflict_at, selected_of, Rows};
-ghost use Rattle.junction_selection.specs.Taken.{Within, Selecting, Standing, Judged, removed_at};
+ghost use Rattle.junction_selection.specs.Taken.{Within, Selectable, Selecting, Standing, Judged, removed_at};
 
 use crate::found::FoundRows;
 use crate::ranks::rank_proposals;
@@ -21,15 +21,6 @@ pub fn reserves(found: &FoundRows, p: usize, j: usize) -> bool
     let first = names_region(found.full[j], row.first);
     let second = names_region(found.full[j], row.second);
     (first | (union & second)) & !(union & (j == row.index))
-}
-
-// Whether a port of row p is removed or reserved.
-fn port_taken(found: &FoundRows, removed: &[bool], reserved: &[bool], p: usize) -> bool
-    requires { Within found.now.rows.now removed.now reserved.now found.now.count p }
-    ensures { result ≡ any_below_lem found.now.count (λ j. reserves_at found.now.full.now (row_at found.now.rows.now p) j
-        && (get_or removed.now j false || get_or reserved.now j false)) }
-{
-    (0..found.count).any(|j| (removed[j] | reserved[j]) & reserves(found, p, j))
 }
 
 // Whether row q, taken, keeps row p from being taken by its regions: two bridges may share their exterior, and nothing else.
@@ -50,36 +41,14 @@ pub fn region_conflict(rows: &[Candidate], q: usize, p: usize) -> bool
     pockets | outward | inward
 }
 
-// Whether the regions of row p are taken by one of the first t taken rows.
-fn region_taken(rows: &[Candidate], taken: &[u32], t: usize, p: usize) -> bool
-    requires sizes { (p < length rows.now) × (t ≤ length taken.now) }
-    requires taken_rows { (k : ℕ) → k < t → get_or taken.now k 0 < length rows.now }
+// Whether the regions of row p are taken by one of the taken rows.
+fn region_taken(rows: &[Candidate], taken: &[u32], p: usize) -> bool
+    requires row_within { p < length rows.now }
+    requires taken_rows { (k : ℕ) → k < length taken.now → get_or taken.now k 0 < length rows.now }
     ensures { result ≡ any (λ q. region_conflict q.kind (row_at rows.now p).kind q (row_at rows.now p))
-        (order_of rows.now taken.now t) }
+        (order_of rows.now taken.now (length taken.now)) }
 {
-    (0..t).any(|k| region_conflict(rows, taken[k] as usize, p))
-}
-
-// Whether one of the first t taken rows conflicts with row p.
-fn is_refused(
-    found: &FoundRows,
-    removed: &[bool],
-    reserved: &[bool],
-    taken: &[u32],
-    t: usize,
-    p: usize,
-) -> bool
-    requires selecting { Selecting found.now.rows.now taken.now removed.now reserved.now found.now.count found.now.n }
-    requires places { (t ≤ found.now.n) × (p < found.now.n) }
-    requires listed { Rows taken.now t found.now.n }
-    ensures { (chosen : List Proposal) →
-        Standing found.now.full.now found.now.rows.now taken.now removed.now reserved.now
-        found.now.count found.now.n t chosen →
-        result ≡ any (λ q. conflict_at found.now.full.now found.now.count q (row_at found.now.rows.now p)) chosen }
-{
-    let own = reserved[found.rows[p].index];
-    let ports = port_taken(found, removed, reserved, p);
-    ports | own | region_taken(found.rows, taken, t, p)
+    taken.iter().any(|&q| region_conflict(rows, q as usize, p))
 }
 
 // Marks the ports of row p.
@@ -91,63 +60,89 @@ fn reserve_ports(found: &FoundRows, reserved: &mut [bool], p: usize)
         ≡ (get_or reserved.old j false || reserves_at found.now.full.now (row_at found.now.rows.now p) j) }
 {
     for j in 0..found.count {
-        reserved[j] = reserved[j] | reserves(found, p, j);
+        reserved[j] |= reserves(found, p, j);
     }
 }
 
-// Takes row p, unless a taken row conflicts with it.
-fn take_if_free(
-    found: &FoundRows,
-    removed: &mut [bool],
-    reserved: &mut [bool],
-    taken: &mut [u32],
-    t: usize,
-    p: usize,
-) -> usize
-    requires selecting { Selecting found.now.rows.now taken.old removed.old reserved.old found.now.count found.now.n }
-    requires places { (t < found.now.n) × (p < found.now.n) }
-    requires listed { Rows taken.old t found.now.n }
-    ensures standing { (chosen : List Proposal) →
-        Standing found.now.full.now found.now.rows.now taken.old removed.old reserved.old
-        found.now.count found.now.n t chosen →
-        Standing found.now.full.now found.now.rows.now
-        taken.new removed.new reserved.new found.now.count found.now.n result
-        (cond (any (λ q. conflict_at found.now.full.now found.now.count q (row_at found.now.rows.now p)) chosen) chosen
-        (chosen ++ (row_at found.now.rows.now p ∷ []))) }
-    ensures bound { result ≤ t + 1 }
-{
-    if is_refused(found, removed, reserved, taken, t, p) {
-        return t;
-    }
-    removed[found.rows[p].index] = true;
-    reserve_ports(found, reserved, p);
-    taken[t] = p as u32;
-    t + 1
+// What is selected so far: the boundaries that are removed, those that are reserved as ports, and the rows taken, of which there are `count`.
+#[derive(Drop)]
+struct Selection<'a> {
+    removed: &'a mut [bool],
+    reserved: [bool; 256],
+    taken: [u32; MAX_PROPOSALS],
+    count: usize,
 }
 
-// Takes the first m rows that the order names, one after the other, where they are free.
-fn select_ranked(
-    found: &FoundRows,
-    order: &[u32],
-    removed: &mut [bool],
-    reserved: &mut [bool],
-    taken: &mut [u32],
-    m: usize,
-)
-    requires selecting { Selecting found.now.rows.now taken.old removed.old reserved.old found.now.count found.now.n }
-    requires sizes { (m ≤ found.now.n) × (m ≤ length order.now) }
-    requires listed { Rows order.now m found.now.n }
+impl Selection<'_> {
+    // Whether a port of row p is removed or reserved.
+    fn port_taken(&self, found: &FoundRows, p: usize) -> bool
+        requires { Within found.now.rows.now self.now.removed.now self.now.reserved found.now.count p }
+        ensures { result ≡ any_below_lem found.now.count (λ j. reserves_at found.now.full.now (row_at found.now.rows.now p) j
+            && (get_or self.now.removed.now j false || get_or self.now.reserved j false)) }
+    {
+        (0..found.count).any(|j| (self.removed[j] | self.reserved[j]) & reserves(found, p, j))
+    }
+
+    // Whether a taken row conflicts with row p.
+    fn refuses(&self, found: &FoundRows, p: usize) -> bool
+        requires selecting { Selecting found.now.rows.now self.now.taken self.now.removed.now self.now.reserved found.now.count found.now.n }
+        requires places { (self.now.count ≤ found.now.n) × (p < found.now.n) }
+        requires listed { Rows self.now.taken self.now.count found.now.n }
+        ensures { (chosen : List Proposal) →
+            Standing found.now.full.now found.now.rows.now self.now.taken self.now.removed.now self.now.reserved
+            found.now.count found.now.n self.now.count chosen →
+            result ≡ any (λ q. conflict_at found.now.full.now found.now.count q (row_at found.now.rows.now p)) chosen }
+    {
+        let own = self.reserved[found.rows[p].index];
+        let ports = self.port_taken(found, p);
+        ports | own | region_taken(found.rows, &self.taken[..self.count], p)
+    }
+
+    // Takes row p, unless a taken row conflicts with it.
+    fn take_if_free(&mut self, found: &FoundRows, p: usize)
+        requires selecting { Selecting found.now.rows.now self.old.taken self.old.removed.now self.old.reserved found.now.count found.now.n }
+        requires places { (self.old.count < found.now.n) × (p < found.now.n) }
+        requires listed { Rows self.old.taken self.old.count found.now.n }
+        ensures same_removed { self.new.removed.ghost_name ≡ self.old.removed.ghost_name }
+        ensures selecting { Selecting found.now.rows.now self.new.taken self.new.removed.now self.new.reserved found.now.count found.now.n }
+        ensures standing { (chosen : List Proposal) →
+            Standing found.now.full.now found.now.rows.now self.old.taken self.old.removed.now self.old.reserved
+            found.now.count found.now.n self.old.count chosen →
+            Standing found.now.full.now found.now.rows.now
+            self.new.taken self.new.removed.now self.new.reserved found.now.count found.now.n self.new.count
+            (cond (any (λ q. conflict_at found.now.full.now found.now.count q (row_at found.now.rows.now p)) chosen) chosen
+            (chosen ++ (row_at found.now.rows.now p ∷ []))) }
+        ensures bound { self.new.count ≤ self.old.count + 1 }
+    {
+        if self.refuses(found, p) {
+            return;
+        }
+        self.removed[found.rows[p].index] = true;
+        reserve_ports(found, &mut self.reserved, p);
+        self.taken[self.count] = p as u32;
+        self.count += 1;
+    }
+}
+
+// Takes the rows that the order names, one after the other, where they are free, and marks their boundaries.
+fn select_ranked(found: &FoundRows, order: &[u32], removed: &mut [bool])
+    requires selectable { Selectable found.now.rows.now removed.old found.now.count found.now.n }
+    requires few { length order.now ≤ found.now.n }
+    requires listed { Rows order.now (length order.now) found.now.n }
     requires removed_clear { (j : ℕ) → j < found.now.count → get_or removed.old j false ≡ false }
-    requires reserved_clear { (j : ℕ) → j < found.now.count → get_or reserved.old j false ≡ false }
     ensures { (j : ℕ) →
         j < found.now.count →
         get_or removed.new j false
-        ≡ any (λ q. eqb j q.index) (selected_of found.now.full.now found.now.rows.now order.now found.now.count m) }
+        ≡ any (λ q. eqb j q.index) (selected_of found.now.full.now found.now.rows.now order.now found.now.count (length order.now)) }
 {
-    let mut t = 0;
-    for k in 0..m {
-        let p = order[k] as usize;
-        t = take_if_free(found, removed, reserved, taken, t, p);
+    let mut selection = Selection {
+        removed,
+        reserved: [false; 256],
+        taken: [0; MAX_PROPOSALS],
+        count: 0,
+    };
+    for &p in order {
+        selection.take_if_free(found, p as usize);
     }
 }
 
@@ -160,8 +155,6 @@ pub fn select_proposals(found: &FoundRows, verdicts: &[bool], removed: &mut [boo
         ≡ removed_at found.now.boundaries.now found.now.full.now found.now.rows.now verdicts.now found.now.count found.now.n j }
 {
     let mut order = [0u32; MAX_PROPOSALS];
-    let mut reserved = [false; 256];
-    let mut taken = [0u32; MAX_PROPOSALS];
     let m = rank_proposals(found, verdicts, &mut order);
-    select_ranked(found, &order, removed, &mut reserved, &mut taken, m);
+    select_ranked(found, &order[..m], removed);
 }

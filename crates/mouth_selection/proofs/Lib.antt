@@ -2,9 +2,9 @@
 mod BestLaws
 pub mod BestSteps
 mod Conflicts
+pub mod Folds
 mod GoneMouths
 mod Greedy
-mod KeyOrder
 mod LeastOfRows
 mod Marks
 pub mod NearLeast

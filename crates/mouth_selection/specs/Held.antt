@@ -9,6 +9,8 @@ use Rattle.mouth_proposals.specs.Rows.{is_outer, rows_of}
 use Rattle.mouth_proposals.specs.Candidates.{is_triangular}
 use Rattle.mouth_proposals.specs.declared.candidates.MouthProposal as declared
 use Rattle.mouth_proposals.specs.declared.mouths.MouthKind.{MouthKind}
+use Rattle.mouth_selection.specs.declared.held.Hold.{Hold}
+use Rattle.mouth_selection.specs.declared.held.Hold.TheVariants.{Shared, Alone}
 
 -- How the taken proposals hold region r: 2 where it is an inner region of one, or any region of a triangle; 1 where it lies outside others only; 0 where none
 -- names it.
@@ -35,6 +37,10 @@ is_refused C taken p = member p.mouth_index (map (λ q. q.mouth_index) taken) ||
 -- how the marks hold region r
 abbrev pub hold_at_lem : List ℕ → ℕ → ℕ
 hold_at_lem marks r = get_or marks (r - 1) 0 / 2
+
+abbrev pub hold_number : Hold → ℕ
+hold_number Shared = 1
+hold_number Alone = 2
 
 -- how a proposal of this kind holds the region outside
 abbrev pub outer_hold : MouthKind → ℕ

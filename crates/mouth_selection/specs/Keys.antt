@@ -1,15 +1,24 @@
 -- The key by which proposals are ranked, read off the lists, and the better of two entries by it. Definitions only; assumes nothing.
-use Rattle.std.specs.Prelude.{ℕ, zero, suc, ◌+◌, ◌*◌, ◌<◌, Bool, true, cond, List, ◌∷◌, ◌++◌, length, get_or, Option, None, Some}
+use Rattle.std.specs.Prelude.{ℕ, zero, suc, ◌+◌, ◌*◌, ◌<◌, Bool, true, cond, List, [], ◌∷◌, ◌++◌, length, get_or, Option, None, Some}
 use Rattle.definitions.specs.Limits.{numbers_per_boundary}
 use Rattle.definitions.specs.Grid.{segment_at}
 use Rattle.definitions.specs.Sort.{list_lt}
 use Rattle.definitions.specs.Context.{endpoints_key}
+use Rattle.geometry.specs.declared.Segment.{Segment}
 use Rattle.mouth_proposals.specs.declared.candidates.Candidate.{Candidate}
+use Rattle.mouth_selection.specs.declared.keys.RankKey.{RankKey}
 
 -- separation bits, mouth and ramp
 unfoldable pub key_at : List ℕ → ℕ → ℕ → ℕ → List ℕ
 unfolding endpoints_key
 key_at boundaries bits m a = bits ∷ endpoints_key (segment_at boundaries (numbers_per_boundary * m)) ++ endpoints_key (segment_at boundaries (numbers_per_boundary * a))
+
+-- the numbers that a key holds, in the order in which they count
+abbrev pub ends_of : Segment → List ℕ
+ends_of s = s.a.x ∷ s.a.y ∷ s.b.x ∷ s.b.y ∷ []
+
+abbrev pub numbers_of : RankKey → List ℕ
+numbers_of k = k.separation ∷ ends_of k.mouth ++ ends_of k.ramp
 
 -- the boundaries of an entry stand in the list
 pub record SafeKey (boundaries : List ℕ) (e : Candidate) : Type 0 where

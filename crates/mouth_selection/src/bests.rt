@@ -20,8 +20,8 @@ fn renew(ramp_ends: &[bool; 256], bests: &mut [Option<Candidate>; 256], count: u
     requires { count ≤ 256 }
     ensures { Renewed ramp_ends.now bests.old bests.new count }
 {
-    for a in 0..count {
-        if ramp_ends[a] {
+    for (a, &is_used) in ramp_ends[..count].iter().enumerate() {
+        if is_used {
             bests[a] = None;
         }
     }
@@ -37,12 +37,7 @@ fn least_best(
     requires safe { (a : ℕ) → a < count → OnO (SafeKey boundaries.now) (get_or bests.now a None) }
     ensures { result ≡ least_of boundaries.now bests.now count }
 {
-    let mut least = None;
-    // Kept: tried as a `fold` over the slice; its proof did not close, since the step is asked to be callable with any best so far (`fold-requires-clause-callable`).
-    for a in 0..count {
-        least = better_of(boundaries, least, bests[a]);
-    }
-    least
+    (0..count).fold(None, |least, a| better_of(boundaries, least, bests[a]))
 }
 
 // The least of the bests; none where no proposal is left.

@@ -1,5 +1,5 @@
-// Regions that taken proposals hold. Half of a region's mark says how: 2 where nothing else may name it, 1 where other mouths may lie outside it too, 0 where none
-// names it. The odd part says that the region is anchored, and stays.
+// Regions that taken proposals hold. Half of a region's mark says how: the number of its `Hold`, and 0 where none names it. The odd part says that the region is
+// anchored, and stays.
 ghost use Rattle.std.specs.Prelude.{◌≡◌, [], ◌∷◌, ℕ, ◌+◌, ◌≤◌, ◌<◌, length, leb};
 ghost use Rattle.definitions.specs.MouthShapes.{regions_of};
 ghost use Rattle.context.specs.Shown.{pair_at, pairs_between};
@@ -7,29 +7,50 @@ ghost use Rattle.context.specs.Rows.{NamedRow};
 ghost use Rattle.mouth_proposals.specs.Rows.{rows_of};
 ghost use Rattle.mouth_proposals.specs.Candidates.{Numbered};
 ghost use Rattle.mouth_selection.specs.Entries.{SafeMouth};
-ghost use Rattle.mouth_selection.specs.Held.{hold_at_lem, outer_hold, outer_held, inner_held, row_held, held_at, mark_held, mark_outer, mark_inner};
+ghost use Rattle.mouth_selection.specs.Held.{hold_at_lem, hold_number, outer_hold, outer_held, inner_held, row_held, held_at, mark_held, mark_outer, mark_inner};
 
 use context::PartitionContext;
 use context::pairs::{Pair, row_at};
 use mouth_proposals::candidates::MouthProposal;
 use mouth_proposals::mouths::MouthKind;
+use std::ops::Range;
 
-// How a proposal holds its inner regions.
-const INNER_HOLD: u16 = 2;
-
-// How a proposal of this kind holds the region outside.
-fn outer_hold(kind: MouthKind) -> u16
-    ensures { result ≡ outer_hold kind }
-{
-    if kind.is_triangular() { 2 } else { 1 }
+// How a proposal holds a region: other mouths may lie outside it too, or nothing else may name it.
+// Kept: the marks are numbers in a list that C lends, which has no room for more, so that a hold is kept there by its number.
+#[derive(Clone, Copy, PartialEq, Eq)]
+enum Hold {
+    Shared,
+    Alone,
 }
 
-// Whether region r is held so that it cannot be held in this way too.
-fn is_held(marks: &[u16], r: u32, hold: u16) -> bool
-    requires { (1 ≤ r) × ((r ≤ length marks.now) × (hold ≤ 2)) }
-    ensures { result ≡ leb 3 (hold_at_lem marks.now r + hold) }
+impl Hold {
+    fn number(self) -> u16
+        ensures { result ≡ hold_number self }
+    {
+        match self {
+            Hold::Shared => 1,
+            Hold::Alone => 2,
+        }
+    }
+
+    // How a proposal of this kind holds the region outside. Its inner regions it holds alone.
+    fn outside(kind: MouthKind) -> Hold
+        ensures { hold_number result ≡ outer_hold kind }
+    {
+        if kind.is_triangular() {
+            Hold::Alone
+        } else {
+            Hold::Shared
+        }
+    }
+}
+
+// Whether region r is held so that it cannot be held in this way too: by two that share it, it can.
+fn is_held(marks: &[u16], r: u32, hold: Hold) -> bool
+    requires { (1 ≤ r) × (r ≤ length marks.now) }
+    ensures { result ≡ leb 3 (hold_at_lem marks.now r + hold_number hold) }
 {
-    3 <= marks[r as usize - 1] / 2 + hold
+    3 <= marks[r as usize - 1] / 2 + hold.number()
 }
 
 // Whether region r is held so that nothing else may name it.
@@ -37,12 +58,12 @@ pub fn region_full(marks: &[u16], r: u32) -> bool
     requires { (1 ≤ r) × (r ≤ length marks.now) }
     ensures { result ≡ leb 2 (hold_at_lem marks.now r) }
 {
-    2 <= marks[r as usize - 1] / 2
+    Hold::Alone.number() <= marks[r as usize - 1] / 2
 }
 
-fn outer_held(marks: &[u16], outer: Option<u32>, hold: u16) -> bool
-    requires { Numbered (length marks.now) outer × (hold ≤ 2) }
-    ensures { result ≡ outer_held marks.now outer hold }
+fn outer_held(marks: &[u16], outer: Option<u32>, hold: Hold) -> bool
+    requires { Numbered (length marks.now) outer }
+    ensures { result ≡ outer_held marks.now outer (hold_number hold) }
 {
     match outer {
         None => false,
@@ -55,7 +76,7 @@ fn inner_region_held(marks: &[u16], r: u32, outer: Option<u32>) -> bool
     requires { (1 ≤ r) × (r ≤ length marks.now) }
     ensures { result ≡ inner_held marks.now outer r }
 {
-    (outer != Some(r)) & is_held(marks, r, INNER_HOLD)
+    (outer != Some(r)) & is_held(marks, r, Hold::Alone)
 }
 
 // Whether a row names a region, other than the one outside, that is held.
@@ -78,7 +99,7 @@ pub fn proposal_held(context: PartitionContext, marks: &[u16], proposal: MouthPr
         kind,
         ..
     } = proposal;
-    outer_held(marks, outer, outer_hold(kind))
+    outer_held(marks, outer, Hold::outside(kind))
         || (context.starts[mouth]..context.starts[mouth + 1]).any(|k| row_held(
             context.pairs,
             marks,
@@ -87,12 +108,12 @@ pub fn proposal_held(context: PartitionContext, marks: &[u16], proposal: MouthPr
         ))
 }
 
-fn hold_region(marks: &mut [u16], r: u32, hold: u16)
-    requires { (1 ≤ r) × ((r ≤ length marks.old) × (hold ≤ 2)) }
-    ensures { marks.new ≡ mark_held hold marks.old r }
+fn hold_region(marks: &mut [u16], r: u32, hold: Hold)
+    requires { (1 ≤ r) × (r ≤ length marks.old) }
+    ensures { marks.new ≡ mark_held (hold_number hold) marks.old r }
 {
     let k = r as usize - 1;
-    marks[k] = marks[k] % 2 + 2 * hold;
+    marks[k] = marks[k] % 2 + 2 * hold.number();
 }
 
 fn hold_inner_region(marks: &mut [u16], r: u32, outer: Option<u32>)
@@ -100,7 +121,7 @@ fn hold_inner_region(marks: &mut [u16], r: u32, outer: Option<u32>)
     ensures { marks.new ≡ mark_inner outer marks.old (r ∷ []) }
 {
     if outer != Some(r) {
-        hold_region(&mut *marks, r, INNER_HOLD);
+        hold_region(&mut *marks, r, Hold::Alone);
     }
 }
 
@@ -114,12 +135,12 @@ fn hold_row(marks: &mut [u16], p: Pair, outer: Option<u32>)
 }
 
 // Holds the regions of these rows, other than the one outside.
-fn hold_inner(pairs: &[u32], marks: &mut [u16], first: usize, end: usize, outer: Option<u32>)
-    requires ordered { first ≤ end }
-    requires named_rows { (k : ℕ) → first ≤ k → k < end → NamedRow pairs.now (length marks.old) k }
-    ensures { marks.new ≡ mark_inner outer marks.old (regions_of (pairs_between pairs.now first end)) }
+fn hold_inner(pairs: &[u32], marks: &mut [u16], rows: Range<usize>, outer: Option<u32>)
+    requires ordered { rows.start ≤ rows.end }
+    requires named_rows { (k : ℕ) → rows.start ≤ k → k < rows.end → NamedRow pairs.now (length marks.old) k }
+    ensures { marks.new ≡ mark_inner outer marks.old (regions_of (pairs_between pairs.now rows.start rows.end)) }
 {
-    for k in first..end {
+    for k in rows.start..rows.end {
         hold_row(&mut *marks, row_at(pairs, k), outer);
     }
 }
@@ -129,7 +150,7 @@ fn hold_outer(marks: &mut [u16], outer: Option<u32>, kind: MouthKind)
     ensures { marks.new ≡ mark_outer (outer_hold kind) outer marks.old }
 {
     if let Some(r) = outer {
-        hold_region(&mut *marks, r, outer_hold(kind));
+        hold_region(&mut *marks, r, Hold::outside(kind));
     }
 }
 
@@ -147,11 +168,6 @@ pub fn hold_proposal(context: PartitionContext, marks: &mut [u16], proposal: Mou
         ..
     } = proposal;
     hold_outer(&mut *marks, outer, kind);
-    hold_inner(
-        context.pairs,
-        &mut *marks,
-        context.starts[mouth],
-        context.starts[mouth + 1],
-        outer,
-    );
+    let rows = context.starts[mouth]..context.starts[mouth + 1];
+    hold_inner(context.pairs, &mut *marks, rows, outer);
 }

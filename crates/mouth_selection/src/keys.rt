@@ -2,32 +2,40 @@
 ghost use Rattle.std.specs.Prelude.{◌≡◌};
 ghost use Rattle.laws.specs.ListLaws.Options.{OnO};
 ghost use Rattle.definitions.specs.Sort.{list_lt};
-ghost use Rattle.mouth_selection.specs.Keys.{SafeKey, key_of, is_better, better_of};
+ghost use Rattle.mouth_selection.specs.Keys.{SafeKey, numbers_of, key_of, is_better, better_of};
 
+use geometry::Segment;
 use geometry::boundaries::segment_of;
-use geometry::endpoints::precedes;
+use geometry::endpoints::canonical;
 use mouth_proposals::candidates::Candidate;
 
-// Whether an entry ranks before another: by the separation, then by the mouth, then by the ramp.
+// What entries are ranked by: the separation, then the endpoints of the mouth, then those of the ramp.
+#[derive(Clone, Copy, PartialEq, Eq, PartialOrd, Ord)]
+struct RankKey {
+    separation: u64,
+    mouth: Segment,
+    ramp: Segment,
+}
+
+impl RankKey {
+    fn of(boundaries: &[u64], entry: Candidate) -> Self
+        requires { SafeKey boundaries.now entry }
+        ensures { numbers_of result ≡ key_of boundaries.now entry }
+    {
+        Self {
+            separation: entry.separation,
+            mouth: canonical(segment_of(boundaries, entry.mouth as usize)),
+            ramp: canonical(segment_of(boundaries, entry.ramp as usize)),
+        }
+    }
+}
+
+// Whether an entry ranks before another.
 fn ranks_before(boundaries: &[u64], entry: Candidate, other: Candidate) -> bool
     requires { SafeKey boundaries.now entry × SafeKey boundaries.now other }
     ensures { result ≡ list_lt (key_of boundaries.now entry) (key_of boundaries.now other) }
 {
-    if entry.separation != other.separation {
-        return entry.separation < other.separation;
-    }
-    let mouth = segment_of(boundaries, entry.mouth as usize);
-    let other_mouth = segment_of(boundaries, other.mouth as usize);
-    if precedes(mouth, other_mouth) {
-        return true;
-    }
-    if precedes(other_mouth, mouth) {
-        return false;
-    }
-    precedes(
-        segment_of(boundaries, entry.ramp as usize),
-        segment_of(boundaries, other.ramp as usize),
-    )
+    RankKey::of(boundaries, entry) < RankKey::of(boundaries, other)
 }
 
 // Whether an entry ranks before the best so far.

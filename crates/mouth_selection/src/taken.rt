@@ -16,7 +16,7 @@ ghost use Rattle.mouth_selection.specs.Selecting.{Gone, Lists};
 use crate::held::{hold_proposal, proposal_held, region_full};
 use context::PartitionContext;
 use context::pairs::{Pair, row_at};
-use geometry::boundaries::{kind_at, ramp_at};
+use geometry::boundaries::{has_ramp, ramp_at, same_kind};
 use mouth_proposals::candidates::MouthProposal;
 
 // The marks of regions, and which boundaries are removed or are a ramp end that is taken.
@@ -32,8 +32,7 @@ fn same_end(boundaries: &[u64], i: usize, j: usize) -> bool
     requires { (numbers_per_boundary * i + 8 < length boundaries.now) × (numbers_per_boundary * j + 8 < length boundaries.now) }
     ensures { result ≡ same_end_lem boundaries.now i j }
 {
-    (ramp_at(boundaries, i), kind_at(boundaries, i))
-        == (ramp_at(boundaries, j), kind_at(boundaries, j))
+    (ramp_at(boundaries, i) == ramp_at(boundaries, j)) & same_kind(boundaries, i, j)
 }
 
 // Marks every boundary that is the ramp end of boundary a.
@@ -43,7 +42,7 @@ fn use_end(context: PartitionContext, ramp_ends: &mut [bool; 256], a: usize)
     ensures { (j : ℕ) → get_or ramp_ends.new j false ≡ end_mark context.entry.boundaries.now a context.entry.count ramp_ends.old j }
 {
     for j in 0..context.count {
-        ramp_ends[j] = ramp_ends[j] | same_end(context.boundaries, a, j);
+        ramp_ends[j] |= same_end(context.boundaries, a, j);
     }
 }
 
@@ -105,7 +104,7 @@ impl Taken<'_> {
             result ≡ true →
             Gone C taken m }
     {
-        if (kind_at(context.boundaries, m) != 0) | self.removed[m] {
+        if has_ramp(context.boundaries, m) | self.removed[m] {
             return true;
         }
         let first = context.starts[m];

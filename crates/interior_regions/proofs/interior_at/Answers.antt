@@ -5,13 +5,13 @@ use mathlib.Core.Path.{◌≡◌, ap, ◌∙◌}
 use mathlib.Core.List.{List}
 use lib.ListN.{length, get_or}
 use borrow.Author.Rules.{rules}
-use Rattle.std.specs.Prelude.{Option, None, Some}
+use Rattle.std.specs.Prelude.{Option, None, Some, unwrap_or}
 use Rattle.definitions.specs.Limits.{max_entries}
 use Rattle.interior_proposals.specs.declared.ports.Ports.{Ports}
 use mathlib.Core.Logic.{⊎_elim}
 use Rattle.context.specs.declared.found_regions.FoundRegions.{FoundRegions}
 use Rattle.interior_proposals.specs.Owners.{is_one}
-use Rattle.interior_regions.specs.Marks.{SomeInteriors, EndOf}
+use Rattle.interior_regions.specs.Marks.{SomeInteriors, EndOf, LastEdge}
 use Rattle.interior_regions.proofs.PlaceLaws.{starts_fit}
 use Rattle.interior_regions.proofs.Stretches.{stretched_none, stretched_other, ports-below, stretched_two}
 use Rattle.interior_regions.proofs.interior_at.Goals as goal
@@ -31,13 +31,19 @@ module _ {pairs starts : List ℕ} {owners : List FoundRegions} {found : List (O
     high : {name n : ℕ} → EndOf owners count name n → max n (max p.first p.second + 1) ≤ count
     high E = omega (arith, after, E.upto)
 
+  -- boundary i stands for the last edge where there is none
+  ended : {name : ℕ} (o : Option ℕ) → LastEdge owners count name o → EndOf owners count name (unwrap_or o i + 1)
+  ended None E = record { upto = omega (arith, l); none = λ j a b. E.none j (omega arith) b }
+  ended (Some j) E = E.1
+
 pub returns-in_err-ports : goal.returns-in_err-ports
 returns-in_err-ports c =
     λ C b t n I. rw c.from_residual.ensures (stretched_none I _ (omega (arith, I.owning.counted, c.requires.i_within)) c.in_err-ports.was)
 
-pub overflow_add-max : goal.overflow_add-max
-overflow_add-max c =
-    omega (arith, c.max.ensures, after c.requires.interiors c.requires.i_within c.in_ok-ports.was, few c.requires.interiors c.requires.i_within)
+pub overflow_add-high : goal.overflow_add-high
+overflow_add-high c =
+    let E = ended c.requires.interiors c.requires.i_within c.last_edge.result c.last_edge.ensures in
+    omega (arith, c.max.ensures, c.max-high.ensures, c.unwrap_or-last.ensures, high c.requires.interiors c.requires.i_within c.in_ok-ports.was E, few c.requires.interiors c.requires.i_within)
 
 pub overflow_mul-result : goal.overflow_mul-result
 overflow_mul-result c =
@@ -46,16 +52,19 @@ overflow_mul-result c =
 
 pub offset_bounds-context-high : goal.offset_bounds-context-high
 offset_bounds-context-high c =
-    omega (arith, c.max.ensures, c.max-high.ensures, high c.requires.interiors c.requires.i_within c.in_ok-ports.was c.end_of-end.ensures, few c.requires.interiors c.requires.i_within)
+    let E = ended c.requires.interiors c.requires.i_within c.last_edge.result c.last_edge.ensures in
+    omega (arith, c.max.ensures, c.max-high.ensures, c.unwrap_or-last.ensures, high c.requires.interiors c.requires.i_within c.in_ok-ports.was E, few c.requires.interiors c.requires.i_within)
 
 pub bounds-context-high : goal.bounds-context-high
 bounds-context-high c =
-    omega (arith, c.max.ensures, c.max-high.ensures, high c.requires.interiors c.requires.i_within c.in_ok-ports.was c.end_of-end.ensures, few c.requires.interiors c.requires.i_within)
+    let E = ended c.requires.interiors c.requires.i_within c.last_edge.result c.last_edge.ensures in
+    omega (arith, c.max.ensures, c.max-high.ensures, c.unwrap_or-last.ensures, high c.requires.interiors c.requires.i_within c.in_ok-ports.was E, few c.requires.interiors c.requires.i_within)
 
 pub overflow_mul-result-in-One : goal.overflow_mul-result-in-One
 overflow_mul-result-in-One c =
-    let upto : c.max-high.result ≤ c.args.context.count = omega (arith, c.max.ensures, c.max-high.ensures, high c.requires.interiors c.requires.i_within c.in_ok-ports.was c.end_of-end.ensures) in
-    search (rules, short c.requires.interiors c.requires.i_within c.max-high.result upto)
+    let E = ended c.requires.interiors c.requires.i_within c.last_edge.result c.last_edge.ensures in
+    let upto : c.max-high.result + 1 ≤ c.args.context.count = omega (arith, c.max.ensures, c.max-high.ensures, c.unwrap_or-last.ensures, high c.requires.interiors c.requires.i_within c.in_ok-ports.was E) in
+    search (rules, short c.requires.interiors c.requires.i_within (c.max-high.result + 1) upto)
 
 pub returns-in-None : goal.returns-in-None
 returns-in-None c = λ C bs t ns I. stretched_other I _ (omega (arith, I.owning.counted, c.requires.i_within)) (⊎_elim (λ e. ap is_one e) (λ e. ap is_one e) c.in-None.is)
@@ -63,5 +72,6 @@ returns-in-None c = λ C bs t ns I. stretched_other I _ (omega (arith, I.owning.
 pub returns-in-One : goal.returns-in-One
 returns-in-One c =
     λ C bs t ns I.
-    stretched_two I c.args.i (omega (arith, I.owning.counted, c.requires.i_within)) c.in_ok-ports.was c.in-One.is c.end_of-end.ensures
-    (c.min-low.ensures ∙ ap (min c.args.i) c.min.ensures) (c.max-high.ensures ∙ ap (λ m. max c.end_of-end.result (m + 1)) c.max.ensures)
+    let E = ended c.requires.interiors c.requires.i_within c.last_edge.result c.last_edge.ensures in
+    stretched_two I c.args.i (omega (arith, I.owning.counted, c.requires.i_within)) c.in_ok-ports.was c.in-One.is E
+    (c.min-low.ensures ∙ ap (min c.args.i) c.min.ensures) (omega (arith, c.max-high.ensures, c.max.ensures, c.unwrap_or-last.ensures))

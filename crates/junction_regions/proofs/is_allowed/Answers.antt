@@ -1,11 +1,7 @@
 -- `is_allowed` meets its contract: what it reads of the row and of the lists is what the context says. Assumes nothing.
-use Prim.Native.Nat.{◌+◌}
-use native.Mathlib.Omega.{arith}
-use mathlib.Core.Path.{sym, ap₂, ◌∙◌}
-use Rattle.laws.specs.ListLaws.Flags.{bit_le}
+use mathlib.Core.Path.{sym, ◌∙◌}
 use Rattle.geometry.proofs.Ends.{limits}
-use Rattle.junction_proposals.specs.Unions.{mark_at}
-use Rattle.junction_proposals.specs.Rows.{row_at}
+use Rattle.junction_proposals.proofs.Shapes.{one_marked}
 use Rattle.junction_regions.proofs.Rows.{ends-are, row-pixels, first_on, second_on, allowed-bridge, allowed-union}
 use Rattle.junction_regions.proofs.is_allowed.Goals as goal
 
@@ -19,11 +15,6 @@ pub returns-then-not-is_union : goal.returns-then-not-is_union
 returns-then-not-is_union c =
     λ C h. allowed-bridge h (ends-are h c.segment_of-ends.ensures) (sym c.is_union.ensures ∙ c.if-not-is_union.true) c.bridge_region.ensures
 
-pub overflow_add-anchored : goal.overflow_add-anchored
-overflow_add-anchored c =
-    let a = c.args in
-    omega (arith, c.anchored_bit.ensures, c.anchored_bit-2.ensures, bit_le (mark_at a.marks.now (row_at a.rows.now a.k).first), bit_le (mark_at a.marks.now (row_at a.rows.now a.k).second))
-
 pub union_regions-requires : goal.union_regions-requires
 union_regions-requires c =
     let (C, h) = c.requires in
@@ -32,4 +23,4 @@ union_regions-requires c =
 
 pub returns : goal.returns
 returns c =
-    λ C h. allowed-union h (ends-are h c.segment_of-ends.ensures) (sym c.is_union.ensures ∙ c.if-not-is_union.false) (ap₂ ◌+◌ c.anchored_bit.ensures c.anchored_bit-2.ensures) c.union_regions.ensures
+    λ C h. allowed-union h (ends-are h c.segment_of-ends.ensures) (sym c.is_union.ensures ∙ c.if-not-is_union.false) (one_marked c.is_anchored.ensures c.is_anchored-2.ensures) c.union_regions.ensures

@@ -1,12 +1,11 @@
--- `junction_selection::selection::select_ranked` meets its contract. The loop's invariant: the state stands for what is selected of the first k.  Assumes nothing.
+-- `junction_selection::selection::select_ranked` meets its contract. The loop's invariant: the state stands for what is selected of the rows passed. Assumes nothing.
 use Prim.Native.Nat.{◌≤◌}
 use mathlib.Core.Path.{◌≡◌}
-use lib.ListN.{length}
 use Rattle.junction_selection.specs.Ranks.{selected_of}
-use Rattle.junction_selection.specs.Taken.{Standing}
+use Rattle.junction_selection.specs.Taken.{Selecting, Standing}
 use Rattle.junction_selection.proofs.selection.select_ranked.Given as goal
 
-abbrev pub invariant-loop-k : goal.invariant-loop-k
-invariant-loop-k l =
-    (l.k ≤ l.m) × ((l.t ≤ l.k) × ((length l.removed ≡ length l.initial.removed) × ((length l.reserved ≡ length l.initial.reserved) × ((length l.taken ≡ length l.initial.taken)
-    × Standing l.found.full.now l.found.rows.now l.taken l.removed l.reserved l.found.count l.found.n l.t (selected_of l.found.full.now l.found.rows.now l.order l.found.count l.k)))))
+abbrev pub invariant-loop-p : goal.invariant-loop-p
+invariant-loop-p l =
+    (l.selection.removed.ghost_name ≡ l.initial.selection.removed.ghost_name) × (l.selection.count ≤ l.p-index) × Selecting l.found.rows.now l.selection.taken l.selection.removed.now l.selection.reserved l.found.count l.found.n
+    × Standing l.found.full.now l.found.rows.now l.selection.taken l.selection.removed.now l.selection.reserved l.found.count l.found.n l.selection.count (selected_of l.found.full.now l.found.rows.now l.order l.found.count l.p-index)

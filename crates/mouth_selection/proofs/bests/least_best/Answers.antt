@@ -1,30 +1,36 @@
--- `bests::least_best` meets its contract. The invariant: `least` is the least of the bests passed. Assumes nothing.
+-- `bests::least_best` meets its contract. What the fold keeps: `least` is the least of the bests passed. Assumes nothing.
 use native.Mathlib.Omega.{arith}
-use mathlib.Core.Path.{sym, ap, ◌∙◌, subst}
-use Rattle.std.specs.Prelude.{None}
+use mathlib.Core.Path.{◌≡◌, refl, sym, ap, ◌∙◌, subst}
+use Prim.Native.Nat.{ℕ}
+use Rattle.std.proofs.Common.{rules, tests}
+use Rattle.std.specs.Prelude.{Option, None}
 use lib.ListN.{get_or}
 use Rattle.laws.specs.ListLaws.Options.{OnO}
-use Rattle.mouth_selection.specs.Keys.{SafeKey, better_of}
+use Rattle.mouth_proposals.specs.declared.candidates.Candidate.{Candidate}
+use Rattle.mouth_selection.specs.Keys.{SafeKey, better_of, least_of}
+use Rattle.mouth_selection.proofs.Folds.{callable_in_fold, kept_by_fold}
 use Rattle.mouth_selection.proofs.RoundLaws.{least_none, least_more, least_keeps}
-use borrow.Author.Rules.{rules}
 use Rattle.mouth_selection.proofs.bests.least_best.Goals as goal
 
-pub loop-a-init : goal.loop-a-init
-loop-a-init c = (search rules, least_none _ _)
-
-pub better_of-least-requires : goal.better_of-least-requires
-better_of-least-requires c =
+pub fold-requires-clause-callable : goal.fold-requires-clause-callable
+fold-requires-clause-callable c =
     let s = c.args in
-    let at = c.loop-a in
-    let few = c.loop-a-test.true in (
-      subst (OnO (SafeKey s.boundaries.now)) (sym at.invariant.1) (least_keeps s.boundaries.now s.bests.now at.a (λ a l. c.requires.safe a (omega (arith, l, few)))),
-      c.requires.safe at.a few,
-    )
+    let bests = s.bests.now in
+    let least : ℕ → Option Candidate → Type 0 = λ x b. b ≡ least_of s.boundaries.now bests x in
+    callable_in_fold _ _ least s.count _ None
+    (λ b x q r l u i w. let h = ap (λ o. better_of s.boundaries.now o (get_or bests x None)) i ∙ sym (least_more s.boundaries.now bests x) in search (rules, tests, h))
+    refl (omega arith) (least_none s.boundaries.now bests)
+    (λ b x l u i.
+    let k : OnO (SafeKey s.boundaries.now) b = subst (OnO (SafeKey s.boundaries.now)) (sym i) (least_keeps s.boundaries.now bests x (λ a m. c.requires.safe a (omega (arith, m, u)))) in
+    let h = c.requires.safe x u in
+    let few = c.requires.few in
+    search (rules, tests))
 
-pub loop-a-preserved : goal.loop-a-preserved
-loop-a-preserved c =
+pub returns : goal.returns
+returns c =
     let s = c.args in
-    let at = c.loop-a in (
-      search rules,
-      c.better_of-least.ensures ∙ ap (λ o. better_of s.boundaries.now o (get_or s.bests.now at.a None)) at.invariant.1 ∙ sym (least_more s.boundaries.now s.bests.now at.a),
-    )
+    let bests = s.bests.now in
+    let least : ℕ → Option Candidate → Type 0 = λ x b. b ≡ least_of s.boundaries.now bests x in
+    kept_by_fold _ _ least s.count _ None
+    (λ b x q r l u i w. let h = ap (λ o. better_of s.boundaries.now o (get_or bests x None)) i ∙ sym (least_more s.boundaries.now bests x) in search (rules, tests, h))
+    refl (omega arith) (least_none s.boundaries.now bests) _ c.fold.ensures.ran

@@ -39,4 +39,4 @@ pub returns : goal.returns
 returns c =
     let s = c.args in
     let at = c.loop-k in
-    at.invariant.1.1 ∙ ap (marked s.outer s.marks.now s.pairs.now s.first) (le_antisymm at.invariant.1.0 c.loop-k-test.false)
+    at.invariant.1.1 ∙ ap (marked s.outer s.marks.now s.pairs.now s.rows.start) (le_antisymm at.invariant.1.0 c.loop-k-test.false)

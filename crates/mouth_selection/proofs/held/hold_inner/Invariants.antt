@@ -5,7 +5,7 @@ use Rattle.mouth_selection.proofs.Marks.{marked}
 use Rattle.mouth_selection.proofs.held.hold_inner.Given as goal
 
 abbrev pub invariant-loop-k : goal.invariant-loop-k
-invariant-loop-k l = (l.first ≤ l.k) × ((l.k ≤ l.end) × (l.marks ≡ marked l.outer l.initial.marks l.pairs l.first l.k))
+invariant-loop-k l = (l.fn.rows.start ≤ l.k) × ((l.k ≤ l.fn.rows.end) × (l.marks ≡ marked l.outer l.initial.marks l.pairs l.fn.rows.start l.k))
 
 abbrev pub decreases-loop-k : goal.decreases-loop-k
-decreases-loop-k l = l.end - l.k
+decreases-loop-k l = l.fn.rows.end - l.k

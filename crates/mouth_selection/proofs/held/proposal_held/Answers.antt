@@ -15,7 +15,7 @@ unfolding held_at
 returns-then-outer_held c =
     let s = c.args in
     let inner = any (row_held s.marks.now s.proposal.outer) (rows_of s.context.pairs.now s.context.starts.now s.proposal.mouth) in
-    c.if-outer_held.true ∙ ap (λ b. b || inner) (sym c.if-outer_held.true ∙ c.outer_held.ensures ∙ ap (outer_held s.marks.now s.proposal.outer) c.outer_hold.ensures)
+    c.if-outer_held.true ∙ ap (λ b. b || inner) (sym c.if-outer_held.true ∙ c.outer_held.ensures ∙ ap (outer_held s.marks.now s.proposal.outer) c.outside.ensures)
 
 pub returns-else-outer_held : goal.returns-else-outer_held
 unfolding held_at
@@ -24,4 +24,4 @@ returns-else-outer_held c =
     let f : Pair → Bool = row_held s.marks.now s.proposal.outer in
     any_from_yields_List (λ k. f (pair_at s.context.pairs.now k)) _ _ c.any.result c.any.ensures.ran (YieldsList-from_range _ _ _ refl refl) (λ x b q k. search (rules, tests))
     ∙ any_in_rows f s.context.pairs.now _ _
-    ∙ ap (λ b. b || any f (rows_of s.context.pairs.now s.context.starts.now s.proposal.mouth)) (sym c.if-outer_held.false ∙ c.outer_held.ensures ∙ ap (outer_held s.marks.now s.proposal.outer) c.outer_hold.ensures)
+    ∙ ap (λ b. b || any f (rows_of s.context.pairs.now s.context.starts.now s.proposal.mouth)) (sym c.if-outer_held.false ∙ c.outer_held.ensures ∙ ap (outer_held s.marks.now s.proposal.outer) c.outside.ensures)

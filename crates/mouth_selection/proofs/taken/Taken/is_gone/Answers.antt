@@ -11,12 +11,12 @@ use Rattle.laws.specs.ListLaws.Tests.{or_split}
 use Rattle.mouth_selection.proofs.GoneMouths.{gone-ramp, gone-removed, gone_held}
 use Rattle.mouth_selection.proofs.taken.Taken.is_gone.Goals as goal
 
-pub returns-then-kind_at-self : goal.returns-then-kind_at-self
-returns-then-kind_at-self c =
+pub returns-then-has_ramp-self : goal.returns-then-has_ramp-self
+returns-then-has_ramp-self c =
     let s = c.args in
     λ C T B P S hm e.
-    ⊎_elim (λ k. gone-ramp C T s.m (ap (λ b. eqb b.kind 0) (B.at s.m hm) ∙ ap (λ k. eqb k 0) (sym c.kind_at.ensures) ∙ not-true _ k)) (gone-removed C T P hm S)
-    (or_split (not (eqb c.kind_at.result 0)) (get_or s.self.now.removed s.m false) c.if-kind_at-self.true)
+    ⊎_elim (λ k. gone-ramp C T s.m (ap (λ b. eqb b.kind 0) (B.at s.m hm) ∙ not-true _ (sym c.has_ramp.ensures ∙ k))) (gone-removed C T P hm S)
+    (or_split c.has_ramp.result (get_or s.self.now.removed s.m false) c.if-has_ramp-self.true)
 
 pub returns : goal.returns
 returns c =
