@@ -1,11 +1,11 @@
 -- Steps joined one by one: what becomes of the bits when a step is added, when a pair is, and that all pairs give the steps of their graph. A pair whose numbers
 -- are both regions joins regions only, so that asking the pair's numbers or the two regions comes to the same. Assumes nothing.
-use Prim.Native.Nat.{ℕ, zero, suc, ◌+◌, ◌*◌, ◌-◌, ◌/◌, ◌%◌, ◌^◌, ◌≤◌, ◌<◌}
+use Prim.Native.Nat.{ℕ, zero, suc, ◌+◌, ◌*◌, ◌-◌, ◌%◌, ◌^◌, ◌≤◌, ◌<◌}
 use native.Mathlib.Omega.{arith}
 use mathlib.Core.Path.{◌≡◌, refl, sym, ap, ◌∙◌}
 use mathlib.Core.Bool.{Bool, true, false, ◌&&◌, ◌||◌, false≢true, or-false}
 use mathlib.Core.List.{List}
-use lib.ListN.{length, get_or, set, length-set}
+use lib.ListN.{length, set, length-set}
 use lib.Seq.{get_or-set_same, get_or-set_other}
 use lib.Dec.{eqb, leb}
 use borrow.Author.Tests.{eqb-true, eqb-false, eq-eqb, ne_eqb, leb-true}
@@ -14,7 +14,8 @@ use Rattle.definitions.specs.RegionRecord.{has_bit}
 use Rattle.laws.specs.ListLaws.Tests.{both, eqb_same}
 use Rattle.laws.specs.ListLaws.Below.{below_ext}
 use Rattle.game.specs.Game.{is_region, is_step}
-use Rattle.game.specs.Graph.{joins, any_joins, graph_of}
+use Rattle.game.specs.Graph.{joins}
+use Rattle.game_search.specs.Edges.{graph_by}
 use Rattle.game_sets.specs.Words.{bit_at, Near}
 use Rattle.game_sets.proofs.Bits.{one_bit_is, shifted_one}
 
@@ -84,32 +85,27 @@ pair_none regions p q x i j h = sym (go (is_region regions p) (is_region regions
 -- ---- all pairs
 
 -- the step that pair k adds
-abbrev pub added : ℕ → List ℕ → ℕ → ℕ → ℕ → Bool
-added regions pairs i j k =
-    let p = get_or pairs (2 * k) 0 in
-    let q = get_or pairs (2 * k + 1) 0 in
-    is_region regions p && is_region regions q && joins p q (suc i) (suc j)
+abbrev pub added : ℕ → (ℕ → ℕ) → (ℕ → ℕ) → ℕ → ℕ → ℕ → Bool
+added regions p q i j k = is_region regions (p k) && is_region regions (q k) && joins (p k) (q k) (suc i) (suc j)
 
-pub record Joined (regions : ℕ) (pairs : List ℕ) (k : ℕ) (near : List ℕ) : Type 0 where
-  pub upto : k ≤ length pairs / 2
-  pub long : length near ≡ 32
-  pub bits : (i j : ℕ) → i < 32 → j < 32 → bit_at near i j ≡ (eqb j i || any_below_lem k (added regions pairs i j))
+pub record Joined (regions n : ℕ) (p q : ℕ → ℕ) (k : ℕ) (near : List ℕ) : Type 0 where
+  pub upto : k ≤ n
+  pub bits : (i j : ℕ) → i < 32 → j < 32 → bit_at near i j ≡ (eqb j i || any_below_lem k (added regions p q i j))
 
-pub joined_none : (regions : ℕ) (pairs near : List ℕ) → length near ≡ 32 → ((i j : ℕ) → i < 32 → j < 32 → bit_at near i j ≡ eqb j i) → Joined regions pairs 0 near
+pub joined_none : (regions n : ℕ) (p q : ℕ → ℕ) (near : List ℕ) → ((i j : ℕ) → i < 32 → j < 32 → bit_at near i j ≡ eqb j i) → Joined regions n p q 0 near
 unfolding any_below_lem
-joined_none regions pairs near l h = record { upto = omega arith; long = l; bits = λ i j k m. h i j k m ∙ sym (or-false (eqb j i)) }
+joined_none regions n p q near h = record { upto = omega arith; bits = λ i j k m. h i j k m ∙ sym (or-false (eqb j i)) }
 
-pub joined_more : (regions : ℕ) (pairs : List ℕ) (k : ℕ) (near near' : List ℕ) → Joined regions pairs k near → k < length pairs / 2 → length near' ≡ 32
-    → ((i j : ℕ) → i < 32 → j < 32 → bit_at near' i j ≡ (bit_at near i j || added regions pairs i j k)) → Joined regions pairs (k + 1) near'
+pub joined_more : (regions n : ℕ) (p q : ℕ → ℕ) (k : ℕ) (near near' : List ℕ) → Joined regions n p q k near → k < n
+    → ((i j : ℕ) → i < 32 → j < 32 → bit_at near' i j ≡ (bit_at near i j || added regions p q i j k)) → Joined regions n p q (k + 1) near'
 unfolding any_below_lem
-joined_more regions pairs k near near' J h l e =
+joined_more regions n p q k near near' J h e =
     record {
       upto = omega arith;
-      long = l;
       bits =
           λ i j a b.
-          e i j a b ∙ ap (λ t. t || added regions pairs i j k) (J.bits i j a b) ∙ or_assoc (eqb j i) (any_below_lem k (added regions pairs i j)) (added regions pairs i j k)
-          ∙ ap (λ n. eqb j i || any_below_lem n (added regions pairs i j)) next;
+          e i j a b ∙ ap (λ t. t || added regions p q i j k) (J.bits i j a b) ∙ or_assoc (eqb j i) (any_below_lem k (added regions p q i j)) (added regions p q i j k)
+          ∙ ap (λ m. eqb j i || any_below_lem m (added regions p q i j)) next;
     }
   where
     next : suc k ≡ k + 1
@@ -161,17 +157,17 @@ any_and zero false f = refl
 any_and (suc n) true f = refl
 any_and (suc n) false f = ap (λ t. t || false) (any_and n false f)
 
-pub joined-near : (regions : ℕ) (pairs near : List ℕ) (k goal : ℕ) → Joined regions pairs k near → length pairs / 2 ≤ k → Near (graph_of regions pairs goal) near
-unfolding is_step graph_of any_joins
-joined-near regions pairs near k goal J h i j a b =
-    J.bits i j a b ∙ ap (λ n. eqb j i || any_below_lem n (added regions pairs i j)) whole
+pub joined-near : (regions n : ℕ) (p q : ℕ → ℕ) (near : List ℕ) (k goal : ℕ) → Joined regions n p q k near → n ≤ k → Near (graph_by regions n p q goal) near
+unfolding is_step graph_by
+joined-near regions n p q near k goal J h i j a b =
+    J.bits i j a b ∙ ap (λ m. eqb j i || any_below_lem m (added regions p q i j)) whole
     ∙ ap (λ t. eqb j i || t)
-    (below_ext (length pairs / 2) (added regions pairs i j) (λ m. (is_region regions (suc i) && is_region regions (suc j)) && joins (get_or pairs (2 * m) 0) (get_or pairs (2 * m + 1) 0) (suc i) (suc j))
-    (λ m l. same_regions regions (get_or pairs (2 * m) 0) (get_or pairs (2 * m + 1) 0) (suc i) (suc j))
-    ∙ any_and (length pairs / 2) (is_region regions (suc i) && is_region regions (suc j)) (λ m. joins (get_or pairs (2 * m) 0) (get_or pairs (2 * m + 1) 0) (suc i) (suc j)))
-    ∙ (λ m. same m || twice (is_region regions (suc i)) (is_region regions (suc j)) (any_below_lem (length pairs / 2) (λ m. joins (get_or pairs (2 * m) 0) (get_or pairs (2 * m + 1) 0) (suc i) (suc j))) m)
+    (below_ext n (added regions p q i j) (λ m. (is_region regions (suc i) && is_region regions (suc j)) && joins (p m) (q m) (suc i) (suc j))
+    (λ m l. same_regions regions (p m) (q m) (suc i) (suc j))
+    ∙ any_and n (is_region regions (suc i) && is_region regions (suc j)) (λ m. joins (p m) (q m) (suc i) (suc j)))
+    ∙ (λ m. same m || twice (is_region regions (suc i)) (is_region regions (suc j)) (any_below_lem n (λ m. joins (p m) (q m) (suc i) (suc j))) m)
   where
-    whole : k ≡ length pairs / 2
+    whole : k ≡ n
     whole = omega (arith, J.upto)
 
     twice : (c d x : Bool) → ((c && d) && x) ≡ (d && (c && d && x))

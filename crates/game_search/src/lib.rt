@@ -3,14 +3,14 @@
 
 #![tactic(auto)]
 
-ghost use Rattle.std.specs.Prelude.{◌≡◌, ◌&&◌, cond, ℕ, ◌/◌, ◌%◌, ◌<◌, eqb, length, get_or, replicate};
+ghost use Rattle.std.specs.Prelude.{◌≡◌, ◌&&◌, cond, ℕ, ◌/◌, ◌%◌, ◌<◌, eqb, get_or, replicate};
 ghost use Rattle.game.specs.Game.{Game};
 ghost use Rattle.game_sets.specs.Words.{Plays};
 ghost use Rattle.game_search.specs.Words.{Sized, Swept, set_for, is_new, ranked_by, Ranked};
 
 pub mod neighbours;
 
-use game_sets::moves::{guard_row, runner_row};
+use game_sets::board::{Board, MAX_REGIONS};
 use game_sets::sets::has;
 
 // One more than the places of 33 regions, of which each sweep but the last finds one, and one for the last.
@@ -21,20 +21,19 @@ const RANKS_PER_RUNNER: usize = 64;
 // Of each region of the guard the runner's regions from which he wins, where the runner is to move and where the guard is.
 #[derive(Clone, Copy, PartialEq, Eq)]
 struct Won {
-    runner: [u32; 32],
-    guard: [u32; 32],
+    runner: [u32; MAX_REGIONS],
+    guard: [u32; MAX_REGIONS],
 }
 
 // For each region of the guard, one move more.
-fn sweep(near: &[u32; 32], regions: usize, goal: usize, won: &Won) -> Won
-    requires { Sized regions goal × (length won.now.runner ≡ 32) × (length won.now.guard ≡ 32) }
-    ensures swept { Swept near.now regions goal won.now.runner won.now.guard result.runner result.guard }
-    ensures lengths { (length result.runner ≡ 32) × (length result.guard ≡ 32) }
+fn sweep(board: &Board, won: &Won) -> Won
+    requires { Sized board.now.regions board.now.goal }
+    ensures { Swept board.now.near board.now.regions board.now.goal won.now.runner won.now.guard result.runner result.guard }
 {
     let mut next = *won;
-    for g in 0..regions {
-        next.runner[g] = runner_row(near, regions, goal, won.guard[g], g);
-        next.guard[g] = guard_row(near, regions, goal, &won.runner, g);
+    for g in 0..board.regions {
+        next.runner[g] = board.runner_row(won.guard[g], g);
+        next.guard[g] = board.guard_row(&won.runner, g);
     }
     next
 }
@@ -63,15 +62,14 @@ fn rank_of(old: u32, new: u32, r: usize, had: u32, rank: u32) -> u32
 
 // Ranks the places of one guard's region and turn that are in the new set and not in the old one. `at` is where the first of them has its rank.
 fn put_row(old: u32, new: u32, at: usize, rank: u32, ranks: &mut [u32; 2048])
-    requires { (at < 64) × (length ranks.old ≡ 2048) }
-    ensures ranks { (i : ℕ) → i < 2048 → get_or ranks.new i 0
+    requires { at < 64 }
+    ensures { (i : ℕ) → i < 2048 → get_or ranks.new i 0
         ≡ cond (eqb (i % 64) at && is_new old new (i / 64)) rank (get_or ranks.old i 0) }
-    ensures ranks_length { length ranks.new ≡ 2048 }
 {
     if old == new {
         return;
     }
-    for r in 0..32 {
+    for r in 0..MAX_REGIONS {
         let i = RANKS_PER_RUNNER * r + at;
         ranks[i] = rank_of(old, new, r, ranks[i], rank);
     }
@@ -79,10 +77,8 @@ fn put_row(old: u32, new: u32, at: usize, rank: u32, ranks: &mut [u32; 2048])
 
 // Ranks the places that a sweep found: those in its sets, `next`, and not in those before.
 fn put_ranks(won: &Won, next: &Won, rank: u32, ranks: &mut [u32; 2048])
-    requires { length ranks.old ≡ 2048 }
-    ensures ranks { (i : ℕ) → i < 2048 → get_or ranks.new i 0
+    ensures { (i : ℕ) → i < 2048 → get_or ranks.new i 0
         ≡ ranked_by won.now.runner won.now.guard next.now.runner next.now.guard rank ranks.old i }
-    ensures ranks_length { length ranks.new ≡ 2048 }
 {
     for at in 0..RANKS_PER_RUNNER {
         put_row(set_for(won, at), set_for(next, at), at, rank, ranks);
@@ -90,17 +86,18 @@ fn put_ranks(won: &Won, next: &Won, rank: u32, ranks: &mut [u32; 2048])
 }
 
 // The ranks of all places.
-pub fn search(near: &[u32; 32], regions: usize, goal: usize, ranks: &mut [u32; 2048])
-    requires { Sized regions goal × (ranks.old ≡ replicate 2048 0) }
-    ensures ranked { (G : Game) → Plays near.now regions goal G → Ranked G ranks.new }
-    ensures ranks_length { length ranks.new ≡ 2048 }
+// Kept: 0 for a place that is not won, as `rank_of` of the definitions has it; Options would take twice the room and be turned into these numbers in each
+// contract.
+pub fn search(board: &Board, ranks: &mut [u32; 2048])
+    requires { Sized board.now.regions board.now.goal × (ranks.old ≡ replicate 2048 0) }
+    ensures { (G : Game) → Plays board.now.near board.now.regions board.now.goal G → Ranked G ranks.new }
 {
     let mut won = Won {
-        runner: [0; 32],
-        guard: [0; 32],
+        runner: [0; MAX_REGIONS],
+        guard: [0; MAX_REGIONS],
     };
     for moves in 0..MAX_SWEEPS {
-        let next = sweep(near, regions, goal, &won);
+        let next = sweep(board, &won);
         if next == won {
             return;
         }

@@ -1,18 +1,18 @@
--- The digits of a number, the last first: what holds while they are counted (`Counting`) and while they are written (`Writing`). Assumes nothing.
-use Prim.Native.Nat.{ℕ, zero, suc, ◌+◌, ◌-◌, ◌/◌, ◌%◌, ◌^◌, ◌≤◌, ◌<◌}
+-- The digits of a number, written from the first on: those of its places down to one (`Written`). Assumes nothing.
+use Prim.Native.Nat.{ℕ, suc, ◌+◌, ◌-◌, ◌/◌, ◌%◌, ◌^◌, ◌≤◌, ◌<◌}
 use native.Mathlib.Omega.{arith}
-use native.Mathlib.Nat.{pow-suc, div-lt_iff_lt-mul}
-use mathlib.Core.Path.{◌≡◌, refl, sym, ap, ◌∙◌}
-use mathlib.Core.Bool.{Bool, true, false, cond}
+use native.Mathlib.Nat.{add-zero, pow-suc, pow-le-pow_right, div-one, div-lt_iff_lt-mul, div-div-eq-div-mul, le-div_iff_mul-le}
+use mathlib.Core.Path.{◌≡◌, refl, sym, ap, subst, ◌∙◌}
 use mathlib.Core.List.{List, [], ◌∷◌, ◌++◌}
-use borrow.Author.Tests.{lt-ltb, le-ltb}
+use mathlib.Core.Bool.{Bool, true, false}
 use lib.Dec.{ltb}
-use lib.ListN.{length, set, length-append, length-set}
-use lib.Seq.{sets}
+use borrow.Author.Tests.{ltb-true, ltb-false, lt-ltb, le-ltb}
+use lib.ListN.{length, length-append}
 use Rattle.definitions.specs.Printed.{digits, decimal}
-use Rattle.laws.specs.ListLaws.Overwritten.{sets_append, sets_later}
-use Rattle.byte_writer.specs.Contract.{Put}
-use Rattle.printed.specs.Contract.{most_digits}
+use Rattle.byte_writer.specs.declared.Writer.{Writer}
+use Rattle.byte_writer.specs.Contract.{HasRoom, Appends}
+use Rattle.byte_writer.specs.Chains.{appends_then, appends_long}
+use Rattle.printed.specs.Contract.{most_digits, DigitCount}
 
 digits_last : (most n : ℕ) → n < 10 → digits (suc most) n ≡ (48 + n) ∷ []
 unfolding digits
@@ -22,106 +22,76 @@ digits_more : (most n : ℕ) → 10 ≤ n → digits (suc most) n ≡ digits mos
 unfolding digits
 digits_more most n h = rw (le-ltb n 10 h) refl
 
-digits_some : (most n : ℕ) → 1 ≤ length (digits (suc most) n)
+-- the digits of all places from `place` on
+unfoldable pub above : ℕ → ℕ → List ℕ
 unfolding digits
-digits_some most n = go (ltb n 10)
-  where
-    go : (t : Bool) → 1 ≤ length (cond t ((48 + n) ∷ []) (digits most (n / 10) ++ ((48 + n % 10) ∷ [])))
-    go true = omega arith
-    go false = simp length-append (omega arith)
+above n place = digits (most_digits - place) (n / 10 ^ place)
 
--- a number of at most `more` + 1 digits, and of two or more, without its last digit
-record Shorter (left more : ℕ) : Type 0 where
-  less : ℕ
-  more_is : more ≡ suc less
-  few : left / 10 < 10 ^ suc less
-  same : digits (suc more) left ≡ digits (suc less) (left / 10) ++ ((48 + left % 10) ∷ [])
+above_all : (n : ℕ) → above n 0 ≡ decimal n
+unfolding above decimal
+above_all n = ap (λ m. digits 20 m) (div-one n)
 
-shorter : (left more : ℕ) → left < 10 ^ suc more → 10 ≤ left → Shorter left more
-shorter left zero f h = absurd (omega arith)
-shorter left (suc less) f h =
-    record {
-      less = less;
-      more_is = refl;
-      few = (div-lt_iff_lt-mul {k = 10} (omega arith)).1 (rw (pow-suc 10 (suc less)) at f);
-      same = digits_more (suc less) left h;
-    }
+pub some_power : (place : ℕ) → 0 < 10 ^ place
+some_power place = pow-le-pow_right {n = 10} (omega arith) {i = 0} {j = place} (omega arith)
 
--- ---- counting
+module _ {n count : ℕ} (D : DigitCount n count) where
+  -- the first digit
+  above_first : (place : ℕ) → suc place ≡ count → above n place ≡ (48 + n / 10 ^ place % 10) ∷ []
+  unfolding above
+  above_first place e =
+      let more : most_digits - place ≡ suc (most_digits - suc place) = omega (arith, D.most, e) in
+      let power : n < 10 ^ suc place = subst (λ k. n < 10 ^ k) (sym e) D.enough in
+      let few : n / 10 ^ place < 10 = (div-lt_iff_lt-mul {k = 10 ^ place} (some_power place)).1 (omega (arith, power, pow-suc 10 place)) in
+      let last : n / 10 ^ place ≡ n / 10 ^ place % 10 = omega (arith, few) in
+      ap (λ m. digits m (n / 10 ^ place)) more ∙ digits_last (most_digits - suc place) (n / 10 ^ place) few ∙ ap (λ d. (48 + d) ∷ []) last
 
--- the digits of `left` are still to be counted, and the others are
-pub record Counting (n left count : ℕ) : Type 0 where
-  pub more : ℕ
-  pub few : left < 10 ^ suc more
-  pub fits : more + count ≡ most_digits
-  pub same : length (digits (suc more) left) + count ≡ length (decimal n) + 1
+  -- one more
+  above_next : (place : ℕ) → suc place < count → above n place ≡ above n (suc place) ++ ((48 + n / 10 ^ place % 10) ∷ [])
+  unfolding above
+  above_next place h =
+      let more : most_digits - place ≡ suc (most_digits - suc place) = omega (arith, D.most, h) in
+      let higher : 10 ^ suc place ≤ 10 ^ (count - 1) = pow-le-pow_right {n = 10} (omega arith) {i = suc place} {j = count - 1} (omega (arith, h)) in
+      let several : 10 ≤ n / 10 ^ place = (le-div_iff_mul-le {k = 10 ^ place} (some_power place)).1 (omega (arith, higher, D.no_more (omega (arith, h)), pow-suc 10 place)) in
+      ap (λ m. digits m (n / 10 ^ place)) more
+      ∙ digits_more (most_digits - suc place) (n / 10 ^ place) several
+      ∙ ap (λ m. digits (most_digits - suc place) m ++ ((48 + n / 10 ^ place % 10) ∷ [])) (div-div-eq-div-mul n (10 ^ place) 10 ∙ ap (λ m. n / m) (sym (pow-suc 10 place)))
 
-pub counting-starts : (n : ℕ) → n < 2 ^ 64 → Counting n n 1
-unfolding decimal
-counting-starts n h = record { more = 19; few = omega arith; fits = refl; same = refl }
+-- the digits of the places from `place` on are written
+pub record Written (old : Writer) (n count place : ℕ) (now : Writer) : Type 0 where
+  pub bytes : List ℕ
+  pub so_far : Appends old bytes now
+  pub long : length bytes + place ≡ count
+  pub are : place < count → bytes ≡ above n place
 
-module _ {n left count : ℕ} (C : Counting n left count) where
-  pub counting-goes_on : 10 ≤ left → Counting n (left / 10) (count + 1)
-  counting-goes_on h =
-      let s = shorter left C.more C.few h in
+pub written_none : (old : Writer) (n count : ℕ) → Written old n count count old
+written_none old n count =
+    record { bytes = []; so_far = record { put = record { stored = refl; next_is = sym (add-zero old.at) }; same = refl }; long = omega arith; are = λ h. absurd (omega arith) }
+
+nothing : (l : List ℕ) → length l ≡ 0 → l ≡ []
+nothing [] e = refl
+nothing (k ∷ l) e = absurd (omega arith)
+
+module _ {old now : Writer} {n count place : ℕ} (D : DigitCount n count) (W : Written old n count place now) where
+  pub written_room : HasRoom old most_digits → 0 < place → HasRoom now 1
+  written_room r h = omega (arith, r, h, D.most, W.long, W.so_far.put.next_is, appends_long W.so_far)
+
+  pub written_more : (k : ℕ) → suc k ≡ place → {now' : Writer} {byte : ℕ} → byte ≡ 48 + n / 10 ^ k % 10 → Appends now (byte ∷ []) now' → Written old n count k now'
+  written_more k e {byte = byte} b A =
       record {
-        more = s.less;
-        few = s.few;
-        fits = omega (arith, C.fits, s.more_is);
-        same = omega (arith, C.same, simp length-append at (ap length s.same));
+        bytes = W.bytes ++ (byte ∷ []);
+        so_far = appends_then W.so_far A;
+        long = simp length-append (omega (arith, W.long, e));
+        are = λ h. go (ltb (suc k) count) refl;
       }
+    where
+      go : (more : Bool) → ltb (suc k) count ≡ more → W.bytes ++ (byte ∷ []) ≡ above n k
+      go true t =
+          let some = ltb-true (suc k) count t in
+          ap (λ l. l ++ (byte ∷ [])) (W.are (omega (arith, some, e)) ∙ ap (above n) (sym e)) ∙ ap (λ d. above n (suc k) ++ (d ∷ [])) b ∙ sym (above_next D k some)
+      go false t =
+          let last : suc k ≡ count = omega (arith, ltb-false (suc k) count t, W.long, e) in
+          ap (λ l. l ++ (byte ∷ [])) (nothing W.bytes (omega (arith, W.long, e, last))) ∙ ap (λ d. d ∷ []) b ∙ sym (above_first D k last)
 
-  pub counting-ends : left < 10 → (count ≡ length (decimal n)) × (1 ≤ count) × (count ≤ most_digits)
-  unfolding decimal
-  counting-ends h =
-      let e : count ≡ length (decimal n) = omega (arith, C.same, ap length (digits_last C.more left h)) in
-      (e, omega (arith, digits_some 19 n), omega (arith, C.fits))
-
--- ---- writing
-
--- the digits of `left` are still to be written, up to `place`, and the others are
-pub record Writing (old : List ℕ) (at n : ℕ) (new : List ℕ) (left place : ℕ) : Type 0 where
-  pub more : ℕ
-  pub few : left < 10 ^ suc more
-  pub place_is : place + 1 ≡ at + length (digits (suc more) left)
-  pub inside : place < length old
-  pub long : length new ≡ length old
-  pub same : sets new at (digits (suc more) left) ≡ sets old at (decimal n)
-
-pub writing_starts : (old : List ℕ) (at n count : ℕ) → n < 2 ^ 64 → at + most_digits ≤ length old → (count ≡ length (decimal n)) × (1 ≤ count) × (count ≤ most_digits) → Writing old at n old n (at + count - 1)
-unfolding decimal
-writing_starts old at n count f r c =
-    record { more = 19; few = omega arith; place_is = omega (arith, c.0, c.1); inside = omega (arith, c.1, c.2); long = refl; same = refl }
-
-module _ {old new : List ℕ} {at n left place : ℕ} (W : Writing old at n new left place) where
-  -- two digits are left, so that there is a place before this one
-  pub writing_before : 10 ≤ left → 1 ≤ place
-  writing_before h =
-      let s = shorter left W.more W.few h in
-      omega (arith, W.place_is, simp length-append at (ap length s.same), digits_some s.less (left / 10))
-
-  pub writing_goes_on : 10 ≤ left → Writing old at n (set new place (48 + left % 10)) (left / 10) (place - 1)
-  writing_goes_on h =
-      let s = shorter left W.more W.few h in
-      let b = writing_before h in
-      let p : at + length (digits (suc s.less) (left / 10)) ≡ place = omega (arith, W.place_is, simp length-append at (ap length s.same)) in
-      record {
-        more = s.less;
-        few = s.few;
-        place_is = omega arith;
-        inside = omega (arith, W.inside);
-        long = length-set new place (48 + left % 10) ∙ W.long;
-        same = sets_later new at (digits (suc s.less) (left / 10)) place (48 + left % 10) (omega arith)
-            ∙ ap (λ k. set (sets new at (digits (suc s.less) (left / 10))) k (48 + left % 10)) (sym p)
-            ∙ sym (sets_append new at (digits (suc s.less) (left / 10)) ((48 + left % 10) ∷ []))
-            ∙ ap (sets new at) (sym s.same)
-            ∙ W.same;
-      }
-
-  pub writing_ends : left < 10 → {last count : ℕ} → last ≡ 48 + left → count ≡ length (decimal n) → Put old at (decimal n) (set new place last) (at + count)
-  writing_ends h d c =
-      let p : place ≡ at = omega (arith, W.place_is, ap length (digits_last W.more left h)) in
-      record {
-        stored = ap (set new place) d ∙ ap (λ k. set new k (48 + left)) p ∙ ap (sets new at) (sym (digits_last W.more left h)) ∙ W.same;
-        next_is = ap (λ k. at + k) c;
-      }
+pub written_all : {old now : Writer} {n count : ℕ} → DigitCount n count → Written old n count 0 now → Appends old (decimal n) now × (now.at ≤ old.at + most_digits)
+written_all {old} {now} {n} D W =
+    (subst (λ l. Appends old l now) (W.are (omega (arith, D.some)) ∙ above_all n) W.so_far, omega (arith, W.so_far.put.next_is, W.long, D.most))

@@ -1,3 +1,3 @@
-pub mod Digits
-pub mod Places
-pub mod Listing
+mod Places
+mod Digits
+mod Listing

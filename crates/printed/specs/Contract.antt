@@ -1,14 +1,20 @@
 -- How much room the functions that write bytes ask for, and what they promise. Definitions only; assumes nothing.
-use Rattle.std.specs.Prelude.{ℕ, ◌*◌, ◌≡◌, List, ◌++◌, length, take}
-use Rattle.definitions.specs.Limits.{numbers_per_row}
+use Rattle.std.specs.Prelude.{ℕ, ◌-◌, ◌^◌, ◌≤◌, ◌<◌, ◌≡◌, List, length}
 use Rattle.definitions.specs.Lists.{overwrite}
 use Rattle.definitions.specs.Scan.{concat_map}
-use Rattle.definitions.specs.Rows.{Row, flat_rows}
-use Rattle.definitions.specs.Printed.{kept_line, row_line}
+use Rattle.definitions.specs.Printed.{row_line}
+use Rattle.laws.specs.ListLaws.FlatRows.{row_at}
 
 -- the digits of a number of 64 bits
 abbrev pub most_digits : ℕ
 most_digits = 20
+
+-- how many digits a number has
+pub record DigitCount (n count : ℕ) : Type 0 where
+  pub some : 1 ≤ count
+  pub most : count ≤ most_digits
+  pub enough : n < 10 ^ count
+  pub no_more : 2 ≤ count → 10 ^ (count - 1) ≤ n
 
 -- room for five numbers, each with a byte behind it
 abbrev pub row_room : ℕ
@@ -23,7 +29,6 @@ pub record Printed (bytes old new : List ℕ) (answer : ℕ) : Type 0 where
   pub stored : new ≡ overwrite bytes old
   pub length_is : answer ≡ length bytes
 
--- the kept list of the rows that the output begins with
-abbrev pub KeptPrinted : List ℕ → ℕ → ℕ → List ℕ → List ℕ → ℕ → Type 0
-KeptPrinted output kept count old new answer =
-    (rows : List Row) → take (numbers_per_row * kept) output ≡ flat_rows rows → Printed (kept_line kept count ++ concat_map row_line rows) old new answer
+-- the lines of rows, of whose numbers each list has one behind the other
+abbrev pub row_lines : List (List ℕ) → List ℕ
+row_lines rows = concat_map (λ row. row_line (row_at row 0)) rows

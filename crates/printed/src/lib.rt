@@ -3,32 +3,25 @@
 #![tactic(auto)]
 
 ghost use Rattle.std.specs.Prelude.{◌≡◌, [], ◌∷◌, ◌++◌, ◌+◌, ◌*◌, ◌≤◌, length};
-ghost use Rattle.definitions.specs.Limits.{numbers_per_row};
-ghost use Rattle.definitions.specs.Scan.{concat_map};
-ghost use Rattle.definitions.specs.Printed.{text, decimal, refused_line, row_line};
-ghost use Rattle.laws.specs.ListLaws.FlatRows.{row_at, rows_in_lem};
+ghost use Rattle.definitions.specs.Printed.{text, decimal, kept_line, refused_line, row_line};
+ghost use Rattle.laws.specs.ListLaws.FlatRows.{row_at};
+ghost use Rattle.refusals.specs.Refusals.{number_of};
 ghost use Rattle.byte_writer.specs.Contract.{HasRoom, Appends};
-ghost use Rattle.printed.specs.Contract.{most_digits, row_room, line_room, Printed, KeptPrinted};
+ghost use Rattle.printed.specs.Contract.{most_digits, row_room, line_room, DigitCount, Printed, row_lines};
 
 use byte_writer::Writer;
 use definitions::limits::NUMBERS_PER_ROW;
+use refusals::Refusal;
 
 const SPACE: u8 = b' ';
 
 const NEWLINE: u8 = b'\n';
 
 // How many digits a number has.
-fn digit_count(n: u64) -> usize
-    ensures { (result ≡ length (decimal n)) × (1 ≤ result) × (result ≤ most_digits) }
+fn digit_count(n: u64) -> u32
+    ensures { DigitCount n result }
 {
-    let mut left = n;
-    let mut count = 1;
-    // Kept: how many digits there are shows only as the number is divided, so that a `for` would be left early on every path.
-    while 10 <= left {
-        left /= 10;
-        count += 1;
-    }
-    count
+    n.max(1).ilog10() + 1
 }
 
 // A number below 10 as a digit.
@@ -39,23 +32,16 @@ fn digit(n: u64) -> u8
     b'0' + n as u8
 }
 
-// Writes a number in decimal digits, the last first.
+// Writes a number in decimal digits.
 fn put_decimal(w: &mut Writer, n: u64)
     requires { HasRoom w.old most_digits }
     ensures put { Appends w.old (decimal n) w.new }
     ensures bound { w.new.at ≤ w.old.at + most_digits }
 {
-    let next = w.at + digit_count(n);
-    let mut left = n;
-    let mut place = next - 1;
-    // Kept: the same, and the digits come from the last to the first.
-    while 10 <= left {
-        w.out[place] = digit(left % 10);
-        left /= 10;
-        place -= 1;
+    let count = digit_count(n);
+    for place in (0..count).rev() {
+        w.put_byte(digit(n / 10u64.pow(place) % 10));
     }
-    w.out[place] = digit(left);
-    w.at = next;
 }
 
 // Writes a number and one byte behind it.
@@ -80,51 +66,61 @@ fn put_line(w: &mut Writer, first: &[u8], m: u64, second: &[u8], n: u64)
     put_number(w, n, NEWLINE);
 }
 
-// Writes row k of the output, with single spaces.
-fn put_row(w: &mut Writer, output: &[u64], k: usize)
-    requires { HasRoom w.old row_room × (numbers_per_row * (k + 1) ≤ length output.now) }
-    ensures put { Appends w.old (row_line (row_at output.now (numbers_per_row * k))) w.new }
+// Writes a row, with single spaces.
+fn put_row(w: &mut Writer, row: &[u64; NUMBERS_PER_ROW])
+    requires { HasRoom w.old row_room }
+    ensures put { Appends w.old (row_line (row_at row.now 0)) w.new }
     ensures bound { w.new.at ≤ w.old.at + row_room }
 {
-    let row = NUMBERS_PER_ROW * k;
-    put_number(w, output[row], SPACE);
-    put_number(w, output[row + 1], SPACE);
-    put_number(w, output[row + 2], SPACE);
-    put_number(w, output[row + 3], SPACE);
-    put_number(w, output[row + 4], NEWLINE);
+    put_number(w, row[0], SPACE);
+    put_number(w, row[1], SPACE);
+    put_number(w, row[2], SPACE);
+    put_number(w, row[3], SPACE);
+    put_number(w, row[4], NEWLINE);
 }
 
-// Writes the first rows of the output, a line each.
-fn put_rows(w: &mut Writer, output: &[u64], kept: usize)
-    requires { HasRoom w.old (row_room * kept) × (numbers_per_row * kept ≤ length output.now) }
-    ensures put { Appends w.old (concat_map row_line (rows_in_lem kept output.now)) w.new }
-    ensures bound { w.new.at ≤ w.old.at + row_room * kept }
+// Writes the rows, a line each.
+fn put_rows(w: &mut Writer, rows: &[[u64; NUMBERS_PER_ROW]])
+    requires { HasRoom w.old (row_room * length rows.now) }
+    ensures put { Appends w.old (row_lines rows.now) w.new }
+    ensures bound { w.new.at ≤ w.old.at + row_room * length rows.now }
 {
-    for k in 0..kept {
-        put_row(w, output, k);
+    for row in rows {
+        put_row(w, row);
     }
 }
 
 // Prints a refusal, and gives how many bytes it has.
-pub fn print_refused(out: &mut [u8], number: u64, place: u64) -> usize
+pub fn print_refused(out: &mut [u8], refusal: Refusal) -> usize
     requires { line_room ≤ length out.old }
-    ensures printed { Printed (refused_line number place) out.old out.new result }
+    ensures printed { Printed (refused_line (number_of refusal.cause) refusal.place) out.old out.new result }
     ensures bound { result ≤ line_room }
 {
     let mut writer = Writer { out, at: 0 };
-    put_line(&mut writer, b"refused ", number, b" at ", place);
+    put_line(
+        &mut writer,
+        b"refused ",
+        refusal.cause.number(),
+        b" at ",
+        refusal.place as u64,
+    );
     writer.at
 }
 
-// Prints the kept list, of which the output holds the rows, and gives how many bytes it has.
-pub fn print_kept(out: &mut [u8], output: &[u64], kept: usize, count: usize) -> usize
-    requires out_room { line_room + row_room * kept ≤ length out.old }
-    requires output_room { numbers_per_row * kept ≤ length output.now }
-    ensures printed { KeptPrinted output.now kept count out.old out.new result }
-    ensures bound { result ≤ line_room + row_room * kept }
+// Prints the kept list of these rows, of so many boundaries, and gives how many bytes it has.
+pub fn print_kept(out: &mut [u8], rows: &[[u64; NUMBERS_PER_ROW]], count: usize) -> usize
+    requires { line_room + row_room * length rows.now ≤ length out.old }
+    ensures printed { Printed (kept_line (length rows.now) count ++ row_lines rows.now) out.old out.new result }
+    ensures bound { result ≤ line_room + row_room * length rows.now }
 {
     let mut writer = Writer { out, at: 0 };
-    put_line(&mut writer, b"kept ", kept as u64, b" of ", count as u64);
-    put_rows(&mut writer, output, kept);
+    put_line(
+        &mut writer,
+        b"kept ",
+        rows.len() as u64,
+        b" of ",
+        count as u64,
+    );
+    put_rows(&mut writer, rows);
     writer.at
 }

@@ -1,7 +1,7 @@
 -- What is answered and added, by what the reader answered and by how many runs there are. Assumes nothing.
 use Prim.Native.Nat.{ℕ, ◌≤◌, ◌<◌}
 use native.Mathlib.Omega.{arith}
-use mathlib.Core.Path.{◌≡◌, refl, sym, ap, subst, ◌∙◌}
+use mathlib.Core.Path.{◌≡◌, refl, sym, ap, ◌∙◌}
 use mathlib.Core.Bool.{Bool, true, false}
 use mathlib.Core.List.{List}
 use lib.ListN.{length}
@@ -9,33 +9,18 @@ use lib.Dec.{ltb}
 use borrow.Author.Tests.{ltb-true, ltb-false, lt-ltb, le-ltb}
 use Rattle.definitions.specs.Sheet.{Reading, well_formed, refused, keptlist_cell_limit}
 use Rattle.definitions.specs.Printed.{max_sheet_bytes}
-use Rattle.std.specs.Prelude.{Result, Ok, Err}
+use Rattle.std.specs.Prelude.{Result, Err}
 use Rattle.refusals.specs.declared.Refusal.{Refusal}
 use Rattle.refusals.specs.declared.Cause.TheVariants as cause
-use Rattle.refusals.specs.Refusals.{number_of}
 use Rattle.sheet.specs.Contract.{answer_of, reading_within, Answered}
 use Rattle.sheet.specs.declared.Header.{Header}
 use Rattle.report.specs.Runs.{refused_run}
-use Rattle.report.specs.Report.{max_runs, sum64, added_by}
+use Rattle.report.specs.Report.{max_runs}
 use Rattle.report.proofs.ReportLaws.Order as order
 use Rattle.report_figures.specs.declared.Report.{Report}
 use Rattle.report_figures.specs.Forms.{report_form}
 use Rattle.report_reading.specs.declared.Opened.{Opened}
-use Rattle.report_reading.specs.Contract.{opened_as, refused_as_lem, opened_with, added_answer, added_reading, limited_reading, OpenedFor, ReadFor}
-
-module _ (report : Report) (answer : Result Header Refusal) {r : Opened} where
-  pub when_read : {header : Header} → answer ≡ Ok header → r ≡ opened_as report header → OpenedFor report answer r
-  when_read {header} e h =
-      let same : report ≡ r.report = ap (λ x. x.report) (sym h) in
-      subst (λ a. OpenedFor report a r) (sym e)
-      (record { head = h ∙ ap (λ R. opened_as R header) same; added = ap report_form (sym same) })
-
-  pub when_refused : {refusal : Refusal} {added : Report} → answer ≡ Err refusal → report_form added ≡ added_by sum64 (report_form report) (refused_run (number_of refusal.cause))
-      → r ≡ refused_as_lem added (number_of refusal.cause) refusal.place → OpenedFor report answer r
-  when_refused {refusal} {added} e k h =
-      let same : added ≡ r.report = ap (λ x. x.report) (sym h) in
-      subst (λ a. OpenedFor report a r) (sym e)
-      (record { head = h ∙ ap (λ R. refused_as_lem R (number_of refusal.cause) refusal.place) same; added = ap report_form (sym same) ∙ k })
+use Rattle.report_reading.specs.Contract.{refused_as_lem, opened_with, added_answer, added_reading, limited_reading, OpenedFor, ReadFor}
 
 module _ (report : Report) (reading : Reading) {cells spans boundaries anchors : List ℕ} {b : Bool} (t : b ≡ ltb report.runs max_runs) {r : Opened} where
   pub read-within : b ≡ true → {answer : Result Header Refusal} {cells' spans' boundaries' anchors' : List ℕ} → Answered reading cells spans boundaries anchors answer cells' spans' boundaries' anchors'

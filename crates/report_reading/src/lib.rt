@@ -8,8 +8,8 @@ ghost use Rattle.definitions.specs.Sheet.{read_verdict};
 ghost use Rattle.report.specs.Report.{sum64, added_by};
 ghost use Rattle.report.specs.Runs.{refused_run};
 ghost use Rattle.report_figures.specs.Forms.{report_form};
-ghost use Rattle.sheet.specs.Contract.{Answered};
-ghost use Rattle.report_reading.specs.Contract.{opened_as, refused_as_lem, limited_reading, OpenedFor, ReadFor};
+ghost use Rattle.sheet.specs.Contract.{Answered, by_number};
+ghost use Rattle.report_reading.specs.Contract.{opened_with, limited_reading, OpenedFor, ReadFor};
 
 use refusals::{Cause, Refusal};
 use report_figures::Report;
@@ -36,50 +36,47 @@ pub struct Opened {
     pub report: Report,
 }
 
-fn opened_as(report: Report, header: Header) -> Opened
-    ensures { result ≡ opened_as report header }
-{
-    Opened {
-        number: 0,
-        place: 0,
-        pass: header.pass,
-        width: header.width as u64,
-        height: header.height as u64,
-        spans: header.spans as u64,
-        boundaries: header.boundaries as u64,
-        anchors: header.anchors as u64,
-        report,
+impl From<(Report, Result<Header, Refusal>)> for Opened {
+    ghost from_gives = { λ given opened. opened ≡ opened_with given.0 (by_number given.1) };
+
+    fn from(given: (Report, Result<Header, Refusal>)) -> Opened {
+        let (report, answer) = given;
+        match answer {
+            Ok(header) => Opened {
+                number: 0,
+                place: 0,
+                pass: header.pass,
+                width: header.width as u64,
+                height: header.height as u64,
+                spans: header.spans as u64,
+                boundaries: header.boundaries as u64,
+                anchors: header.anchors as u64,
+                report,
+            },
+            Err(refusal) => Opened {
+                number: refusal.cause.number(),
+                place: refusal.place as u64,
+                pass: 0,
+                width: 0,
+                height: 0,
+                spans: 0,
+                boundaries: 0,
+                anchors: 0,
+                report,
+            },
+        }
     }
 }
 
-fn refused_as(report: Report, number: u64, place: u64) -> Opened
-    ensures { result ≡ refused_as_lem report number place }
-{
-    Opened {
-        number,
-        place,
-        pass: 0,
-        width: 0,
-        height: 0,
-        spans: 0,
-        boundaries: 0,
-        anchors: 0,
-        report,
-    }
-}
-
-// What the reader answered.
+// What the reader answered, and the report with the run, if it was refused.
 fn opened_for(report: Report, answer: Result<Header, Refusal>) -> Opened
     ensures { OpenedFor report answer result }
 {
-    match answer {
-        Ok(header) => opened_as(report, header),
-        Err(refusal) => {
-            let number = refusal.cause.number();
-            let added = with_refused(report, number);
-            refused_as(added, number, refusal.place as u64)
-        }
-    }
+    let added = match answer {
+        Ok(_) => report,
+        Err(refusal) => with_refused(report, refusal.cause),
+    };
+    Opened::from((added, answer))
 }
 
 // Reads a sheet with the limits of `keptlist`: the bytes are counted before any of them is judged.
@@ -123,6 +120,10 @@ pub fn report_reading_read_for_report(
         let answer = read_sheet(bytes, cells, spans, boundaries, anchors);
         opened_for(report, answer)
     } else {
-        refused_as(report, Cause::Entries.number(), 0)
+        let full = Refusal {
+            cause: Cause::Entries,
+            place: 0,
+        };
+        Opened::from((report, Err(full)))
     }
 }

@@ -3,4 +3,4 @@ use Rattle.game_search.proofs.Searching.{Searching}
 use Rattle.game_search.proofs.search.Given as goal
 
 abbrev pub invariant-loop-moves : goal.invariant-loop-moves
-invariant-loop-moves l = Searching l.near l.regions l.goal l.moves l.won.runner l.won.guard l.ranks
+invariant-loop-moves l = Searching l.board.near l.board.regions l.board.goal l.moves l.won.runner l.won.guard l.ranks

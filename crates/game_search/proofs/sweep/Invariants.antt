@@ -3,4 +3,4 @@ use Rattle.game_search.proofs.Rows.{Sweeping}
 use Rattle.game_search.proofs.sweep.Given as goal
 
 abbrev pub invariant-loop-g : goal.invariant-loop-g
-invariant-loop-g l = Sweeping l.near l.regions l.goal l.won.runner l.won.guard l.g l.next.runner l.next.guard
+invariant-loop-g l = Sweeping l.board.near l.board.regions l.board.goal l.won.runner l.won.guard l.g l.next.runner l.next.guard

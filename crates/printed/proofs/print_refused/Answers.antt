@@ -7,4 +7,4 @@ use Rattle.printed.proofs.print_refused.Goals as goal
 
 pub returns : goal.returns
 unfolding text refused_line
-returns c = record { printed = printed (search rules) (put_left c.put_line.ensures.put (search rules)); bound = search rules }
+returns c = record { printed = printed (search rules) (put_left (rw c.number.ensures at c.put_line.ensures.put) (search rules)); bound = search rules }

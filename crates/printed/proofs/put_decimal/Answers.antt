@@ -1,23 +1,25 @@
--- `printed::put_decimal` meets its contract. The loop's invariant is `Writing`: writing the digits of what is left makes the list that is wanted. The measure is what is
--- left. Assumes nothing.
-use native.Mathlib.Omega.{arith}
-use mathlib.Core.Path.{refl}
-use borrow.Author.Rules.{rules}
-use Rattle.printed.proofs.Digits.{writing_starts, writing_before, writing_goes_on, writing_ends}
+-- `printed::put_decimal` meets its contract. The loop's invariant is `Written`: the digits of the places from this one on are written. Assumes nothing.
+use Rattle.std.proofs.Common.{◌≡◌, ◌+◌, ◌-◌, ◌/◌, ◌%◌, ◌<◌, ap, sym, ◌∙◌, subst, rules}
+use Rattle.printed.proofs.Digits.{some_power, Written, written_none, written_room, written_more, written_all}
 use Rattle.printed.proofs.put_decimal.Goals as goal
 
-pub loop-left-init : goal.loop-left-init
-loop-left-init c = (writing_starts _ _ _ _ (search rules) (search rules) c.digit_count.ensures, refl, refl)
+pub loop-place-init : goal.loop-place-init
+loop-place-init c = (c.digit_count-count.ensures, written_none _ _ _)
 
-pub overflow_sub-place-in-loop-left : goal.overflow_sub-place-in-loop-left
-overflow_sub-place-in-loop-left c = omega (arith, writing_before c.loop-left.invariant.0 c.loop-left-test.true)
+pub nonzero_div-n : goal.nonzero_div-n
+nonzero_div-n c = subst (λ n. 0 < n) (sym c.pow.ensures) (some_power (c.loop-place.place - 1))
 
-pub loop-left-preserved : goal.loop-left-preserved
-loop-left-preserved c = (rw c.digit.ensures (writing_goes_on c.loop-left.invariant.0 c.loop-left-test.true), c.loop-left.invariant.1, c.loop-left.invariant.2)
+pub put_byte-requires : goal.put_byte-requires
+put_byte-requires c = written_room c.loop-place.invariant.0 c.loop-place.invariant.1 c.requires (search rules)
 
-pub returns : goal.returns
-returns c =
-    record {
-      put = record { put = writing_ends c.loop-left.invariant.0 c.loop-left-test.false c.digit-2.ensures c.digit_count.ensures.0; same = c.loop-left.invariant.2 };
-      bound = search rules;
-    }
+pub loop-place-preserved : goal.loop-place-preserved
+loop-place-preserved c =
+    let k = c.loop-place.place - 1 in (
+      c.loop-place.invariant.0,
+      written_more c.loop-place.invariant.0 c.loop-place.invariant.1 k (search rules) (c.digit.ensures ∙ ap (λ m. 48 + c.args.n / m % 10) c.pow.ensures) c.put_byte.ensures,
+    )
+
+pub returns-clause-put : goal.returns-clause-put
+returns-clause-put c =
+    let last : c.loop-place.place ≡ 0 = search rules in
+    (written_all c.loop-place.invariant.0 (subst (λ p. Written c.args.w.now c.args.n c.digit_count-count.result p c.loop-place.w) last c.loop-place.invariant.1)).0

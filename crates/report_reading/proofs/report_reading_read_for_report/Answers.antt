@@ -8,4 +8,4 @@ returns-then-has_room c =
 
 pub returns-else-has_room : goal.returns-else-has_room
 returns-else-has_room c =
-    read-beyond c.args.report _ c.has_room.ensures c.if-has_room.false (rw c.number.ensures at c.refused_as.ensures)
+    read-beyond c.args.report _ c.has_room.ensures c.if-has_room.false c.from.ensures

@@ -13,10 +13,7 @@ pub returns-then-not-is_region : goal.returns-then-not-is_region
 returns-then-not-is_region c =
     let a = c.args in
     let none = ap₂ ◌&&◌ (sym c.is_region.ensures) (sym c.is_region-2.ensures) ∙ not-true _ c.if-not-is_region.true-raw in
-    record {
-      joined = λ i j l m. pair_none a.regions a.p a.q _ i j none;
-      near_length = c.requires.1;
-    }
+    λ i j l m. pair_none a.regions a.p a.q _ i j none
 
 pub overflow_sub-a : goal.overflow_sub-a
 overflow_sub-a c =
@@ -32,18 +29,18 @@ pub join-requires : goal.join-requires
 join-requires c =
     let a = c.args in
     let both = both-regions a.regions a.p a.q (ap₂ ◌&&◌ (sym c.is_region.ensures) (sym c.is_region-2.ensures) ∙ not-false _ c.if-not-is_region.false-raw) in
-    (omega (arith, both.0.0, both.0.1, c.requires.0), omega (arith, both.1.0, both.1.1, c.requires.0), c.requires.1)
+    (omega (arith, both.0.0, both.0.1, c.requires), omega (arith, both.1.0, both.1.1, c.requires))
 
 pub join-requires-2 : goal.join-requires-2
 join-requires-2 c =
     let a = c.args in
     let both = both-regions a.regions a.p a.q (ap₂ ◌&&◌ (sym c.is_region.ensures) (sym c.is_region-2.ensures) ∙ not-false _ c.if-not-is_region.false-raw) in
-    (omega (arith, both.1.0, both.1.1, c.requires.0), omega (arith, both.0.0, both.0.1, c.requires.0), c.join.ensures.near_length)
+    (omega (arith, both.1.0, both.1.1, c.requires), omega (arith, both.0.0, both.0.1, c.requires))
 
-pub returns-clause-joined : goal.returns-clause-joined
-returns-clause-joined c =
+pub returns : goal.returns
+returns c =
     let a = c.args in
     let all = ap₂ ◌&&◌ (sym c.is_region.ensures) (sym c.is_region-2.ensures) ∙ not-false _ c.if-not-is_region.false-raw in
     λ i j l m.
-    c.join-2.ensures.joined i j l m ∙ ap (λ t. t || (eqb i (a.q - 1) && eqb j (a.p - 1))) (c.join.ensures.joined i j l m)
+    c.join-2.ensures i j l m ∙ ap (λ t. t || (eqb i (a.q - 1) && eqb j (a.p - 1))) (c.join.ensures i j l m)
     ∙ pair-joined a.regions a.p a.q (bit_at a.near.now i j) i j all
