@@ -8,6 +8,8 @@ use Rattle.areas.specs.Fit.{Fit}
 use Rattle.refusals.specs.declared.Refusal.{Refusal}
 use Rattle.refusals.specs.Refusals.{number_of, refusal_of}
 use Rattle.refusals.proofs.Steps.{positive}
+use Rattle.checks.specs.declared.passes.Pass.{Pass}
+use Rattle.checks.specs.Passes.{pass_number}
 use Rattle.call_partition.specs.declared.Ready.{Ready}
 use Rattle.call_partition.specs.Prepared.{DividedAs}
 use Rattle.call_partition.proofs.EarlyFits.{early-fits}
@@ -30,14 +32,18 @@ module _ (pass w h : ℕ) (cells spans boundaries anchors : List ℕ) (room outp
       (e ∙ ap₂ (game_early pass w h cells spans boundaries anchors (length l) (length m) (length q) (length t)) (sym wide) (sym table))
 
   -- none does
-  module _ (e : None ≡ game_early pass w h cells spans boundaries anchors (length l) (length m) (length q) (length t) output verdicts) where
-    pub prepared_game : (r : Result Ready Refusal) (l' m' q' t' p' : List ℕ) → DividedAs w h cells spans room l m q t p r l' m' q' t' p'
-        → GamePreparedAs pass w h cells spans boundaries anchors room output verdicts l m q t p r l' m' q' t' p'
-    prepared_game (Err r) l' m' q' t' p' D =
+  module _ (e : None ≡ game_early pass w h cells spans boundaries anchors (length l) (length m) (length q) (length t) output verdicts) (l' m' q' t' p' : List ℕ) where
+    -- but the partition
+    pub refused-late : (r : Refusal) → DividedAs w h cells spans room l m q t p (Err r) l' m' q' t' p'
+        → GamePreparedAs pass w h cells spans boundaries anchors room output verdicts l m q t p (Err r) l' m' q' t' p'
+    refused-late r D =
         λ goal s o v long wide table.
         played-late pass w h cells spans boundaries anchors l m q t p s o goal v
         (e ∙ ap₂ (game_early pass w h cells spans boundaries anchors (length l) (length m) (length q) (length t)) (sym wide) (sym table)) (positive r.cause)
         (D pass boundaries anchors output (all_past pass w h cells spans boundaries anchors (length l) (length m) (length q) (length t) output verdicts e).early s o long wide)
-    prepared_game (Ok ready) l' m' q' t' p' D =
+
+    pub prepared_game : (y : Pass × Ready) → pass_number y.0 ≡ pass → DividedAs w h cells spans room l m q t p (Ok y.1) l' m' q' t' p'
+        → GamePreparedAs pass w h cells spans boundaries anchors room output verdicts l m q t p (Ok y) l' m' q' t' p'
+    prepared_game y named D =
         let past = all_past pass w h cells spans boundaries anchors (length l) (length m) (length q) (length t) output verdicts e in
-        record { ready = D pass boundaries anchors output past.early; lists = past.lists; enough = past.enough }
+        (named, record { ready = D pass boundaries anchors output past.early; lists = past.lists; enough = past.enough })
