@@ -41,7 +41,9 @@ fn passes(terms: &[u64], i: usize, ends: &[u64; SLOTS]) -> bool
 {
     match term_days(terms, i) {
         None => false,
-        Some(days) => { days.from < days.to && ends[slot_of(terms[NUMBERS_PER_TERM * i])] <= days.from }
+        Some(days) => {
+            days.from < days.to && ends[slot_of(terms[NUMBERS_PER_TERM * i])] <= days.from
+        }
     }
 }
 
