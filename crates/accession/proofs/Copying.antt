@@ -23,7 +23,7 @@ four_from l k h =
     ∙ ap (λ t. get_or l (suc (suc k)) 0 ∷ t) (drop-cons l (suc (suc (suc k))) 0 (omega arith)))))
     ∙ (λ t. get_or l k 0 ∷ get_or l (one t) 0 ∷ get_or l (two t) 0 ∷ get_or l (three t) 0 ∷ [])
 
-put_four : (old : List ℕ) (k v w x y : ℕ) {part : List ℕ} → k + 4 ≤ length old → part ≡ v ∷ w ∷ x ∷ y ∷ []
+pub put_four : (old : List ℕ) (k v w x y : ℕ) {part : List ℕ} → k + 4 ≤ length old → part ≡ v ∷ w ∷ x ∷ y ∷ []
     → put_mid k (k + 4 - k) old part ≡ sets old k (v ∷ w ∷ x ∷ y ∷ [])
 put_four old k v w x y h e =
     let four : List ℕ = v ∷ w ∷ x ∷ y ∷ [] in

@@ -43,7 +43,7 @@ impl<const SLOTS: usize, const ROOM: usize> Held<SLOTS, ROOM> {
         requires { Holds records.now SLOTS self.now.count self.now.last self.now.links }
         ensures { one_more result ≡ last_below self.now.count (is_of_map records.now number) }
     {
-        // Kept: the walk follows links, as no range does.
+        // Kept: std takes a chain of `successors` for endless, and `find` asks for an end, which is known here only because links fall.
         let mut next = self.last[slot_of(number, SLOTS)] as usize;
         while 0 < next {
             let k = next - 1;

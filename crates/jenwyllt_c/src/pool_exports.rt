@@ -5,6 +5,7 @@ ghost use Rattle.catalogue.specs.Pool.{pool_verdict, pool_at_exit};
 ghost use Rattle.pool_terms.specs.Contract.{date};
 ghost use Rattle.refusals.specs.Answers.{answer_in};
 
+use pool_terms::calendar::Date;
 use refusals::answers::Answer;
 
 #[unsafe(no_mangle)]
@@ -20,5 +21,5 @@ pub extern "C" fn jenwyllt_maps_of_day(
     ensures output { output.new ≡ pool_at_exit result.number terms.now records.now
         (date year month day) output.old }
 {
-    pool::pool_maps_of_day(terms, records, year, month, day, output)
+    pool::pool_maps_of_day(terms, records, Date { year, month, day }, output)
 }

@@ -5,14 +5,13 @@ use native.Mathlib.Omega.{arith}
 use mathlib.Core.Path.{◌≡◌, refl, sym, ap, ◌∙◌}
 use mathlib.Core.Bool.{◌&&◌}
 use Rattle.std.specs.Prelude.{Option, None, Some, Ok, Err}
-use mathlib.Core.List.{List, [], ◌∷◌}
-use lib.ListN.{length}
+use mathlib.Core.List.{List, [], ◌∷◌, ◌++◌}
+use lib.ListN.{length, drop}
 use lib.Dec.{ltb, leb}
 use borrow.Author.Tests.{le-leb, lt-leb}
 use Rattle.definitions.specs.Lists.{overwrite}
 use Rattle.definitions.specs.Refusals.{Refusal, or_else, unless}
 use Rattle.definitions.specs.Verdict.{Answer, refusal, first_refusal}
-use Rattle.laws.specs.ListLaws.Overwritten.{overwrite-twice}
 use Rattle.laws.specs.ListLaws.SortedMembers.{length-sort}
 use Rattle.catalogue.specs.Dates.{Date, day_of}
 use Rattle.catalogue.specs.Terms.{term_count, is_finished, terms_refusal}
@@ -21,7 +20,6 @@ use Rattle.catalogue.specs.Accession as accession
 use Rattle.catalogue.specs.Pool.{maps_in, maps_of_day, entries_of, entries_on, asked_fault, pool_verdict, pool_at_exit}
 use Rattle.catalogue.proofs.PoolLaws.{pool_rising}
 use Rattle.pool_entries.specs.Steps.{blank, RecordsShown}
-use Rattle.pool_entries.proofs.Spreading.{entries-length}
 use Rattle.pool_entries.proofs.Showing.{entries_of-length}
 use Rattle.refusals.specs.declared.Cause.TheVariants as cause
 use Rattle.pool.specs.Contract.{lists_refusal, output_by, Listed}
@@ -126,25 +124,25 @@ listed-at_exit (suc n) terms records asked old d = refl
 
 -- ---- the room
 
-module _ (terms records : List ℕ) (day : ℕ) (old : List ℕ) {maps : ℕ} (m : maps ≡ length (maps_in terms day)) where
-  need : length (entries_on terms records (Some day)) ≡ 4 * maps
+module _ (terms records : List ℕ) (day : ℕ) {maps : ℕ} (m : maps ≡ length (maps_in terms day)) where
+  pub need : length (entries_on terms records (Some day)) ≡ 4 * maps
   unfolding maps_of_day
   need = entries_of-length records day (accession_count records) (maps_of_day terms day) ∙ ap (λ n. 4 * n) (length-sort ltb (maps_in terms day) ∙ sym m)
 
-  pub maps-listed : length (maps_of_day terms day) ≡ maps
-  unfolding maps_of_day
-  maps-listed = length-sort ltb (maps_in terms day) ∙ sym m
+module _ (terms records : List ℕ) (day : ℕ) (old : List ℕ) {maps : ℕ} (m : maps ≡ length (maps_in terms day)) where
+  abbrev needed : length (entries_on terms records (Some day)) ≡ 4 * maps
+  needed = need terms records day m
 
   pub no_room : length old / 4 < maps → Listed terms records day old (Err (record { cause = cause.Room; place = 0 })) old
   no_room h =
-      let short : length old < length (entries_on terms records (Some day)) = omega (arith, need) in
+      let short : length old < length (entries_on terms records (Some day)) = omega (arith, needed) in
       record { answer = rw (lt-leb (length (entries_on terms records (Some day))) (length old) short) refl; output = refl }
 
   pub room-enough : {new : List ℕ} → maps ≤ length old / 4 → new ≡ overwrite (entries_of records day (accession_count records) (maps_of_day terms day)) old
       → Listed terms records day old (Ok maps) new
   room-enough h e =
-      let fits : length (entries_on terms records (Some day)) ≤ length old = omega (arith, need) in
-      let count : maps ≡ length (entries_on terms records (Some day)) / 4 = omega (arith, need) in
+      let fits : length (entries_on terms records (Some day)) ≤ length old = omega (arith, needed) in
+      let count : maps ≡ length (entries_on terms records (Some day)) / 4 = omega (arith, needed) in
       record {
         answer = rw (le-leb (length (entries_on terms records (Some day))) (length old) fits) (λ i. record { number = 0; value = count i });
         output = e;
@@ -153,12 +151,10 @@ module _ (terms records : List ℕ) (day : ℕ) (old : List ℕ) {maps : ℕ} (m
 -- ---- the entries, and the records shown in them
 
 pub shown-over : (terms records : List ℕ) (day : ℕ) (old put new : List ℕ) (maps : ℕ) → maps ≡ length (maps_in terms day) → terms_refusal terms ≡ None
-    → put ≡ overwrite (blank (maps_of_day terms day)) old → RecordsShown put maps records day new
-    → new ≡ overwrite (entries_of records day (accession_count records) (maps_of_day terms day)) old
+    → put ≡ blank (maps_of_day terms day) → RecordsShown put records day new
+    → new ++ drop (4 * maps) old ≡ overwrite (entries_of records day (accession_count records) (maps_of_day terms day)) old
 shown-over terms records day old put new maps m ok p S =
     let M = maps_of_day terms day in
     let E = entries_of records day (accession_count records) M in
-    let again : put ≡ overwrite (blank M) put = p ∙ sym (overwrite-twice (blank M) (blank M) old (omega arith)) ∙ ap (overwrite (blank M)) (sym p) in
-    S M (pool_rising terms day ok) (maps-listed terms records day old m) again
-    ∙ ap (overwrite E) p
-    ∙ overwrite-twice E (blank M) old (omega (arith, entries-length (λ n. None) M, entries_of-length records day (accession_count records) M))
+    let long : length E ≡ 4 * maps = need terms records day m in
+    ap (λ l. l ++ drop (4 * maps) old) (S M (pool_rising terms day ok) p) ∙ ap (λ n. E ++ drop n old) (sym long)

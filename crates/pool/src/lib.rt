@@ -6,29 +6,25 @@ ghost use Rattle.std.specs.Prelude.{◌≡◌, length, None};
 ghost use Rattle.catalogue.specs.Terms.{terms_refusal};
 ghost use Rattle.catalogue.specs.Pool.{pool_verdict, pool_at_exit};
 ghost use Rattle.refusals.specs.Refusals.{refusal_in};
-ghost use Rattle.pool_terms.specs.Contract.{date};
+ghost use Rattle.pool_terms.specs.Contract.{date_as};
 ghost use Rattle.refusals.specs.Answers.{answer_in, answer_of};
 ghost use Rattle.pool.specs.Contract.{lists_refusal, Listed};
 
 use accession::rules::first_broken;
+use catalogue::sizes::{NUMBERS_PER_ACCESSION, NUMBERS_PER_ENTRY, NUMBERS_PER_TERM};
 use pool_entries::entries::show_records;
 use pool_entries::maps::{count_maps, put_entries};
 use pool_faults::faults::terms_fault;
-use pool_terms::calendar::day_of;
+use pool_terms::calendar::{Date, day_of};
 use refusals::answers::Answer;
 use refusals::{Cause, Refusal, ensure, no_fault};
-
-const TERM_SIZE: usize = 7;
-
-const RECORD_SIZE: usize = 4;
-
-const ENTRY_SIZE: usize = 4;
 
 // The checks 3, 17, 18 and 19.
 fn check_lists(terms: &[u64], records: &[u64]) -> Result<(), Refusal>
     ensures { refusal_in result ≡ lists_refusal terms.now records.now }
 {
-    let finished = (terms.len() % TERM_SIZE == 0) & (records.len() % RECORD_SIZE == 0);
+    let finished = (terms.len() % NUMBERS_PER_TERM == 0)
+        & (records.len() % NUMBERS_PER_ACCESSION == 0);
     ensure(finished, Cause::Entries)?;
     no_fault(first_broken(records), Cause::Accession)?;
     terms_fault(terms)
@@ -40,14 +36,15 @@ fn list_day(terms: &[u64], records: &[u64], day: u64, output: &mut [u64]) -> Res
     ensures { Listed terms.now records.now day output.old result output.new }
 {
     let maps = count_maps(terms, day);
-    if output.len() / ENTRY_SIZE < maps {
+    if output.len() / NUMBERS_PER_ENTRY < maps {
         return Err(Refusal {
             cause: Cause::Room,
             place: 0,
         });
     }
-    put_entries(terms, day, maps, &mut *output);
-    show_records(&mut *output, maps, records, day);
+    let entries = &mut output[..NUMBERS_PER_ENTRY * maps];
+    put_entries(terms, day, &mut *entries);
+    show_records(entries, records, day);
     Ok(maps)
 }
 
@@ -55,37 +52,28 @@ fn list_day(terms: &[u64], records: &[u64], day: u64, output: &mut [u64]) -> Res
 pub fn maps_of_day(
     terms: &[u64],
     records: &[u64],
-    year: u64,
-    month: u64,
-    day: u64,
+    date: Date,
     output: &mut [u64],
 ) -> Result<usize, Refusal>
-    ensures answer { answer_of result ≡ pool_verdict terms.now records.now (date year month day) (length output.old) }
+    ensures answer { answer_of result ≡ pool_verdict terms.now records.now (date_as date) (length output.old) }
     ensures output { output.new ≡ pool_at_exit (answer_of result).number terms.now records.now
-        (date year month day) output.old }
+        (date_as date) output.old }
 {
     check_lists(terms, records)?;
-    match day_of(year, month, day) {
+    match day_of(date) {
         None => Err(Refusal {
             cause: Cause::Date,
-            place: terms.len() / TERM_SIZE,
+            place: terms.len() / NUMBERS_PER_TERM,
         }),
         Some(asked) => list_day(terms, records, asked, &mut *output),
     }
 }
 
 // The same, as C is answered.
-pub fn pool_maps_of_day(
-    terms: &[u64],
-    records: &[u64],
-    year: u64,
-    month: u64,
-    day: u64,
-    output: &mut [u64],
-) -> Answer
-    ensures answer { answer_in result ≡ pool_verdict terms.now records.now (date year month day) (length output.old) }
+pub fn pool_maps_of_day(terms: &[u64], records: &[u64], date: Date, output: &mut [u64]) -> Answer
+    ensures answer { answer_in result ≡ pool_verdict terms.now records.now (date_as date) (length output.old) }
     ensures output { output.new ≡ pool_at_exit result.number terms.now records.now
-        (date year month day) output.old }
+        (date_as date) output.old }
 {
-    Answer::from(maps_of_day(terms, records, year, month, day, &mut *output))
+    Answer::from(maps_of_day(terms, records, date, &mut *output))
 }

@@ -1,10 +1,10 @@
 -- Maps spread to entries from the last on: what lies in front of the entries that are written is as it was (`Spreading`). Assumes nothing.
-use Prim.Native.Nat.{ℕ, zero, suc, ◌+◌, ◌-◌, ◌*◌, ◌≤◌, ◌<◌}
+use Prim.Native.Nat.{ℕ, zero, suc, ◌+◌, ◌-◌, ◌*◌, ◌/◌, ◌≤◌, ◌<◌}
 use native.Mathlib.Omega.{arith}
 use mathlib.Core.Path.{◌≡◌, refl, sym, ap, ap₂, ◌∙◌}
-use mathlib.Core.List.{List, [], ◌∷◌, ◌++◌}
+use mathlib.Core.List.{List, [], ◌∷◌, ◌++◌, append-nil}
 use Rattle.std.specs.Prelude.{Option, None, Some}
-use lib.ListN.{length, get_or, set, take, drop, length-append, length-take}
+use lib.ListN.{length, get_or, set, take, drop, length-append, length-drop, length-take}
 use lib.Seq.{sets, length-sets, drop-cons, drop-append_seam, get_or-take, get_or-set_other, take-append_seam}
 use lib.Dec.{ltb}
 use Rattle.definitions.specs.Lists.{overwrite}
@@ -105,14 +105,22 @@ module _ {maps : ℕ} {old : List ℕ} where
 
 -- ---- the maps put, sorted and spread
 
-pub listed : (X old put sorted new : List ℕ) (maps : ℕ) → maps ≡ length X → put ≡ overwrite X old → sorted ≡ sort ltb (take maps put) ++ drop maps put
-    → new ≡ overwrite (blank (take maps sorted)) sorted → new ≡ overwrite (blank (sort ltb X)) old
-listed X old put sorted new maps n p s e =
-    let front : take maps put ≡ X = ap₂ take n p ∙ take-append_seam X (drop (length X) old) in
-    let behind : drop maps put ≡ drop maps old = ap₂ drop n p ∙ drop-append_seam X (drop (length X) old) ∙ ap (λ k. drop k old) (sym n) in
-    let size : length (sort ltb X) ≡ maps = length-sort ltb X ∙ sym n in
-    let there : sorted ≡ overwrite (sort ltb X) old = s ∙ ap₂ (λ u v. sort ltb u ++ v) front (behind ∙ ap (λ k. drop k old) (sym size)) in
-    let read : take maps sorted ≡ sort ltb X = ap₂ take (sym size) there ∙ take-append_seam (sort ltb X) (drop (length (sort ltb X)) old) in
+-- the maps X at the front, sorted, and the whole list then spread
+pub listed : (X old put sorted new : List ℕ) (n : ℕ) → n ≡ length X → length old ≡ 4 * length X → put ≡ overwrite X (take n old) → sorted ≡ sort ltb put
+    → new ≡ overwrite (blank (take (length (sorted ++ drop n old) / 4) (sorted ++ drop n old))) (sorted ++ drop n old) → new ≡ blank (sort ltb X)
+listed X old put sorted new n c whole p s e =
+    let S = sort ltb X in
+    let size : length S ≡ length X = length-sort ltb X in
+    let none : drop (length X) (take n old) ≡ [] = drop_all (take n old) (length X) (omega (arith, c, taken-length n old (omega (arith, c, whole)))) in
+    let there : sorted ≡ S = s ∙ ap (sort ltb) (p ∙ ap (λ l. X ++ l) none ∙ append-nil X) in
+    let long : length (S ++ drop n old) ≡ length old = omega (arith, length-append S (drop n old), length-drop n old, size, c, whole) in
+    let front : take (length (S ++ drop n old) / 4) (S ++ drop n old) ≡ S =
+    (let quarter : length (S ++ drop n old) / 4 ≡ length S = omega (arith, long, whole, size) in
+    ap (λ k. take k (S ++ drop n old)) quarter ∙ take-append_seam S (drop n old)) in
+    let behind : drop (length (blank S)) (S ++ drop n old) ≡ [] =
+    drop_all (S ++ drop n old) (length (blank S)) (omega (arith, long, whole, size, entries-length (λ m. None) S)) in
     e
-    ∙ ap₂ (λ u v. overwrite (blank u) v) read there
-    ∙ overwrite-twice (blank (sort ltb X)) (sort ltb X) old (omega (arith, entries-length (λ m. None) (sort ltb X)))
+    ∙ ap (λ t. overwrite (blank (take (length (t ++ drop n old) / 4) (t ++ drop n old))) (t ++ drop n old)) there
+    ∙ ap (λ t. overwrite (blank t) (S ++ drop n old)) front
+    ∙ ap (λ t. blank S ++ t) behind
+    ∙ append-nil (blank S)

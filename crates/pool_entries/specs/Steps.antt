@@ -1,6 +1,5 @@
 -- What the steps of the listing promise: entries that show no record yet, and entries in which a record is shown. Definitions only; assumes nothing.
-use Rattle.std.specs.Prelude.{ℕ, ◌+◌, ◌≡◌, cond, List, length, eqb, Option, None, Some}
-use Rattle.definitions.specs.Lists.{overwrite}
+use Rattle.std.specs.Prelude.{ℕ, ◌+◌, ◌≤◌, ◌<◌, ◌≡◌, cond, List, length, get_or, eqb, Option, None, Some}
 use Rattle.definitions.specs.Scan.{only_if, concat_map}
 use Rattle.catalogue.specs.Terms.{term_at, days_of, contains}
 use Rattle.catalogue.specs.Accession.{Accession, accession_count}
@@ -20,17 +19,23 @@ entries_by f maps = concat_map (λ m. entry_of m (f m)) maps
 abbrev pub blank : List ℕ → List ℕ
 blank maps = entries_by (λ m. None) maps
 
--- where the output begins with the entries of so many rising maps, the record is shown in the entry of its map
-abbrev pub Shown : List ℕ → ℕ → Accession → List ℕ → Type 0
-Shown old count r new = (M : List ℕ) (f : ℕ → Option Accession) → Rising M → length M ≡ count → old ≡ overwrite (entries_by f M) old
-    → new ≡ overwrite (entries_by (λ m. cond (eqb r.on_map m) (Some r) (f m)) M) old
+-- where these are the entries of rising maps, the place is behind those of the maps up to this one
+pub record Behind (maps : List ℕ) (map place : ℕ) : Type 0 where
+  pub within : place ≤ length maps
+  pub front : (k : ℕ) → k < place → get_or maps k 0 ≤ map
+  pub back : (k : ℕ) → place ≤ k → k < length maps → map < get_or maps k 0
+
+abbrev pub Found : List ℕ → ℕ → ℕ → Type 0
+Found entries map place = (M : List ℕ) (f : ℕ → Option Accession) → Rising M → entries ≡ entries_by f M → Behind M map place
+
+-- the record is shown in the entry of its map
+abbrev pub Shown : List ℕ → Accession → List ℕ → Type 0
+Shown old r new = (M : List ℕ) (f : ℕ → Option Accession) → Rising M → old ≡ entries_by f M → new ≡ entries_by (λ m. cond (eqb r.on_map m) (Some r) (f m)) M
 
 -- the same of record i of the list and a day: what was shown of the records before it becomes what is shown with it
-abbrev pub RecordShown : List ℕ → ℕ → List ℕ → ℕ → ℕ → List ℕ → Type 0
-RecordShown old count records i day new = (M : List ℕ) → Rising M → length M ≡ count → old ≡ overwrite (entries_of records day i M) old
-    → new ≡ overwrite (entries_of records day (i + 1) M) old
+abbrev pub RecordShown : List ℕ → List ℕ → ℕ → ℕ → List ℕ → Type 0
+RecordShown old records i day new = (M : List ℕ) → Rising M → old ≡ entries_of records day i M → new ≡ entries_of records day (i + 1) M
 
 -- and of all records
-abbrev pub RecordsShown : List ℕ → ℕ → List ℕ → ℕ → List ℕ → Type 0
-RecordsShown old count records day new = (M : List ℕ) → Rising M → length M ≡ count → old ≡ overwrite (blank M) old
-    → new ≡ overwrite (entries_of records day (accession_count records) M) old
+abbrev pub RecordsShown : List ℕ → List ℕ → ℕ → List ℕ → Type 0
+RecordsShown old records day new = (M : List ℕ) → Rising M → old ≡ blank M → new ≡ entries_of records day (accession_count records) M

@@ -1,5 +1,5 @@
 // The maps of a day: counted, listed in the lent output by number, and spread to entries that show no record yet.
-ghost use Rattle.std.specs.Prelude.{◌≡◌, [], ◌∷◌, ◌+◌, ◌*◌, ◌≤◌, ◌<◌, length, take};
+ghost use Rattle.std.specs.Prelude.{◌≡◌, [], ◌∷◌, ◌+◌, ◌*◌, ◌/◌, ◌≤◌, length, take};
 ghost use Rattle.std.proofs.lemmas.List.Edits.{sets};
 ghost use Rattle.definitions.specs.Lists.{overwrite};
 ghost use Rattle.definitions.specs.Scan.{to_list};
@@ -7,17 +7,14 @@ ghost use Rattle.catalogue.specs.Terms.{numbers_per_term};
 ghost use Rattle.catalogue.specs.Pool.{maps_in, maps_of_day, numbers_per_entry};
 ghost use Rattle.pool_entries.specs.Steps.{map_at_lem, blank};
 
+use catalogue::sizes::{NUMBERS_PER_ENTRY, NUMBERS_PER_TERM};
 use number_sort::sort_numbers;
 use pool_terms::terms::has_day;
-
-const TERM_SIZE: usize = 7;
-
-const ENTRY_SIZE: usize = 4;
 
 pub fn count_maps(terms: &[u64], day: u64) -> usize
     ensures { result ≡ length (maps_in terms.now day) }
 {
-    (0..terms.len() / TERM_SIZE)
+    (0..terms.len() / NUMBERS_PER_TERM)
         .filter(|&i| has_day(terms, i, day))
         .count()
 }
@@ -30,7 +27,7 @@ fn put_map(terms: &[u64], i: usize, day: u64, output: &mut [u64], maps: usize) -
     ensures answer { result ≡ maps + length (to_list (map_at_lem terms.now day i)) }
 {
     if has_day(terms, i, day) {
-        output[maps] = terms[TERM_SIZE * i];
+        output[maps] = terms[NUMBERS_PER_TERM * i];
         return maps + 1;
     }
     maps
@@ -40,7 +37,7 @@ fn put_maps(terms: &[u64], day: u64, output: &mut [u64])
     requires { length (maps_in terms.now day) ≤ length output.old }
     ensures { output.new ≡ overwrite (maps_in terms.now day) output.old }
 {
-    let count = terms.len() / TERM_SIZE;
+    let count = terms.len() / NUMBERS_PER_TERM;
     let mut maps = 0;
     for i in 0..count {
         maps = put_map(terms, i, day, &mut *output, maps);
@@ -48,35 +45,33 @@ fn put_maps(terms: &[u64], day: u64, output: &mut [u64])
 }
 
 // Writes entry k, which shows no record.
-fn put_entry(output: &mut [u64], k: usize, map: u64)
-    requires { numbers_per_entry * (k + 1) ≤ length output.old }
-    ensures { output.new ≡ sets output.old (numbers_per_entry * k) (map ∷ 0 ∷ 0 ∷ 0 ∷ []) }
+fn put_entry(entries: &mut [u64], k: usize, map: u64)
+    requires { numbers_per_entry * (k + 1) ≤ length entries.old }
+    ensures { entries.new ≡ sets entries.old (numbers_per_entry * k) (map ∷ 0 ∷ 0 ∷ 0 ∷ []) }
 {
-    let at = ENTRY_SIZE * k;
-    output[at] = map;
-    output[at + 1] = 0;
-    output[at + 2] = 0;
-    output[at + 3] = 0;
+    let at = NUMBERS_PER_ENTRY * k;
+    entries[at..at + NUMBERS_PER_ENTRY].copy_from_slice(&[map, 0, 0, 0]);
 }
 
-// Spreads the maps at the front of the output to entries, from the last on, so that no map is overwritten before it is read.
-fn spread_maps(output: &mut [u64], maps: usize)
-    requires { numbers_per_entry * maps ≤ length output.old }
-    ensures { output.new ≡ overwrite (blank (take maps output.old)) output.old }
+// Spreads the maps at the front to entries, from the last on, so that no map is overwritten before it is read.
+fn spread_maps(entries: &mut [u64])
+    ensures { entries.new ≡ overwrite (blank (take (length entries.old / numbers_per_entry) entries.old)) entries.old }
 {
-    for k in (0..maps).rev() {
-        let map = output[k];
-        put_entry(&mut *output, k, map);
+    // Kept: a map is read from the list that its entry is written to, which no iterator lends twice.
+    for k in (0..entries.len() / NUMBERS_PER_ENTRY).rev() {
+        let map = entries[k];
+        put_entry(&mut *entries, k, map);
     }
 }
 
 // Writes the entries of the day's maps, by number; they show no record yet.
-pub fn put_entries(terms: &[u64], day: u64, maps: usize, output: &mut [u64])
-    requires maps_counted { maps ≡ length (maps_in terms.now day) }
-    requires output_room { numbers_per_entry * maps ≤ length output.old }
-    ensures { output.new ≡ overwrite (blank (maps_of_day terms.now day)) output.old }
+pub fn put_entries(terms: &[u64], day: u64, entries: &mut [u64])
+    requires { length entries.old ≡ numbers_per_entry * length (maps_in terms.now day) }
+    ensures { entries.new ≡ blank (maps_of_day terms.now day) }
 {
-    put_maps(terms, day, &mut *output);
-    sort_numbers(&mut output[..maps]);
-    spread_maps(&mut *output, maps);
+    let count = entries.len() / NUMBERS_PER_ENTRY;
+    let maps = &mut entries[..count];
+    put_maps(terms, day, &mut *maps);
+    sort_numbers(maps);
+    spread_maps(entries);
 }

@@ -1,4 +1,5 @@
--- The keys that are taken of terms whose maps are from one number to another, as the loops go, and what is known once their terms are apart. Assumes nothing.
+-- The keys that are taken of terms whose maps are from one number to another and completed, as the loops go, and what is known once their terms are apart. Assumes
+-- nothing.
 use Prim.Native.Nat.{ℕ, ◌+◌, ◌≤◌, ◌<◌}
 use native.Mathlib.Omega.{arith}
 use native.Mathlib.Nat.{le_antisymm}
@@ -10,7 +11,7 @@ use lib.Seq.{get_or-set_same, get_or-set_other, get_or-take, length-take-le}
 use lib.Dec.{eqb, ltb}
 use borrow.Author.Tests.{eqb-true, ltb-true, ltb-false}
 use Rattle.catalogue.specs.Terms.{term_at, days_of, overlap}
-use Rattle.pool_faults.specs.Apart.{Apart, ApartTo, ApartBetween, Between, position_in, Positions, AllApart, Fits, Keys, Keyed}
+use Rattle.pool_faults.specs.Apart.{Apart, ApartTo, ApartBetween, Between, position_in, Positions, AllApart, SamePositions, Keys, Keyed}
 use Rattle.pool_faults.specs.declared.apart.NoRoom.{NoRoom}
 use Rattle.std.specs.Prelude.{Result, Ok, Err}
 
@@ -57,15 +58,33 @@ module _ (l : List ℕ) (low high : ℕ) where
     at_front : (k : ℕ) → k < n → position_in (get_or (take n keys) k 0) ≡ position_in (get_or keys k 0)
     at_front k b = ap position_in (get_or-take n keys k 0 b)
 
-    long : length (take n keys) ≡ n
-    long = length-take-le n keys K.within
+    -- the keys that were taken, as a list of their own
+    pub keys-front : Keys l until low high (take n keys) (length (take n keys))
+    keys-front =
+        let long : length (take n keys) ≡ n = length-take-le n keys K.within in
+        record {
+          within = omega arith;
+          placed = λ k b. omega (arith, long, at_front k (omega (arith, long)), K.placed k (omega (arith, long)));
+          found = λ i b r.
+              let f = K.found i b r in
+              (f.0, omega (arith, long, f.1), at_front f.0 f.1 ∙ f.2);
+        }
 
-    pub keys_positions : Positions (take n keys) until
-    keys_positions k b =
-        let h : k < n = omega (arith, long) in
-        omega (arith, K.placed k h, at_front k h)
+    pub keys-same : {new : List ℕ} → SamePositions keys new → Keys l until low high new n
+    keys-same S =
+        record {
+          within = omega (arith, K.within, S.as_long);
+          placed = λ k b. omega (arith, S.same k (omega (arith, K.within)), K.placed k b);
+          found = λ i b r.
+              let f = K.found i b r in
+              (f.0, f.1, S.same f.0 (omega (arith, f.1, K.within)) ∙ f.2);
+        }
 
-    pub keys-apart : AllApart l (take n keys) → ApartBetween l low high until
+  module _ {until : ℕ} {keys : List ℕ} {n : ℕ} (K : Keys l until low high keys n) (whole : n ≡ length keys) where
+    pub keys_positions : Positions keys until
+    keys_positions k b = K.placed k (omega arith)
+
+    pub keys-apart : AllApart l keys → ApartBetween l low high until
     keys-apart A i j b h r d e = go (eqb (term_at l j).on_map (term_at l i).on_map) refl
       where
         go : (t : Bool) → eqb (term_at l j).on_map (term_at l i).on_map ≡ t → (t && overlap d (days_of (term_at l j))) ≡ false
@@ -74,22 +93,13 @@ module _ (l : List ℕ) (low high : ℕ) where
             let same : (term_at l j).on_map ≡ (term_at l i).on_map = eqb-true (term_at l j).on_map (term_at l i).on_map q in
             let x = K.found i h r in
             let y = K.found j (omega arith) (subst (Between low high) (sym same) r) in
-            let first = at_front x.0 x.1 ∙ x.2 in
-            let second = at_front y.0 y.1 ∙ y.2 in
             let apart : Apart l i j =
-            subst (λ m. Apart l m j) first
-            (subst (Apart l (position_in (get_or (take n keys) x.0 0))) second
-            (A x.0 y.0 (omega (arith, long, x.1)) (omega (arith, long, y.1)) (λ z. omega (arith, z, first, second)))) in
+            subst (λ m. Apart l m j) x.2
+            (subst (Apart l (position_in (get_or keys x.0 0))) y.2
+            (A x.0 y.0 (omega (arith, x.1)) (omega (arith, y.1)) (λ z. omega (arith, z, x.2, y.2)))) in
             subst (λ t. (t && overlap d (days_of (term_at l j))) ≡ false) q (apart d e)
 
 -- ---- what was taken, known by its case
-
-module _ (until room : ℕ) {t : Result ℕ NoRoom} (F : Fits until room t) where
-  pub maps-fit : {n : ℕ} → t ≡ Ok n → n ≤ room
-  maps-fit e = subst (Fits until room) e F
-
-  pub maps-stop : {stop : NoRoom} → t ≡ Err stop → stop.at < until
-  maps-stop e = subst (Fits until room) e F
 
 module _ (l : List ℕ) (until low high : ℕ) (keys : List ℕ) {t : Result ℕ NoRoom} (K : Keyed l until low high keys t) where
   pub keys-known : {n : ℕ} → t ≡ Ok n → Keys l until low high keys n

@@ -45,6 +45,11 @@ position_in key = key % 4294967296
 abbrev pub Positions : List ℕ → ℕ → Type 0
 Positions keys until = (k : ℕ) → k < length keys → position_in (get_or keys k 0) < until
 
+-- each key has the position that it had
+pub record SamePositions (old new : List ℕ) : Type 0 where
+  pub as_long : length new ≡ length old
+  pub same : (k : ℕ) → k < length old → position_in (get_or new k 0) ≡ position_in (get_or old k 0)
+
 -- along the first n keys each term precedes the next
 abbrev pub Following : List ℕ → List ℕ → ℕ → Type 0
 Following l keys n = (k : ℕ) → suc k < n → Precedes l (position_in (get_or keys k 0)) (position_in (get_or keys (suc k) 0))
@@ -55,11 +60,6 @@ AllApart l keys = (p q : ℕ) → p < length keys → q < length keys → (posit
     → Apart l (position_in (get_or keys p 0)) (position_in (get_or keys q 0))
 
 -- ---- terms taken
-
--- as many as there was room for, or a place below `until`
-abbrev pub Fits : ℕ → ℕ → Result ℕ NoRoom → Type 0
-Fits until room (Ok n) = n ≤ room
-Fits until room (Err no_room) = no_room.at < until
 
 -- the first n keys are of terms below `until`, and of all of them whose maps are from low to high
 pub record Keys (l : List ℕ) (until low high : ℕ) (keys : List ℕ) (n : ℕ) : Type 0 where

@@ -2,12 +2,11 @@
 // neighbours. What the positions are sorted by is a hint, of which nothing is proved: neighbours in a wrong order are found as those that overlap are.
 ghost use Rattle.std.specs.Prelude.{◌≡◌, true, false, ℕ, ◌+◌, ◌*◌, ◌≤◌, ◌<◌, length};
 ghost use Rattle.catalogue.specs.Terms.{numbers_per_term};
-ghost use Rattle.pool_faults.specs.Apart.{Precedes, position_in, Positions, Following, AllApart, Fits, Keys, Keyed, Between, ApartBetween, ApartTo};
+ghost use Rattle.pool_faults.specs.Apart.{Precedes, position_in, Positions, SamePositions, Following, AllApart, Keys, Keyed, Between, ApartBetween, ApartTo};
 
+use catalogue::sizes::NUMBERS_PER_TERM;
 use number_sort::sort_numbers;
 use pool_terms::terms::term_days;
-
-const TERM_SIZE: usize = 7;
 
 // A key has the place of the term's map among the sorted maps, its first day and its position, which has the lower half.
 const POSITIONS: u64 = 4_294_967_296;
@@ -82,10 +81,10 @@ fn precedes(terms: &[u64], i: usize, j: usize) -> bool
     requires { (numbers_per_term * (i + 1) ≤ length terms.now) × (numbers_per_term * (j + 1) ≤ length terms.now) }
     ensures { result ≡ true → Precedes terms.now i j }
 {
-    if terms[TERM_SIZE * i] < terms[TERM_SIZE * j] {
+    if terms[NUMBERS_PER_TERM * i] < terms[NUMBERS_PER_TERM * j] {
         return true;
     }
-    if terms[TERM_SIZE * j] < terms[TERM_SIZE * i] {
+    if terms[NUMBERS_PER_TERM * j] < terms[NUMBERS_PER_TERM * i] {
         return false;
     }
     match (term_days(terms, i), term_days(terms, j)) {
@@ -140,30 +139,41 @@ fn least_doubtful(terms: Terms, keys: &mut [u64]) -> usize
     least_astray(terms, keys)
 }
 
-// Takes the map of term i, if it is in the part, and gives how many are taken then.
-fn take_map(terms: &[u64], i: usize, part: Part, maps: &mut [u64], taken: usize) -> usize
-    requires { (numbers_per_term * (i + 1) ≤ length terms.now) × (taken < length maps.old) }
-    ensures { result ≤ length maps.old }
+// Takes term i, if its map is in the part: its map, and its position as a key. Gives how many are taken then.
+fn take_term(
+    terms: &[u64],
+    i: usize,
+    part: Part,
+    maps: &mut [u64],
+    keys: &mut [u64],
+    taken: usize,
+) -> usize
+    requires terms_room { numbers_per_term * (i + 1) ≤ length terms.now }
+    requires sizes { (i < 4294967296) × (taken < length keys.old) × (length maps.old ≡ length keys.old) }
+    requires keys { Keys terms.now i part.low part.high keys.old taken }
+    ensures { Keys terms.now (i + 1) part.low part.high keys.new result }
 {
-    let map = terms[TERM_SIZE * i];
+    let map = terms[NUMBERS_PER_TERM * i];
     if part.has(map) {
         maps[taken] = map;
+        keys[taken] = i as u64;
         return taken + 1;
     }
     taken
 }
 
-// Takes the maps of the first terms that are in the part.
-fn take_maps(terms: Terms, part: Part, maps: &mut [u64]) -> Result<usize, NoRoom>
-    requires { numbers_per_term * terms.count ≤ length terms.numbers.now }
-    ensures { Fits terms.entry.count (length maps.old) result }
+// Takes the first terms whose maps are in the part.
+fn take_terms(terms: Terms, part: Part, maps: &mut [u64], keys: &mut [u64]) -> Result<usize, NoRoom>
+    requires room { numbers_per_term * terms.count ≤ length terms.numbers.now }
+    requires sizes { (terms.count ≤ 4294967296) × (length maps.old ≡ length keys.old) }
+    ensures { Keyed terms.entry.numbers.now terms.entry.count part.low part.high keys.new result }
 {
     let mut taken = 0;
     for i in 0..terms.count {
-        if taken == maps.len() {
+        if taken == keys.len() {
             return Err(NoRoom { at: i });
         }
-        taken = take_map(terms.numbers, i, part, &mut *maps, taken);
+        taken = take_term(terms.numbers, i, part, &mut *maps, &mut *keys, taken);
     }
     Ok(taken)
 }
@@ -180,65 +190,38 @@ fn key_of(terms: &[u64], i: usize, maps: &[u64]) -> u64
     requires sizes { (i < 4294967296) × (length maps.now < 65536) }
     ensures { position_in result ≡ i }
 {
-    let place = place_of(maps, terms[TERM_SIZE * i]);
+    let place = place_of(maps, terms[NUMBERS_PER_TERM * i]);
     let first = term_days(terms, i).map_or(0, |days| days.from);
     (place * DAY_NUMBERS + first % DAY_NUMBERS) * POSITIONS + i as u64
 }
 
-// Takes the key of term i, if its map is in the part, and gives how many are taken then.
-fn take_key(
-    terms: &[u64],
-    i: usize,
-    part: Part,
-    maps: &[u64],
-    keys: &mut [u64],
-    taken: usize,
-) -> usize
-    requires room { (numbers_per_term * (i + 1) ≤ length terms.now) × (taken < length keys.old) }
-    requires sizes { (i < 4294967296) × (length maps.now < 65536) }
-    requires keys { Keys terms.now i part.low part.high keys.old taken }
-    ensures { Keys terms.now (i + 1) part.low part.high keys.new result }
+// Puts the places of the maps and the first days in front of the positions.
+fn complete_keys(terms: Terms, maps: &[u64], keys: &mut [u64])
+    requires room { (numbers_per_term * terms.count ≤ length terms.numbers.now) × Positions keys.old terms.count }
+    requires sizes { length maps.now < 65536 }
+    ensures { SamePositions keys.old keys.new }
 {
-    if part.has(terms[TERM_SIZE * i]) {
-        keys[taken] = key_of(terms, i, maps);
-        return taken + 1;
+    for key in keys.iter_mut() {
+        *key = key_of(terms.numbers, position_in(*key), maps);
     }
-    taken
-}
-
-// Takes the keys of the first terms whose maps are in the part.
-fn take_keys(terms: Terms, part: Part, maps: &[u64], keys: &mut [u64]) -> Result<usize, NoRoom>
-    requires room { numbers_per_term * terms.count ≤ length terms.numbers.now }
-    requires sizes { (terms.count ≤ 4294967296) × (length maps.now < 65536) }
-    ensures { Keyed terms.entry.numbers.now terms.entry.count part.low part.high keys.new result }
-{
-    let mut taken = 0;
-    for i in 0..terms.count {
-        if taken == keys.len() {
-            return Err(NoRoom { at: i });
-        }
-        taken = take_key(terms.numbers, i, part, maps, &mut *keys, taken);
-    }
-    Ok(taken)
 }
 
 // A position up to which nothing is known of the terms of the part's maps, which are these; their count where no two of one map overlap.
 fn doubt_between(terms: Terms, part: Part, maps: &mut [u64], keys: &mut [u64]) -> usize
     requires room { numbers_per_term * terms.count ≤ length terms.numbers.now }
-    requires sizes { (terms.count ≤ 4294967296) × (length maps.old < 65536) }
+    requires sizes { length maps.old < 65536 }
+    requires keys { Keys terms.numbers.now terms.count part.low part.high keys.old (length keys.old) }
     ensures { (result ≤ terms.entry.count) × (result ≡ terms.entry.count → ApartBetween terms.entry.numbers.now part.low part.high terms.entry.count) }
 {
     sort_numbers(&mut *maps);
-    match take_keys(terms, part, maps, &mut *keys) {
-        Err(no_room) => no_room.at,
-        Ok(taken) => least_doubtful(terms, &mut keys[..taken]),
-    }
+    complete_keys(terms, maps, &mut *keys);
+    least_doubtful(terms, keys)
 }
 
 // The same of the terms of all maps. They are taken in parts, each of as many maps as there is room for the terms of.
 fn doubt_of_all(terms: Terms, maps: &mut [u64], keys: &mut [u64]) -> usize
     requires sizes { (numbers_per_term * terms.count ≤ length terms.numbers.now) × (terms.count ≤ 4294967296) }
-    requires maps_room { length maps.old < 65536 }
+    requires tables { (length maps.old < 65536) × (length maps.old ≡ length keys.old) }
     ensures { (result ≤ terms.entry.count) × (result ≡ terms.entry.count → ApartTo terms.entry.numbers.now terms.entry.count) }
 {
     let mut doubt = terms.count;
@@ -248,7 +231,7 @@ fn doubt_of_all(terms: Terms, maps: &mut [u64], keys: &mut [u64]) -> usize
     };
     // Kept: where a part starts and ends depends on what the last one had room for, so that no range gives the parts.
     'parts: loop {
-        match take_maps(terms, part, &mut *maps) {
+        match take_terms(terms, part, &mut *maps, &mut *keys) {
             Err(no_room) => {
                 if part.low == part.high {
                     return no_room.at;
@@ -256,7 +239,7 @@ fn doubt_of_all(terms: Terms, maps: &mut [u64], keys: &mut [u64]) -> usize
                 part = part.lower_half();
             }
             Ok(count) => {
-                let found = doubt_between(terms, part, &mut maps[..count], &mut *keys);
+                let found = doubt_between(terms, part, &mut maps[..count], &mut keys[..count]);
                 doubt = doubt.min(found);
                 if part.high == LAST_MAP {
                     return doubt;
@@ -281,7 +264,7 @@ fn next_part(apart: usize, high: usize, whole: bool) -> usize
 // How many of the first terms do not overlap, with tables to work in.
 fn apart_terms_by(terms: &[u64], sound: usize, maps: &mut [u64], keys: &mut [u64]) -> usize
     requires sizes { (numbers_per_term * sound ≤ length terms.now) × (sound ≤ 4294967296) }
-    requires maps_room { length maps.old < 65536 }
+    requires tables { (length maps.old < 65536) × (length maps.old ≡ length keys.old) }
     ensures { (result ≤ sound) × ApartTo terms.now result }
 {
     let mut apart = 0;

@@ -7,10 +7,9 @@ ghost use Rattle.pool_faults.specs.Ends.{Latest};
 ghost use Rattle.pool_faults.specs.Apart.{Sound, Faultless};
 
 use crate::apart::apart_terms;
+use catalogue::sizes::NUMBERS_PER_TERM;
 use pool_terms::terms::{term_days, term_fault};
 use refusals::Refusal;
-
-const TERM_SIZE: usize = 7;
 
 // Maps are told apart by the remainders of their numbers, as far as that goes.
 const SLOTS: usize = 4096;
@@ -28,7 +27,7 @@ fn keep_end(terms: &[u64], i: usize, ends: &mut [u64; SLOTS])
     ensures { Latest terms.now (i + 1) ends.new }
 {
     if let Some(days) = term_days(terms, i) {
-        let slot = slot_of(terms[TERM_SIZE * i]);
+        let slot = slot_of(terms[NUMBERS_PER_TERM * i]);
         ends[slot] = ends[slot].max(days.to);
     }
 }
@@ -42,7 +41,9 @@ fn passes(terms: &[u64], i: usize, ends: &[u64; SLOTS]) -> bool
 {
     match term_days(terms, i) {
         None => false,
-        Some(days) => { days.from < days.to && ends[slot_of(terms[TERM_SIZE * i])] <= days.from }
+        Some(days) => {
+            days.from < days.to && ends[slot_of(terms[NUMBERS_PER_TERM * i])] <= days.from
+        }
     }
 }
 
@@ -100,7 +101,7 @@ fn faultless_terms(terms: &[u64], count: usize) -> usize
 pub fn terms_fault(terms: &[u64]) -> Result<(), Refusal>
     ensures { refusal_in result ≡ terms_refusal terms.now }
 {
-    let count = terms.len() / TERM_SIZE;
+    let count = terms.len() / NUMBERS_PER_TERM;
     for i in faultless_terms(terms, count)..count {
         term_fault(terms, i)?;
     }

@@ -4,7 +4,7 @@ use mathlib.Core.Path.{◌≡◌, refl, sym, ap, ◌∙◌}
 use Rattle.std.specs.Prelude.{Err}
 use Rattle.refusals.specs.Refusals.{refusal_in}
 use Rattle.refusals.specs.Answers.{answer_of}
-use Rattle.pool_terms.specs.Contract.{date}
+use Rattle.pool_terms.specs.Contract.{date_as}
 use Rattle.pool.proofs.Verdicts.{lists-refused, day-refused, day-listed, listed-at_exit, terms_fine}
 use Rattle.pool.proofs.maps_of_day.Goals as goal
 
@@ -31,5 +31,5 @@ returns-in-Some c =
     record {
       answer = L.answer ∙ day-listed _ _ _ _ (sym (ap refusal_in c.in_ok-check_lists.was) ∙ c.check_lists.ensures) day;
       output = L.output
-          ∙ listed-at_exit (answer_of c.list_day.result).number lent.terms.now lent.records.now (date lent.year lent.month lent.day) lent.output.now day;
+          ∙ listed-at_exit (answer_of c.list_day.result).number lent.terms.now lent.records.now (date_as lent.date) lent.output.now day;
     }

@@ -2,7 +2,7 @@
 use mathlib.Core.Path.{sym, ap, ◌∙◌}
 use Rattle.definitions.specs.Verdict.{Answer}
 use Rattle.catalogue.specs.Pool.{pool_at_exit}
-use Rattle.pool_terms.specs.Contract.{date}
+use Rattle.pool_terms.specs.Contract.{date_as}
 use Rattle.pool.proofs.pool_maps_of_day.Goals as goal
 
 pub returns : goal.returns
@@ -11,5 +11,5 @@ returns c =
     record {
       answer = c.from.ensures ∙ c.maps_of_day.ensures.answer;
       output = c.maps_of_day.ensures.output
-          ∙ ap (λ (x : Answer). pool_at_exit x.number lent.terms.now lent.records.now (date lent.year lent.month lent.day) lent.output.now) (sym c.from.ensures);
+          ∙ ap (λ (x : Answer). pool_at_exit x.number lent.terms.now lent.records.now (date_as lent.date) lent.output.now) (sym c.from.ensures);
     }

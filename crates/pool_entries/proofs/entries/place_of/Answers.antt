@@ -1,20 +1,13 @@
--- `entries::place_of` meets its contract, by halves. The measure is the number of places that are left. Assumes nothing.
-use borrow.Author.Tests.{lt-ltb, le-ltb}
-use Rattle.laws.specs.OrderLaws.Halving.{between-all, between_lower, between-upper, between_none}
-use native.Mathlib.Omega.{arith}
-use borrow.Author.Rules.{rules}
+-- `entries::place_of` meets its contract, by what `partition_point` says of entries in order. Assumes nothing.
+use Rattle.std.proofs.Common.{rules, tests}
+use Rattle.std.proofs.lemmas.List.Sorted.{IsPartitionPoint-from_clause}
+use Rattle.pool_entries.proofs.Placing.{is_front, parted, placed}
 use Rattle.pool_entries.proofs.entries.place_of.Goals as goal
 
-pub loop-low-init : goal.loop-low-init
-loop-low-init c = between-all (search rules)
-
-pub loop-low-preserved-then-map-output : goal.loop-low-preserved-then-map-output
-loop-low-preserved-then-map-output c =
-    between_lower c.loop-low.invariant (omega arith) (omega arith) (lt-ltb _ _ c.if-map-output.true)
-
-pub loop-low-preserved : goal.loop-low-preserved
-loop-low-preserved c =
-    between-upper c.loop-low.invariant (omega arith) (omega arith) (le-ltb _ _ c.if-map-output.false)
-
-pub returns : goal.returns
-returns c = between_none c.loop-low.invariant (search rules)
+pub returns-clause-found : goal.returns-clause-found
+returns-clause-found c M f rising e =
+    let l = c.args.entries.now in
+    let map = c.args.map in
+    let chunks = c.as_chunks.ensures.front in
+    placed l map chunks M f rising e c.partition_point.result c.partition_point.ensures.bound
+    (IsPartitionPoint-from_clause (is_front map) _ c.partition_point.result c.partition_point.ensures.partitioned (parted l map chunks M f rising e) (λ a r q k. search (rules, tests)))

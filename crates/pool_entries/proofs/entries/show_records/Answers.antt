@@ -1,4 +1,4 @@
--- `entries::show_records` meets its contract. The invariant is `Showing`; the measure is what is left of the records. Assumes nothing.
+-- `entries::show_records` meets its contract. The invariant is `Showing`. Assumes nothing.
 use Rattle.pool_entries.proofs.Showing.{showing_starts, showing_goes_on, showing_ends}
 use borrow.Author.Rules.{rules}
 use Rattle.pool_entries.proofs.entries.show_records.Goals as goal
@@ -7,8 +7,7 @@ pub loop-i-init : goal.loop-i-init
 loop-i-init c = showing_starts
 
 pub loop-i-preserved : goal.loop-i-preserved
-loop-i-preserved c =
-    showing_goes_on c.loop-i.invariant c.loop-i-test.true (search rules) c.show_record.ensures
+loop-i-preserved c = showing_goes_on c.loop-i.invariant (search rules) c.show_record.ensures
 
 pub returns : goal.returns
-returns c = showing_ends c.loop-i.invariant c.loop-i-test.false
+returns c = showing_ends c.loop-i.invariant (search rules)

@@ -1,20 +1,7 @@
--- `maps::put_entry` meets its contract: four stores, one behind the other. Assumes nothing.
-use Prim.Native.Nat.{◌*◌}
-use lib.ListN.{length-set}
-use native.Mathlib.Omega.{arith}
-use Rattle.laws.specs.ListLaws.Stores.{four-stored}
+-- `maps::put_entry` meets its contract: four numbers are copied. Assumes nothing.
+use Rattle.std.proofs.Common.{arith, ◌*◌}
+use Rattle.accession.proofs.Copying.{put_four}
 use Rattle.pool_entries.proofs.maps.put_entry.Goals as goal
 
-pub bounds-output-at-2 : goal.bounds-output-at-2
-bounds-output-at-2 c = simp length-set (omega arith)
-
-pub bounds-output-at-3 : goal.bounds-output-at-3
-bounds-output-at-3 c = simp length-set (omega arith)
-
-pub bounds-output-at-4 : goal.bounds-output-at-4
-bounds-output-at-4 c = simp length-set (omega arith)
-
 pub returns : goal.returns
-returns c =
-    let a = c.args in
-    four-stored a.output.now (4 * a.k) a.map 0 0 0
+returns c = put_four c.args.entries.now (4 * c.args.k) c.args.map 0 0 0 (omega (arith, c.requires)) c.copy_from_slice.ensures.after

@@ -5,7 +5,7 @@ use Prim.Native.Nat.{ℕ, suc, ◌+◌, ◌*◌, ◌-◌, ◌≤◌, ◌<◌, mi
 use native.Mathlib.Nat.{mul-suc, mul-le-mul_left}
 use mathlib.Core.Path.{◌≡◌, refl}
 use lib.Seq.{length-take-le}
-use Rattle.pool_faults.proofs.Taking.{maps-fit, maps-stop, nothing_known, below_more, below_all}
+use Rattle.pool_faults.proofs.Taking.{keys-front, keys-known, keys-stop, nothing_known, below_more, below_all}
 use borrow.Author.Rules.{rules}
 use Rattle.pool_faults.proofs.apart.doubt_of_all.Goals as goal
 
@@ -30,7 +30,7 @@ parts-init c = (search rules, search rules, search rules, refl, refl, λ e i j a
 
 pub returns-then-part : goal.returns-then-part
 returns-then-part c =
-    nothing_known (maps-stop _ _ c.take_maps.ensures c.in-Err.is)
+    nothing_known (keys-stop _ _ _ _ _ c.take_terms.ensures c.in-Err.is)
 
 pub parts-preserved-in-Err : goal.parts-preserved-in-Err
 parts-preserved-in-Err c =
@@ -38,10 +38,11 @@ parts-preserved-in-Err c =
 
 pub doubt_between-found-requires : goal.doubt_between-found-requires
 doubt_between-found-requires c =
-    let fits = maps-fit _ _ c.take_maps.ensures c.in-Ok.is in
+    let K = keys-known _ _ _ _ _ c.take_terms.ensures c.in-Ok.is in
     record {
       room = search rules;
-      sizes = (search rules, omega (arith, fits, length-take-le c.in-Ok.count c.take_maps.new.maps (still-fits fits (search rules)), c.parts.invariant.3, c.requires.maps_room));
+      sizes = omega (arith, length-take-le c.in-Ok.count c.take_terms.new.maps (still-fits K.within (search rules)), K.within, c.parts.invariant.3, c.requires.tables);
+      keys = keys-front _ _ _ K;
     }
 
 pub returns-then-part-2 : goal.returns-then-part-2

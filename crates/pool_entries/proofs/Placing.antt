@@ -1,0 +1,65 @@
+-- The place that a search by halves finds among entries of rising maps, of which each chunk has its map in front (`placed`). Assumes nothing.
+use Prim.Native.Nat.{ℕ, zero, suc, ◌+◌, ◌*◌, ◌/◌, ◌≤◌, ◌<◌}
+use native.Mathlib.Omega.{arith}
+use mathlib.Core.Path.{◌≡◌, refl, sym, ap, ◌∙◌}
+use mathlib.Core.Bool.{Bool, true, false}
+use mathlib.Core.List.{List, []}
+use lib.ListN.{length, get_or, take, drop, length-drop}
+use lib.Seq.{get_or-take}
+use lib.Dec.{eqb, leb}
+use borrow.Author.Tests.{leb-true, leb-false, le-leb, eqb-true, eqb-false}
+use Rattle.std.specs.Prelude.{Option}
+use Rattle.std.specs.Simd.{first_chunks}
+use Rattle.std.specs.List.Sorted.{IsPartitionPoint, IsPartitionedBy}
+use Rattle.std.proofs.lemmas.List.{get_or-drop}
+use Rattle.catalogue.specs.Accession.{Accession}
+use Rattle.catalogue.specs.PoolLaws.{Rising}
+use Rattle.pool_entries.specs.Steps.{entries_by, Behind}
+use Rattle.pool_entries.proofs.Spreading.{entries-length}
+use Rattle.pool_entries.proofs.Showing.{map_in_entry}
+
+-- the number in front of chunk i
+head_at : (n : ℕ) (l : List ℕ) (i : ℕ) (d : List ℕ) → i < n → 4 * n ≤ length l → get_or (get_or (first_chunks 4 n l) i d) 0 0 ≡ get_or l (4 * i) 0
+head_at zero l i d h k = absurd (omega arith)
+head_at (suc n) l zero d h k = get_or-take 4 l 0 0 (omega arith)
+head_at (suc n) l (suc i) d h k =
+    let next : 4 + 4 * i ≡ 4 * suc i = omega arith in
+    head_at n (drop 4 l) i d (omega arith) (omega (arith, length-drop 4 l)) ∙ get_or-drop 4 l (4 * i) 0 ∙ ap (λ j. get_or l j 0) next
+
+chunk-count : (n : ℕ) (l : List ℕ) → length (first_chunks 4 n l) ≡ n
+chunk-count zero l = refl
+chunk-count (suc n) l = ap suc (chunk-count n (drop 4 l))
+
+-- an entry's map is at most this one
+abbrev pub is_front : ℕ → List ℕ → Bool
+is_front map entry = leb (get_or entry 0 0) map
+
+module _
+    (l : List ℕ) (map : ℕ) {chunks : List (List ℕ)} (E : chunks ≡ first_chunks 4 (length l / 4) l)
+    (M : List ℕ) (f : ℕ → Option Accession) (rising : Rising M) (B : l ≡ entries_by f M) where
+  counted : length l / 4 ≡ length M
+  counted = omega (arith, ap length B, entries-length f M)
+
+  count : length chunks ≡ length M
+  count = ap length E ∙ chunk-count (length l / 4) l ∙ counted
+
+  column : (k : ℕ) (d : List ℕ) → k < length M → get_or (get_or chunks k d) 0 0 ≡ get_or M k 0
+  column k d h =
+      ap (λ t. get_or (get_or t k d) 0 0) E ∙ head_at (length l / 4) l k d (omega (arith, counted)) (omega arith) ∙ map_in_entry f M B k h
+
+  pub parted : IsPartitionedBy (is_front map) chunks
+  parted i j d a b e =
+      let last : get_or M j 0 ≤ map = omega (arith, leb-true (get_or (get_or chunks j d) 0 0) map e, column j d (omega (arith, count))) in
+      le-leb (get_or (get_or chunks i d) 0 0) map (go i j a (omega (arith, count)) last (column i d (omega (arith, count))) (eqb i j) refl)
+    where
+      go : (i j : ℕ) → i ≤ j → j < length M → get_or M j 0 ≤ map → {x : ℕ} → x ≡ get_or M i 0 → (t : Bool) → eqb i j ≡ t → x ≤ map
+      go i j a b h e true t = let same : i ≡ j = eqb-true i j t in omega (arith, e, ap (λ k. get_or M k 0) same, h)
+      go i j a b h e false t = let d : (i ≡ j → ⊥) = eqb-false i j t in omega (arith, e, rising i j (omega arith) b, h)
+
+  pub placed : (p : ℕ) → p ≤ length chunks → IsPartitionPoint (λ e. is_front map e ≡ true) (λ e. is_front map e ≡ false) chunks p → Behind M map p
+  placed p h P =
+      record {
+        within = omega (arith, count);
+        front = λ k b. omega (arith, leb-true (get_or (get_or chunks k []) 0 0) map (P.0 k [] (omega arith) b), column k [] (omega (arith, count)));
+        back = λ k a b. omega (arith, leb-false (get_or (get_or chunks k []) 0 0) map (P.1 k [] a (omega (arith, count))), column k [] b);
+      }

@@ -1,9 +1,0 @@
--- `apart::take_keys` meets its contract. The invariant: the keys are those of the terms below i. Assumes nothing.
-use Prim.Native.Nat.{◌≤◌}
-use mathlib.Core.Path.{◌≡◌}
-use lib.ListN.{length}
-use Rattle.pool_faults.specs.Apart.{Keys}
-use Rattle.pool_faults.proofs.apart.take_keys.Given as goal
-
-abbrev pub invariant-loop-i : goal.invariant-loop-i
-invariant-loop-i l = (l.i ≤ l.terms.count) × Keys l.terms.numbers.now l.i l.part.low l.part.high l.keys l.taken × (length l.keys ≡ length l.initial.keys)
