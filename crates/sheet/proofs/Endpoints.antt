@@ -2,14 +2,13 @@
 use Prim.Native.Nat.{ℕ, ◌+◌, ◌*◌, ◌≤◌}
 use native.Mathlib.Omega.{arith}
 use mathlib.Core.Path.{◌≡◌, sym, ap, subst, ◌∙◌}
-use mathlib.Core.Bool.{cond}
+use mathlib.Core.Bool.{Bool, true, false, cond}
 use mathlib.Core.List.{List}
 use lib.ListN.{length}
 use lib.Seq.{sets}
-use borrow.Author.Tests.{eq-eqb, ne_eqb}
 use Rattle.definitions.specs.Lists.{overwrite}
 use Rattle.definitions.specs.Grid.{segment_at}
-use Rattle.definitions.specs.Sheet.{has_spans, endpoints, endpoints_in}
+use Rattle.definitions.specs.Sheet.{endpoints, endpoints_in}
 use Rattle.laws.specs.ListLaws.Overwritten.{overwrite_more}
 use Rattle.laws.specs.SheetReading.Endpoints.{endpoints-long, endpoints_more}
 
@@ -25,16 +24,16 @@ endpoints-stored i boundaries old h =
 
 -- ---- by the kind
 
-module _ {A : Type 0} (kind : ℕ) (own other : A) where
-  pub of_kind_1 : kind ≡ 1 → cond (has_spans kind) own other ≡ own
-  of_kind_1 e = ap (λ t. cond t own other) (eq-eqb kind 1 e)
+module _ {A : Type 0} {own : Bool} (t : Bool) (mine other : A) (e : t ≡ own) where
+  pub of_own : t ≡ true → cond own mine other ≡ mine
+  of_own h = ap (λ t. cond t mine other) (sym e ∙ h)
 
-  pub of_kind_3 : (kind ≡ 1 → ⊥) → cond (has_spans kind) own other ≡ other
-  of_kind_3 e = ap (λ t. cond t own other) (ne_eqb kind 1 e)
+  pub of_shared : t ≡ false → cond own mine other ≡ other
+  of_shared h = ap (λ t. cond t mine other) (sym e ∙ h)
 
-module _ (kind own other : ℕ) {room : ℕ} (h : cond (has_spans kind) own other ≤ room) where
-  pub own-fit : kind ≡ 1 → own ≤ room
-  own-fit e = subst (λ n. n ≤ room) (of_kind_1 kind own other e) h
+module _ {own : Bool} (t : Bool) (mine other : ℕ) {room : ℕ} (e : t ≡ own) (h : cond own mine other ≤ room) where
+  pub own-fit : t ≡ true → mine ≤ room
+  own-fit k = subst (λ n. n ≤ room) (of_own t mine other e k) h
 
-  pub other-fit : (kind ≡ 1 → ⊥) → other ≤ room
-  other-fit e = subst (λ n. n ≤ room) (of_kind_3 kind own other e) h
+  pub other-fit : t ≡ false → other ≤ room
+  other-fit k = subst (λ n. n ≤ room) (of_shared t mine other e k) h

@@ -6,7 +6,7 @@ use mathlib.Core.Path.{ap, ◌∙◌}
 use mathlib.Core.Bool.{cond}
 use Rattle.definitions.specs.Lists.{overwrite}
 use Rattle.definitions.specs.Sheet.{has_spans, endpoints_in}
-use Rattle.sheet.specs.Parts.{part_of}
+use Rattle.sheet.specs.Parts.{kind_number, part_of}
 use Rattle.sheet.proofs.Filling.{held-length}
 use Rattle.sheet.proofs.Answering.{stored-long, spans-stored}
 use Rattle.sheet.proofs.fill.Goals as goal
@@ -34,12 +34,12 @@ pub returns : goal.returns
 returns c =
     let given = c.args in
     let bytes = given.bytes.now in
-    let own = has_spans given.kind in
+    let own = has_spans (kind_number given.kind) in
     let b = given.parts.spans in
     let c₁ = given.parts.boundaries in
     let old = given.spans.now in
     let stored =
     c.fill_spans.ensures
-    ∙ ap (λ l. overwrite (cond own (part_of bytes b) (endpoints_in (c₁.length / 9) l)) old) c.fill_numbers.ensures
+    ∙ ap (λ l. overwrite (cond own (part_of bytes b) (endpoints_in (c₁.count / 9) l)) old) c.fill_numbers.ensures
     ∙ ap (λ l. overwrite l old) (spans-stored own bytes b c₁ given.boundaries.now c.requires.held.boundaries) in
     record { cells = c.fill_cells.ensures; spans = stored; boundaries = c.fill_numbers.ensures; anchors = c.fill_numbers-2.ensures }
