@@ -1,16 +1,37 @@
 -- Endpoints of boundaries stored as spans: four stores, one behind the other, and one span more; and which spans are stored, by the kind. Assumes nothing.
-use Prim.Native.Nat.{ℕ, ◌+◌, ◌*◌, ◌≤◌}
+use Prim.Native.Nat.{ℕ, ◌+◌, ◌-◌, ◌*◌, ◌≤◌, ◌<◌}
 use native.Mathlib.Omega.{arith}
-use mathlib.Core.Path.{◌≡◌, sym, ap, subst, ◌∙◌}
+use native.Mathlib.Numerals.{add-one}
+use mathlib.Core.Path.{◌≡◌, sym, ap, ap₂, subst, ◌∙◌}
 use mathlib.Core.Bool.{Bool, true, false, cond}
-use mathlib.Core.List.{List}
-use lib.ListN.{length}
-use lib.Seq.{sets}
+use mathlib.Core.List.{List, ◌∷◌, ◌++◌, append_assoc}
+use lib.ListN.{length, take, drop, get_or}
+use lib.Seq.{sets, sets-eq, drop-cons, drop-drop}
+use borrow.Rule.Slice.PartMut.{put_mid}
 use Rattle.definitions.specs.Lists.{overwrite}
 use Rattle.definitions.specs.Grid.{segment_at}
 use Rattle.definitions.specs.Sheet.{endpoints, endpoints_in}
 use Rattle.laws.specs.ListLaws.Overwritten.{overwrite_more}
 use Rattle.laws.specs.SheetReading.Endpoints.{endpoints-long, endpoints_more}
+
+-- four numbers of a list, one by one
+pub endpoints-taken : (l : List ℕ) (k : ℕ) → k + 4 ≤ length l → take (k + 4 - k) (drop k l) ≡ endpoints (segment_at l k)
+endpoints-taken l k h =
+    let four : k + 4 - k ≡ 4 = omega arith in
+    ap (λ n. take n (drop k l)) four ∙ ap (take 4) (next k (omega arith)) ∙ ap (λ m. get_or l k 0 ∷ take 3 m) (next (k + 1) (omega arith) ∙ ap (λ m. get_or l (k + 1) 0 ∷ m) (again (k + 1) (k + 2) (omega arith) (omega arith)))
+    ∙ ap (λ m. get_or l k 0 ∷ get_or l (k + 1) 0 ∷ get_or l (k + 2) 0 ∷ take 1 m) (again (k + 2) (k + 3) (omega arith) (omega arith))
+  where
+    next : (j : ℕ) → j < length l → drop j l ≡ get_or l j 0 ∷ drop (j + 1) l
+    next j g = drop-cons l j 0 g ∙ ap (λ n. get_or l j 0 ∷ drop n l) (sym (add-one j))
+
+    again : (i j : ℕ) → i + 1 ≡ j → j < length l → drop (i + 1) l ≡ get_or l j 0 ∷ drop (j + 1) l
+    again i j e g = ap (λ n. drop n l) e ∙ next j g
+
+-- numbers in the place of as many
+pub put_taken : (old numbers : List ℕ) (at : ℕ) {part : List ℕ} → at + length numbers ≤ length old → part ≡ numbers → put_mid at (at + length numbers - at) old part ≡ sets old at numbers
+put_taken old numbers at h e =
+    let behind : drop (at + length numbers - at) (drop at old) ≡ drop (at + length numbers) old = drop-drop _ at old ∙ ap (λ n. drop n old) (omega arith) in
+    ap₂ (λ l r. take at old ++ (l ++ r)) e behind ∙ sym (sets-eq numbers old at h ∙ append_assoc (take at old) numbers (drop (at + length numbers) old))
 
 pub endpoints-stored : (i : ℕ) (boundaries old : List ℕ) → 4 * i + 4 ≤ length old
     → sets (overwrite (endpoints_in i boundaries) old) (4 * i) (endpoints (segment_at boundaries (9 * i))) ≡ overwrite (endpoints_in (i + 1) boundaries) old

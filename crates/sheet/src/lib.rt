@@ -467,10 +467,7 @@ fn put_endpoints(boundaries: &[u64], i: usize, spans: &mut [u64])
 {
     let k = NUMBERS_PER_BOUNDARY * i;
     let place = NUMBERS_PER_SPAN * i;
-    spans[place] = boundaries[k];
-    spans[place + 1] = boundaries[k + 1];
-    spans[place + 2] = boundaries[k + 2];
-    spans[place + 3] = boundaries[k + 3];
+    spans[place..place + NUMBERS_PER_SPAN].copy_from_slice(&boundaries[k..k + NUMBERS_PER_SPAN]);
 }
 
 // Stores the endpoints of the first boundaries, so many of them, as spans.
