@@ -2,12 +2,11 @@
 use Prim.Native.Nat.{ℕ, ◌+◌, ◌-◌, ◌*◌, ◌≤◌, ◌<◌}
 use native.Mathlib.Omega.{arith}
 use native.Mathlib.Numerals.{add-one}
-use mathlib.Core.Path.{◌≡◌, sym, ap, ap₂, subst, ◌∙◌}
+use mathlib.Core.Path.{◌≡◌, sym, ap, subst, ◌∙◌}
 use mathlib.Core.Bool.{Bool, true, false, cond}
-use mathlib.Core.List.{List, ◌∷◌, ◌++◌, append_assoc}
+use mathlib.Core.List.{List, ◌∷◌}
 use lib.ListN.{length, take, drop, get_or}
-use lib.Seq.{sets, sets-eq, drop-cons, drop-drop}
-use borrow.Rule.Slice.PartMut.{put_mid}
+use lib.Seq.{sets, drop-cons}
 use Rattle.definitions.specs.Lists.{overwrite}
 use Rattle.definitions.specs.Grid.{segment_at}
 use Rattle.definitions.specs.Sheet.{endpoints, endpoints_in}
@@ -26,12 +25,6 @@ endpoints-taken l k h =
 
     again : (i j : ℕ) → i + 1 ≡ j → j < length l → drop (i + 1) l ≡ get_or l j 0 ∷ drop (j + 1) l
     again i j e g = ap (λ n. drop n l) e ∙ next j g
-
--- numbers in the place of as many
-pub put_taken : (old numbers : List ℕ) (at : ℕ) {part : List ℕ} → at + length numbers ≤ length old → part ≡ numbers → put_mid at (at + length numbers - at) old part ≡ sets old at numbers
-put_taken old numbers at h e =
-    let behind : drop (at + length numbers - at) (drop at old) ≡ drop (at + length numbers) old = drop-drop _ at old ∙ ap (λ n. drop n old) (omega arith) in
-    ap₂ (λ l r. take at old ++ (l ++ r)) e behind ∙ sym (sets-eq numbers old at h ∙ append_assoc (take at old) numbers (drop (at + length numbers) old))
 
 pub endpoints-stored : (i : ℕ) (boundaries old : List ℕ) → 4 * i + 4 ≤ length old
     → sets (overwrite (endpoints_in i boundaries) old) (4 * i) (endpoints (segment_at boundaries (9 * i))) ≡ overwrite (endpoints_in (i + 1) boundaries) old

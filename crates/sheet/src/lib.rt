@@ -151,17 +151,17 @@ fn short_at(bytes: &[u8], at: usize) -> Option<Found<u64>>
     None
 }
 
-// Stores numbers that were judged before, from place `first` of the list up to `count`.
-fn fill_rest(bytes: &[u8], at: usize, first: usize, count: usize, out: &mut [u64])
-    requires { (Held grammar.number bytes.now at (count - first)) × (first ≤ count) × (count ≤ length out.old) }
-    ensures { out.new ≡ sets out.old first (values_at grammar.number bytes.now at (count - first)) }
+// Fills a list with numbers that were judged before.
+fn fill_rest(bytes: &[u8], at: usize, out: &mut [u64])
+    requires { Held grammar.number bytes.now at (length out.old) }
+    ensures { out.new ≡ values_at grammar.number bytes.now at (length out.old) }
 {
     let mut next = at;
-    for i in first..count {
+    for entry in out.iter_mut() {
         let Ok(read) = item(bytes, next, u64::MAX) else {
             return;
         };
-        out[i] = read.value;
+        *entry = read.value;
         next = read.next;
     }
 }
@@ -174,7 +174,7 @@ pub fn fill_numbers(bytes: &[u8], at: usize, count: usize, out: &mut [u64])
     let mut next = at;
     for i in 0..count {
         let Some(read) = short_at(bytes, next) else {
-            fill_rest(bytes, next, i, count, &mut *out);
+            fill_rest(bytes, next, &mut out[i..count]);
             return;
         };
         out[i] = read.value;
@@ -182,18 +182,18 @@ pub fn fill_numbers(bytes: &[u8], at: usize, count: usize, out: &mut [u64])
     }
 }
 
-// Stores `count` cells that were judged before.
+// Fills a list with cells that were judged before.
 // Kept: beside `fill_rest`: one function of both would need a trait with the greatest number and the conversion of either type, which is longer than this loop.
-fn fill_cells(bytes: &[u8], at: usize, count: usize, out: &mut [u8])
-    requires { (Held cell bytes.now at count) × (count ≤ length out.old) }
-    ensures { out.new ≡ overwrite (values_at cell bytes.now at count) out.old }
+fn fill_cells(bytes: &[u8], at: usize, out: &mut [u8])
+    requires { Held cell bytes.now at (length out.old) }
+    ensures { out.new ≡ values_at cell bytes.now at (length out.old) }
 {
     let mut next = at;
-    for i in 0..count {
+    for entry in out.iter_mut() {
         let Ok(read) = item(bytes, next, CELL_MOST) else {
             return;
         };
-        out[i] = read.value as u8;
+        *entry = read.value as u8;
         next = read.next;
     }
 }
@@ -522,7 +522,7 @@ fn fill(
     ensures boundaries { boundaries.new ≡ overwrite (part_of bytes.now parts.boundaries) boundaries.old }
     ensures anchors { anchors.new ≡ overwrite (part_of bytes.now parts.anchors) anchors.old }
 {
-    fill_cells(bytes, parts.cells.first, parts.cells.count, cells);
+    fill_cells(bytes, parts.cells.first, &mut cells[..parts.cells.count]);
     fill_numbers(
         bytes,
         parts.boundaries.first,

@@ -4,11 +4,12 @@ use native.Mathlib.Omega.{arith}
 use mathlib.Core.Path.{◌∙◌}
 use Rattle.definitions.specs.Grid.{segment_at}
 use Rattle.definitions.specs.Sheet.{endpoints}
-use Rattle.sheet.proofs.Endpoints.{endpoints-taken, put_taken}
+use Rattle.sheet.proofs.Endpoints.{endpoints-taken}
+use Rattle.sheet.proofs.PutParts.{put_part}
 use Rattle.sheet.proofs.put_endpoints.Goals as goal
 
 pub returns : goal.returns
 returns c =
     let given = c.args in
     let boundaries = given.boundaries.now in
-    put_taken given.spans.now (endpoints (segment_at boundaries (9 * given.i))) (4 * given.i) (omega arith) (c.copy_from_slice.ensures.after ∙ endpoints-taken boundaries (9 * given.i) (omega arith))
+    put_part given.spans.now (endpoints (segment_at boundaries (9 * given.i))) (4 * given.i) _ (omega arith) (omega arith) (c.copy_from_slice.ensures.after ∙ endpoints-taken boundaries (9 * given.i) (omega arith))
