@@ -69,9 +69,9 @@ fn numbers_at<const N: usize>(bytes: &[u8], at: usize) -> Result<Found<[u64; N]>
 {
     let mut value = [0u64; N];
     let mut next = at;
-    for i in 0..N {
+    for number in value.iter_mut() {
         let read = item(bytes, next, u64::MAX)?;
-        value[i] = read.value;
+        *number = read.value;
         next = read.next;
     }
     Ok(Found { value, next })
