@@ -18,7 +18,7 @@ use Rattle.result_writer.proofs.Ascending.{as_pairs}
 use Rattle.result_reader.specs.Parts.{turns_fault, no_fault, key_fault, ListHeld, opening, Lists₂, front, back, part_entries, OpeningHeld, FrontHeld, BackHeld, result_in, plan_by, ResultTold}
 use Rattle.std.specs.Prelude.{Option, None, Some, Result}
 use Rattle.refusals.specs.declared.Refusal.{Refusal}
-use Rattle.result_reader.specs.declared.Part.{Part}
+use Rattle.sheet.specs.declared.Part.{Part}
 use Rattle.result_reader.specs.declared.Plan.{Plan}
 use Rattle.result_reader.proofs.Numbers.{one_found, one_fails}
 

@@ -13,7 +13,7 @@ use Rattle.sheet.specs.Numbers.{items_at, values_in, is_found}
 use Rattle.results.specs.Result.{Entry, entry, times_entry}
 use Rattle.result_reader.specs.Walks.{entries_at, entries_of}
 use Rattle.result_reader.specs.Parts.{PartHeld}
-use Rattle.result_reader.specs.declared.Part.{Part}
+use Rattle.sheet.specs.declared.Part.{Part}
 
 -- ---- numbers and then numbers
 

@@ -15,7 +15,7 @@ use Rattle.refusals.specs.declared.Refusal.{Refusal}
 use Rattle.refusals.specs.declared.Cause.TheVariants as cause
 use Rattle.refusals.specs.Refusals as refusals
 use Rattle.sheet.specs.declared.Found.{Found}
-use Rattle.result_reader.specs.declared.Part.{Part}
+use Rattle.sheet.specs.declared.Part.{Part}
 use Rattle.result_reader.specs.declared.Plan.{Plan}
 use Rattle.result_reader.specs.declared.List as answered
 use Rattle.result_reader.specs.declared.RegionCount.{RegionCount}

@@ -19,10 +19,8 @@ ghost use Rattle.result_reader.specs.Contract.{answer_in, refused_by, Reads};
 
 use definitions::limits::{NUMBERS_PER_PAIR, NUMBERS_PER_ROW, TALLIES_PER_SPAN};
 use refusals::{Cause, Refusal};
-use result_writer::after_label;
-use sheet::{Found, fill_numbers, item, judge};
-
-const MOST: u64 = 0xffff_ffff_ffff_ffff;
+use result_writer::{LABEL_SIZE, after_label};
+use sheet::{Found, Part, fill_numbers, item, judge};
 
 // ---- labels
 
@@ -34,7 +32,7 @@ fn walk_behind(bytes: &[u8], at: usize, count: u64, place: usize) -> Result<Foun
     requires { at ≤ length bytes.now }
     ensures { (regions : ℕ) → Walks (turns_from regions) 1 bytes.now (Err place) at count result }
 {
-    let next = judge(bytes, at, count as usize, MOST)?;
+    let next = judge(bytes, at, count as usize, u64::MAX)?;
     Ok(Found {
         value: Err(place),
         next,
@@ -49,7 +47,7 @@ fn walk_labels(bytes: &[u8], at: usize, count: u64, regions: u64) -> Result<Foun
     let mut next = at;
     let mut started: u64 = 0;
     for i in 0..count {
-        let label = item(bytes, next, MOST)?;
+        let label = item(bytes, next, u64::MAX)?;
         let Some(n) = after_label(regions, started, label.value) else {
             return walk_behind(bytes, label.next, count - (i + 1), next);
         };
@@ -71,9 +69,9 @@ fn numbers_at<const N: usize>(bytes: &[u8], at: usize) -> Result<Found<[u64; N]>
 {
     let mut value = [0u64; N];
     let mut next = at;
-    for i in 0..N {
-        let read = item(bytes, next, MOST)?;
-        value[i] = read.value;
+    for number in value.iter_mut() {
+        let read = item(bytes, next, u64::MAX)?;
+        *number = read.value;
         next = read.next;
     }
     Ok(Found { value, next })
@@ -138,13 +136,6 @@ fn turns_breach(state: Turned, regions: u64, place: usize) -> Option<usize>
     }
 }
 
-// Where the numbers of a list stand, and how many entries there are.
-#[derive(Clone, Copy)]
-pub struct Part {
-    first: usize,
-    count: usize,
-}
-
 // A list, and the first place that breaks its rule, if there is one.
 #[derive(Clone, Copy)]
 pub struct List {
@@ -157,7 +148,7 @@ fn labels_list(bytes: &[u8], at: usize, regions: u64, place: usize) -> Result<Fo
     requires { at ≤ length bytes.now }
     ensures { ListTold (turns_fault regions place) 1 bytes.now at result }
 {
-    let count = item(bytes, at, MOST)?;
+    let count = item(bytes, at, u64::MAX)?;
     let labels = walk_labels(bytes, count.next, count.value, regions)?;
     Ok(Found {
         value: List {
@@ -176,8 +167,8 @@ fn judge_twice(bytes: &[u8], at: usize, count: usize) -> Result<usize, Refusal>
     requires { at ≤ length bytes.now }
     ensures { Told bytes.now (items_at number bytes.now at (count * tallies_per_span)) result }
 {
-    let middle = judge(bytes, at, count, MOST)?;
-    judge(bytes, middle, count, MOST)
+    let middle = judge(bytes, at, count, u64::MAX)?;
+    judge(bytes, middle, count, u64::MAX)
 }
 
 // The tallies behind their count. They break no rule.
@@ -185,7 +176,7 @@ fn tallies_list(bytes: &[u8], at: usize) -> Result<Found<List>, Refusal>
     requires { at ≤ length bytes.now }
     ensures { ListTold no_fault tallies_per_span bytes.now at result }
 {
-    let count = item(bytes, at, MOST)?;
+    let count = item(bytes, at, u64::MAX)?;
     let next = judge_twice(bytes, count.next, count.value as usize)?;
     Ok(Found {
         value: List {
@@ -204,7 +195,7 @@ fn keys_list<const N: usize>(bytes: &[u8], at: usize, last: usize) -> Result<Fou
     requires { (at ≤ length bytes.now) × (last ≤ N) × (N ≤ numbers_per_row) }
     ensures { ListTold (key_fault last) N bytes.now at result }
 {
-    let count = item(bytes, at, MOST)?;
+    let count = item(bytes, at, u64::MAX)?;
     let keys = walk_keys::<N>(bytes, count.next, count.value, last)?;
     Ok(Found {
         value: List {
@@ -233,7 +224,7 @@ const KIND: u64 = 2;
 fn opening(bytes: &[u8]) -> Result<Found<RegionCount>, Refusal>
     ensures { OpeningTold bytes.now result }
 {
-    let kind = item(bytes, 0, MOST)?;
+    let kind = item(bytes, 0, u64::MAX)?;
     if kind.value != KIND {
         return Err(Refusal {
             cause: Cause::Sheet,
@@ -241,7 +232,7 @@ fn opening(bytes: &[u8]) -> Result<Found<RegionCount>, Refusal>
         });
     }
     let place = kind.next;
-    let regions = item(bytes, place, MOST)?;
+    let regions = item(bytes, place, u64::MAX)?;
     Ok(Found {
         value: RegionCount {
             regions: regions.value,
@@ -341,8 +332,6 @@ fn judge_result(bytes: &[u8]) -> Result<Plan, Refusal>
 }
 
 // ---- reading
-
-const LABEL_SIZE: usize = 1;
 
 // Lists of these lengths have room for the result. A count times the size of its entries may be beyond 64 bits, so the length is divided.
 fn fits(plan: Plan, labels: usize, tallies: usize, pairs: usize, rows: usize) -> bool

@@ -69,7 +69,8 @@ fn entries_ascend(numbers: &[u64], size: usize, last: usize) -> bool
     (1..numbers.len() / size).all(|i| ascends(numbers, size, last, i))
 }
 
-const LABEL_SIZE: usize = 1;
+// A label is an entry of one number.
+pub const LABEL_SIZE: usize = 1;
 
 // ---- the room
 

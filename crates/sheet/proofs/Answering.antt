@@ -14,7 +14,7 @@ use Rattle.definitions.specs.Sheet.{has_spans, spans_stated, endpoints_in, endpo
 use Rattle.laws.specs.ListLaws.Tests.{both}
 use Rattle.laws.specs.SheetReading.Endpoints.{endpoints-long, endpoints_same}
 use Rattle.sheet.specs.Numbers.{Held}
-use Rattle.sheet.specs.Parts.{part_of, cells_in, sheet_of, PartsHeld, SheetHeld, stated_long, room_in, Room}
+use Rattle.sheet.specs.Parts.{kind_number, part_of, cells_in, sheet_of, PartsHeld, SheetHeld, stated_long, room_in, Room}
 use Rattle.sheet.specs.Contract.{header_of, header_in, Answered, reading_within}
 use Rattle.sheet.specs.declared.Part.{Part}
 use Rattle.sheet.specs.declared.Parts.{Parts}
@@ -29,17 +29,17 @@ use Rattle.sheet.proofs.Filling.{held-length}
 pub room-known : {parts : Parts} {n stated cells spans boundaries anchors : ℕ} → n ≡ stated → room_in parts n cells spans boundaries anchors ≡ true
     → Room parts stated cells spans boundaries anchors
 room-known {parts} {n} {stated} {cells} {spans} {boundaries} {anchors} e h =
-    let a = leb parts.cells.length cells in
+    let a = leb parts.cells.count cells in
     let b = leb n spans in
-    let c = leb parts.boundaries.length boundaries in
-    let abc = both (a && b && c) (leb parts.anchors.length anchors) h in
+    let c = leb parts.boundaries.count boundaries in
+    let abc = both (a && b && c) (leb parts.anchors.count anchors) h in
     let ab = both (a && b) c abc.0 in
     let each = both a b ab.0 in
     record {
-      for_cells = leb-true parts.cells.length cells each.0;
+      for_cells = leb-true parts.cells.count cells each.0;
       for_spans = subst (λ m. m ≤ spans) e (leb-true n spans each.1);
-      for_boundaries = leb-true parts.boundaries.length boundaries ab.1;
-      for_anchors = leb-true parts.anchors.length anchors abc.1;
+      for_boundaries = leb-true parts.boundaries.count boundaries ab.1;
+      for_anchors = leb-true parts.anchors.count anchors abc.1;
     }
 
 -- ---- the spans
@@ -49,20 +49,20 @@ pub stored-long : {stored : List ℕ} (l old : List ℕ) → stored ≡ overwrit
 stored-long l old e = omega (arith, ap length e, length-append l (drop (length l) old))
 
 -- what is stored of the boundaries, read as spans, is what the sheet states
-pub spans-stored : (own : Bool) (bytes : List ℕ) (spans boundaries : Part) (lent : List ℕ) → Held number bytes boundaries.first boundaries.length
-    → cond own (part_of bytes spans) (endpoints_in (boundaries.length / numbers_per_boundary) (overwrite (part_of bytes boundaries) lent))
+pub spans-stored : (own : Bool) (bytes : List ℕ) (spans boundaries : Part) (lent : List ℕ) → Held number bytes boundaries.first boundaries.count
+    → cond own (part_of bytes spans) (endpoints_in (boundaries.count / numbers_per_boundary) (overwrite (part_of bytes boundaries) lent))
     ≡ spans_stated own (part_of bytes spans) (part_of bytes boundaries)
 unfolding endpoints_of
 spans-stored true bytes spans boundaries lent H = refl
 spans-stored false bytes spans boundaries lent H =
     let p = part_of bytes boundaries in
-    let long : length p ≡ boundaries.length = held-length H in
-    endpoints_same (boundaries.length / numbers_per_boundary) (overwrite p lent) p (λ k h. get_or-append p (drop (length p) lent) 0 k (omega arith))
+    let long : length p ≡ boundaries.count = held-length H in
+    endpoints_same (boundaries.count / numbers_per_boundary) (overwrite p lent) p (λ k h. get_or-append p (drop (length p) lent) 0 k (omega arith))
     ∙ ap (λ n. endpoints_in (n / numbers_per_boundary) p) (sym long)
 
 spans-long : (own : Bool) {bytes : List ℕ} {parts : Parts} → PartsHeld bytes parts
     → length (spans_stated own (part_of bytes parts.spans) (part_of bytes parts.boundaries))
-    ≡ cond own parts.spans.length (numbers_per_span * (parts.boundaries.length / numbers_per_boundary))
+    ≡ cond own parts.spans.count (numbers_per_span * (parts.boundaries.count / numbers_per_boundary))
 unfolding endpoints_of
 spans-long true H = held-length H.spans
 spans-long false {bytes} {parts} H =
@@ -73,14 +73,14 @@ spans-long false {bytes} {parts} H =
 
 module _ {limit : ℕ} {bytes : List ℕ} {plan : Plan} (S : SheetHeld limit bytes plan) where
   abbrev stated : ℕ
-  stated = stated_long plan.kind plan.parts
+  stated = stated_long (kind_number plan.kind) plan.parts
 
   header_same : header_of (sheet_of bytes plan) ≡ header_in plan stated
   header_same = λ i. record {
     pass = plan.pass;
     width = plan.width;
     height = plan.height;
-    spans = spans-long (has_spans plan.kind) S.held i / numbers_per_span;
+    spans = spans-long (has_spans (kind_number plan.kind)) S.held i / numbers_per_span;
     boundaries = held-length S.held.boundaries i / numbers_per_boundary;
     anchors = held-length S.held.anchors i / numbers_per_anchor;
   }
@@ -91,7 +91,7 @@ module _ {limit : ℕ} {bytes : List ℕ} {plan : Plan} (S : SheetHeld limit byt
     by_room =
         ap (λ r. room_for r (length cells) (length spans) (length boundaries) (length anchors)) S.same
         ∙ (λ i. cond
-        (leb (held-length S.held.cells i) (length cells) && leb (spans-long (has_spans plan.kind) S.held i) (length spans)
+        (leb (held-length S.held.cells i) (length cells) && leb (spans-long (has_spans (kind_number plan.kind)) S.held i) (length spans)
         && leb (held-length S.held.boundaries i) (length boundaries) && leb (held-length S.held.anchors i) (length anchors))
         (well_formed (sheet_of bytes plan)) (refused 10 0))
 
@@ -109,7 +109,7 @@ module _ {limit : ℕ} {bytes : List ℕ} {plan : Plan} (S : SheetHeld limit byt
     pub answered-read : {n : ℕ} {header : Header} {cells' spans' boundaries' anchors' : List ℕ} → n ≡ stated
         → room_in plan.parts n (length cells) (length spans) (length boundaries) (length anchors) ≡ true → header ≡ header_in plan n
         → cells' ≡ overwrite (cells_in bytes plan.parts) cells
-        → spans' ≡ overwrite (spans_stated (has_spans plan.kind) (part_of bytes plan.parts.spans) (part_of bytes plan.parts.boundaries)) spans
+        → spans' ≡ overwrite (spans_stated (has_spans (kind_number plan.kind)) (part_of bytes plan.parts.spans) (part_of bytes plan.parts.boundaries)) spans
         → boundaries' ≡ overwrite (part_of bytes plan.parts.boundaries) boundaries → anchors' ≡ overwrite (part_of bytes plan.parts.anchors) anchors
         → Answered (reading_within limit bytes cells spans boundaries anchors) cells spans boundaries anchors (Ok header) cells' spans' boundaries' anchors'
     answered-read k h e a b c d =

@@ -9,11 +9,20 @@ use Rattle.definitions.specs.Limits.{is_side, max_entries, numbers_per_boundary,
 use Rattle.definitions.specs.SheetNumber.{Read, found, failed, number}
 use Rattle.definitions.specs.Sheet.{Reader, and_then, give, times, judged, is_map_kind, kind, cell, area, entries, has_spans, spans_held, spans_stated, end, Sheet, well_formed, refused, reading, sheet, read_sheet}
 use Rattle.laws.specs.SheetReading.SheetLaws.{Keeps, keeps-number, keeps-judged, keeps_then, keeps-check, then_found, then-failed}
-use Rattle.sheet.specs.Parts.{opening, sides, Content, lists}
-use Rattle.sheet.specs.declared.Heading.{Heading}
+use Rattle.sheet.specs.declared.Kind.{Kind}
+use Rattle.sheet.specs.declared.Kind.TheVariants as kinds
+use Rattle.sheet.specs.Parts.{kind_number, Opening, opening, sides, Content, lists}
 use Rattle.sheet.specs.declared.Extent.{Extent}
 
 -- ---- the kind and the pass
+
+-- a kind's number is one of a map
+pub allowed : (kind : Kind) {number : ℕ} → kind_number kind ≡ number → is_map_kind number ≡ true
+allowed kind e = ap is_map_kind (sym e) ∙ each kind
+  where
+    each : (k : Kind) → is_map_kind (kind_number k) ≡ true
+    each kinds.OwnSpans = refl
+    each kinds.SharedSpans = refl
 
 module _ (at : ℕ) (bytes : List ℕ) where
   module _ {value next : ℕ} {rest : List ℕ} (h : number at bytes ≡ found value next rest) where
@@ -106,7 +115,7 @@ module _ (own : Bool) (count at : ℕ) (bytes : List ℕ) where
 
 -- ---- the sheet
 
-abbrev sheet_from : Heading → Extent → Content → Sheet
+abbrev sheet_from : Opening → Extent → Content → Sheet
 sheet_from o e l =
     record {
       pass = o.pass;
@@ -137,8 +146,8 @@ in_parts : (limit at : ℕ) (bytes : List ℕ)
     ≡ sheet limit at bytes
 unfolding sheet opening sides lists
 in_parts limit at bytes =
-    within Heading (kind at bytes) _ _ (λ written o r.
-    within Heading (number o r) _ _ (λ pass o r.
+    within Opening (kind at bytes) _ _ (λ written o r.
+    within Opening (number o r) _ _ (λ pass o r.
     within Extent (number o r) _ _ (λ width o r.
     within Extent (number o r) _ _ (λ height o r.
     within Extent (area limit width height o r) _ _ (λ count o r.
@@ -153,7 +162,7 @@ module _ (limit : ℕ) (bytes : List ℕ) where
   unfolding read_sheet
   sheet-opening h = ap reading (sym (in_parts limit 0 bytes) ∙ then-failed _ h)
 
-  module _ {p : Heading} {o₁ : ℕ} {r₁ : List ℕ} (h₁ : opening 0 bytes ≡ found p o₁ r₁) where
+  module _ {p : Opening} {o₁ : ℕ} {r₁ : List ℕ} (h₁ : opening 0 bytes ≡ found p o₁ r₁) where
     pub sheet-sides : {refusal place : ℕ} → sides limit o₁ r₁ ≡ failed refusal place → read_sheet limit bytes ≡ refused refusal place
     unfolding read_sheet
     sheet-sides h = ap reading (sym (in_parts limit 0 bytes) ∙ then_found _ h₁ ∙ then-failed _ h)

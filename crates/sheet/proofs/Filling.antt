@@ -2,11 +2,11 @@
 use Prim.Native.Nat.{ℕ, suc, ◌+◌, ◌-◌, ◌≤◌, ◌<◌}
 use mathlib.Core.Path.{◌≡◌, refl, sym, ap, ◌∙◌}
 use mathlib.Core.Bool.{true, false}
-use mathlib.Core.List.{List, ◌∷◌, ◌++◌}
+use mathlib.Core.List.{List, ◌∷◌, ◌++◌, append-nil}
 use native.Mathlib.Omega.{arith}
 use native.Mathlib.Numerals.{add-one}
 use native.Mathlib.Nat.{zero-add}
-use lib.ListN.{length, drop, set, length-set}
+use lib.ListN.{length, drop, set, length-set, drop_of_length-le}
 use lib.Seq.{sets, sets-eq}
 use Rattle.definitions.specs.SheetNumber.{Read, found, failed}
 use Rattle.definitions.specs.Sheet.{Reader, and_then, give, times}
@@ -31,11 +31,6 @@ pub record Filling (item : Reader ℕ) (bytes out₀ goal : List ℕ) (count : �
   pub same : sets out i (values_at item bytes next (count - i)) ≡ goal
 
 module _ {item : Reader ℕ} {bytes out₀ : List ℕ} {at count : ℕ} where
-  -- from place i on
-  pub filling_from : {i : ℕ} → i ≤ count → Held item bytes at (count - i) → count ≤ length out₀
-      → Filling item bytes out₀ (sets out₀ i (values_at item bytes at (count - i))) count out₀ at i
-  filling_from h H k = record { few = h; held = H; long = refl; room = k; same = refl }
-
   pub filling_starts : Held item bytes at count → count ≤ length out₀ → Filling item bytes out₀ (overwrite (values_at item bytes at count) out₀) count out₀ at 0
   filling_starts H h =
       let e : count - 0 ≡ count = omega arith in
@@ -47,6 +42,19 @@ module _ {item : Reader ℕ} {bytes out₀ : List ℕ} {at count : ℕ} where
         room = h;
         same = rw e (sets-eq (values_at item bytes at count) out₀ 0 (omega arith) ∙ ap (λ n. values_at item bytes at count ++ drop n out₀) (zero-add (length (values_at item bytes at count))));
       }
+
+-- of a list that is filled whole
+pub filling_whole : {item : Reader ℕ} {bytes out₀ : List ℕ} {at : ℕ} → Held item bytes at (length out₀) → Filling item bytes out₀ (values_at item bytes at (length out₀)) (length out₀) out₀ at 0
+filling_whole {item} {bytes} {out₀} {at} H =
+    let F = filling_starts H (omega arith) in
+    let v = values_at item bytes at (length out₀) in
+    record {
+      few = F.few;
+      held = F.held;
+      long = F.long;
+      room = F.room;
+      same = F.same ∙ ap (λ l. v ++ l) (drop_of_length-le out₀ (omega (arith, held-length H))) ∙ append-nil v;
+    }
 
 module _ {item : Reader ℕ} {bytes out₀ goal : List ℕ} {count : ℕ} where
   module _ {out : List ℕ} {next i : ℕ} (F : Filling item bytes out₀ goal count out next i) where

@@ -1,12 +1,13 @@
 -- What holds at each turn of the loop that reads a number (`Groups`), that it holds again after a group that is continued, and what the number is where
 -- the loop is left. Assumes nothing.
-use Prim.Native.Nat.{ℕ, ◌+◌, ◌*◌, ◌%◌, ◌^◌, ◌≤◌, ◌<◌}
+use Prim.Native.Nat.{ℕ, ◌+◌, ◌-◌, ◌*◌, ◌%◌, ◌^◌, ◌≤◌, ◌<◌}
 use mathlib.Core.Path.{◌≡◌, refl, sym, ap, ◌∙◌}
 use mathlib.Core.Bool.{true, false}
 use mathlib.Core.List.{List, ◌∷◌}
 use native.Mathlib.Omega.{arith}
 use native.Mathlib.Numerals.{add-one}
-use lib.ListN.{length, drop, get_or, drop_of_length-le}
+use lib.ListN.{length, take, drop, get_or, drop_of_length-le}
+use Rattle.std.proofs.lemmas.List.{length-take, length-drop, get_or-take, get_or-drop}
 use lib.Seq.{drop-cons}
 use lib.Pow.{pow-add, pow_mono}
 use Rattle.definitions.specs.SheetNumber.{found, failed, with_group, ill_formed, groups, number}
@@ -20,6 +21,24 @@ pub record Groups (bytes : List ℕ) (at value scale group next : ℕ) : Type 0 
   pub scaled : scale ≡ 2 ^ (7 * group)
   pub below : value < 2 ^ (7 * group)
   pub same : number at (drop at bytes) ≡ groups at group value next (drop next bytes)
+
+-- the bytes from `at` on, at a place among them
+module _ (bytes : List ℕ) (at : ℕ) (inside : at ≤ length bytes) where
+  abbrev behind : List ℕ
+  behind = take (length bytes - at) (drop at bytes)
+
+  long : length behind ≡ length bytes - at
+  long = length-take (length bytes - at) (drop at bytes) ∙ omega (arith, length-drop at bytes)
+
+  module _ (group : ℕ) where
+    pub behind-inside : group < length behind → at + group < length bytes
+    behind-inside h = omega (arith, h, long)
+
+    pub behind-ends : length behind ≤ group → length bytes ≤ at + group
+    behind-ends h = omega (arith, h, long)
+
+    pub behind-byte : group < length behind → {b : ℕ} → b ≡ get_or behind group 0 → b ≡ get_or bytes (at + group) 0
+    behind-byte h e = e ∙ get_or-take (length bytes - at) (drop at bytes) group 0 (omega (arith, h, long)) ∙ get_or-drop at bytes group 0
 
 pub start : (bytes : List ℕ) (at : ℕ) → at ≤ length bytes → Groups bytes at 0 1 0 at
 unfolding number

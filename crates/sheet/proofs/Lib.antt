@@ -8,3 +8,4 @@ pub mod PartsFound
 pub mod Endpoints
 pub mod Answering
 pub mod ShortNumbers
+mod PutParts

@@ -12,8 +12,8 @@ use Rattle.definitions.specs.SheetNumber.{Read, found, failed, number}
 use Rattle.definitions.specs.Sheet.{Reader, and_then, give, check, area, times, cell, entries, has_spans, spans_held}
 use Rattle.laws.specs.SheetReading.SheetLaws.{Keeps, keeps-number, keeps-check, keeps-entries, keeps-times, ends-inside, not_found}
 use Rattle.sheet.specs.Numbers.{up_to, items_at, Told}
-use Rattle.sheet.specs.Parts.{opening, sides, lists, content_of, PartHeld, SpansStand, ListsHeld, SheetHeld}
-use Rattle.sheet.specs.declared.Heading.{Heading}
+use Rattle.sheet.specs.Parts.{Opening, kind_number, opening, sides, lists, content_of, PartHeld, SpansStand, ListsHeld, SheetHeld}
+use Rattle.sheet.specs.declared.Kind.{Kind}
 use Rattle.sheet.specs.declared.Extent.{Extent}
 use Rattle.sheet.specs.declared.Part.{Part}
 use Rattle.sheet.specs.declared.Parts.{Parts}
@@ -26,7 +26,7 @@ use Rattle.sheet.proofs.Chains.{count-allowed, cells_fail, spans_fail, boundarie
 
 module _ (size at : ℕ) (bytes : List ℕ) {count first : ℕ} (h : number at (drop at bytes) ≡ found count first (drop first bytes)) (k : count ≤ max_entries) where
   pub entries-found : {next : ℕ} → at ≤ length bytes → Told bytes (items_at (up_to 0xffff_ffff_ffff_ffff) bytes first (count * size)) (Ok next)
-      → PartHeld (entries size) bytes at (record { first = first; length = count * size }) next
+      → PartHeld (entries size) bytes at (record { first = first; count = count * size }) next
   unfolding items_at
   entries-found {next} m t =
       let u : Told bytes (items_at number bytes first (count * size)) (Ok next) = told-numbers bytes first (count * size) (Ok next) t in
@@ -47,7 +47,7 @@ keeps-spans true = keeps-entries numbers_per_span
 keeps-spans false = keeps-check true 0 0 []
 
 -- no number stands there, and none is needed
-pub spans_none : (bytes : List ℕ) (at : ℕ) → at ≤ length bytes → PartHeld (spans_held false) bytes at (record { first = at; length = 0 }) at
+pub spans_none : (bytes : List ℕ) (at : ℕ) → at ≤ length bytes → PartHeld (spans_held false) bytes at (record { first = at; count = 0 }) at
 unfolding items_at times
 spans_none bytes at h = record { held = record { inside = h; all = refl }; same = refl }
 
@@ -89,7 +89,7 @@ module _ (own : Bool) (count at : ℕ) (bytes : List ℕ) where
           pub lists-found : at ≤ length bytes → length bytes ≤ d
               → ListsHeld own bytes at count
               (record {
-                cells = record { first = at; length = count };
+                cells = record { first = at; count = count };
                 spans = spans;
                 boundaries = boundaries;
                 anchors = anchors;
@@ -105,7 +105,7 @@ module _ (own : Bool) (count at : ℕ) (bytes : List ℕ) where
               let e : d ≡ length bytes = omega arith in
               let parts : Parts =
               record {
-                cells = record { first = at; length = count };
+                cells = record { first = at; count = count };
                 spans = spans;
                 boundaries = boundaries;
                 anchors = anchors;
@@ -143,10 +143,12 @@ sides-cells limit at bytes {extent} {next} {rest} e = at_width (number at bytes)
     at_width (found width o r) q = at_height width (number o r) q
     at_width (failed refusal place) q = absurd (not_found q)
 
-pub sheet-found : (limit : ℕ) (bytes : List ℕ) {heading : Heading} {extent : Extent} {at next : ℕ} {parts : Parts} → opening 0 bytes ≡ found heading at (drop at bytes)
-    → sides limit at (drop at bytes) ≡ found extent next (drop next bytes) → ListsHeld (has_spans heading.kind) bytes next extent.cells parts
-    → SheetHeld limit bytes (record { kind = heading.kind; pass = heading.pass; width = extent.width; height = extent.height; parts = parts })
-sheet-found limit bytes {heading} {extent} {at} {next} {parts} h S L =
+pub sheet-found : (limit : ℕ) (bytes : List ℕ) {kind : Kind} {pass : ℕ} {extent : Extent} {at next : ℕ} {parts : Parts} {own : Bool}
+    → opening 0 bytes ≡ found (record { kind = kind_number kind; pass = pass }) at (drop at bytes)
+    → sides limit at (drop at bytes) ≡ found extent next (drop next bytes) → own ≡ has_spans (kind_number kind) → ListsHeld own bytes next extent.cells parts
+    → SheetHeld limit bytes (record { kind = kind; pass = pass; width = extent.width; height = extent.height; parts = parts })
+sheet-found limit bytes {kind} {pass} {extent} {at} {next} {parts} h S own L₀ =
+    let L : ListsHeld (has_spans (kind_number kind)) bytes next extent.cells parts = subst (λ t. ListsHeld t bytes next extent.cells parts) own L₀ in
     let e : extent.cells ≡ extent.width * extent.height = sides-cells limit at (drop at bytes) S in
     record {
       held = L.held;
@@ -157,11 +159,11 @@ sheet-found limit bytes {heading} {extent} {at} {next} {parts} h S L =
             cells_first = next;
             opened = h;
             sided = S ∙ (λ i. found (record { width = extent.width; height = extent.height; cells = e i }) next (drop next bytes));
-            spans_stand = subst (λ n. SpansStand (has_spans heading.kind) bytes next n parts) e L.spans_stand;
+            spans_stand = subst (λ n. SpansStand (has_spans (kind_number kind)) bytes next n parts) e L.spans_stand;
           };
     }
 
-pub opening-inside : (bytes : List ℕ) {heading : Heading} {at : ℕ} → opening 0 bytes ≡ found heading at (drop at bytes) → at ≤ length bytes
+pub opening-inside : (bytes : List ℕ) {heading : Opening} {at : ℕ} → opening 0 bytes ≡ found heading at (drop at bytes) → at ≤ length bytes
 opening-inside bytes h = ends-inside keeps-opening bytes 0 (omega arith) h
 
 pub sides-inside : (limit : ℕ) (bytes : List ℕ) {at next : ℕ} {extent : Extent} → at ≤ length bytes → sides limit at (drop at bytes) ≡ found extent next (drop next bytes) → next ≤ length bytes

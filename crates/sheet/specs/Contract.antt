@@ -56,8 +56,8 @@ header_in plan stated =
       width = plan.width;
       height = plan.height;
       spans = stated / numbers_per_span;
-      boundaries = parts.boundaries.length / numbers_per_boundary;
-      anchors = parts.anchors.length / numbers_per_anchor;
+      boundaries = parts.boundaries.count / numbers_per_boundary;
+      anchors = parts.anchors.count / numbers_per_anchor;
     }
 
 -- The answer to a reading, and each lent list at exit: "Reading alone fills lent lists of cells, spans, boundaries and anchors", and a refusal leaves them

@@ -1,12 +1,15 @@
 -- The sheet's grammar in three parts, one behind the other, and what the functions on them answer. Assumes nothing.
-use Rattle.std.specs.Prelude.{ℕ, ◌*◌, ◌/◌, ◌≤◌, ◌≡◌, Bool, ◌&&◌, cond, List, [], length, drop, leb, Result, Ok, Err}
+use Rattle.std.specs.Prelude.{ℕ, ◌*◌, ◌/◌, ◌≤◌, ◌≡◌, Bool, false, ◌&&◌, cond, List, [], length, drop, leb, Result, Ok, Err}
 use Rattle.definitions.specs.Limits.{numbers_per_span, numbers_per_boundary, numbers_per_anchor}
-use Rattle.definitions.specs.SheetNumber.{found, failed, number}
-use Rattle.definitions.specs.Sheet.{Reader, give, ◌>>=◌, times, kind, cell, area, entries, has_spans, spans_held, spans_stated, end, Sheet, well_formed, refused, read_sheet}
+use Rattle.definitions.specs.SheetNumber.{Read, found, failed, number}
+use Rattle.definitions.specs.Sheet.{Reader, give, ◌>>=◌, times, kind, is_map_kind, cell, area, entries, has_spans, spans_held, spans_stated, end, Sheet, well_formed, refused, read_sheet}
 use Rattle.sheet.specs.Numbers.{values_at, Held}
 use Rattle.refusals.specs.declared.Refusal.{Refusal}
+use Rattle.refusals.specs.declared.Cause.TheVariants as cause
 use Rattle.refusals.specs.Refusals as refusals
 use Rattle.sheet.specs.declared.Found.{Found}
+use Rattle.sheet.specs.declared.Kind.{Kind}
+use Rattle.sheet.specs.declared.Kind.TheVariants as kinds
 use Rattle.sheet.specs.declared.Heading.{Heading}
 use Rattle.sheet.specs.declared.Extent.{Extent}
 use Rattle.sheet.specs.declared.Part.{Part}
@@ -15,13 +18,31 @@ use Rattle.sheet.specs.declared.Plan.{Plan}
 
 -- ---- the parts
 
--- the kind and the pass
-unfoldable pub opening : Reader Heading
+-- the number of a kind
+abbrev pub kind_number : Kind → ℕ
+kind_number kinds.OwnSpans = 1
+kind_number kinds.SharedSpans = 3
+
+-- the kind of this number, or its refusal at the first byte
+abbrev pub KindAsked : ℕ → Result Kind Refusal → Type 0
+KindAsked number (Ok kind) = kind_number kind ≡ number
+KindAsked number (Err refusal) = (is_map_kind number ≡ false) × (refusal ≡ record { cause = cause.Sheet; place = 0 })
+
+-- the kind and the pass, as numbers
+pub record Opening : Type 0 where
+  pub kind : ℕ
+  pub pass : ℕ
+
+unfoldable pub opening : Reader Opening
 unfolding kind number
 opening = do
   written ← kind
   pass ← number
   give (record { kind = written; pass = pass })
+
+abbrev pub opened_of : List ℕ → Result (Found Heading) Refusal → Read Opening
+opened_of bytes (Ok read) = found (record { kind = kind_number read.value.kind; pass = read.value.pass }) read.next (drop read.next bytes)
+opened_of bytes (Err refusal) = failed (refusals.number_of refusal.cause) refusal.place
 
 -- both sides, and how many cells they make
 unfoldable pub sides : ℕ → Reader Extent
@@ -53,11 +74,11 @@ lists own count = do
 
 -- the numbers that stand there
 abbrev pub part_of : List ℕ → Part → List ℕ
-part_of bytes part = values_at number bytes part.first part.length
+part_of bytes part = values_at number bytes part.first part.count
 
 -- what a reader of a list finds: its numbers stand there
 pub record PartHeld (reader : Reader (List ℕ)) (bytes : List ℕ) (at : ℕ) (part : Part) (next : ℕ) : Type 0 where
-  pub held : Held number bytes part.first part.length
+  pub held : Held number bytes part.first part.count
   pub same : reader at (drop at bytes) ≡ found (part_of bytes part) next (drop next bytes)
 
 abbrev pub PartTold : Reader (List ℕ) → List ℕ → ℕ → Result (Found Part) Refusal → Type 0
@@ -67,7 +88,7 @@ PartTold reader bytes at (Err refusal) = reader at (drop at bytes) ≡ failed (r
 abbrev pub cells_in : List ℕ → Parts → List ℕ
 cells_in bytes parts =
     let part = parts.cells in
-    values_at cell bytes part.first part.length
+    values_at cell bytes part.first part.count
 
 abbrev pub content_of : List ℕ → Parts → Content
 content_of bytes parts =
@@ -80,10 +101,10 @@ content_of bytes parts =
 
 -- the cells and the lists stand where they were found: what is asked before they are stored
 pub record PartsHeld (bytes : List ℕ) (parts : Parts) : Type 0 where
-  pub cells : Held cell bytes parts.cells.first parts.cells.length
-  pub spans : Held number bytes parts.spans.first parts.spans.length
-  pub boundaries : Held number bytes parts.boundaries.first parts.boundaries.length
-  pub anchors : Held number bytes parts.anchors.first parts.anchors.length
+  pub cells : Held cell bytes parts.cells.first parts.cells.count
+  pub spans : Held number bytes parts.spans.first parts.spans.count
+  pub boundaries : Held number bytes parts.boundaries.first parts.boundaries.count
+  pub anchors : Held number bytes parts.anchors.first parts.anchors.count
 
 -- the cells end where the spans' count begins, and the spans where that of the boundaries does
 pub record SpansStand (own : Bool) (bytes : List ℕ) (at count : ℕ) (parts : Parts) : Type 0 where
@@ -112,7 +133,7 @@ sheet_of bytes plan =
       width = plan.width;
       height = plan.height;
       cells = cells_in bytes parts;
-      spans = spans_stated (has_spans plan.kind) (part_of bytes parts.spans) (part_of bytes parts.boundaries);
+      spans = spans_stated (has_spans (kind_number plan.kind)) (part_of bytes parts.spans) (part_of bytes parts.boundaries);
       boundaries = part_of bytes parts.boundaries;
       anchors = part_of bytes parts.anchors;
     }
@@ -121,10 +142,10 @@ sheet_of bytes plan =
 pub record SheetStands (cellLimit : ℕ) (bytes : List ℕ) (plan : Plan) : Type 0 where
   pub behind-pass : ℕ
   pub cells_first : ℕ
-  pub opened : opening 0 bytes ≡ found (record { kind = plan.kind; pass = plan.pass }) behind-pass (drop behind-pass bytes)
+  pub opened : opening 0 bytes ≡ found (record { kind = kind_number plan.kind; pass = plan.pass }) behind-pass (drop behind-pass bytes)
   pub sided : sides cellLimit behind-pass (drop behind-pass bytes)
       ≡ found (record { width = plan.width; height = plan.height; cells = plan.width * plan.height }) cells_first (drop cells_first bytes)
-  pub spans_stand : SpansStand (has_spans plan.kind) bytes cells_first (plan.width * plan.height) plan.parts
+  pub spans_stand : SpansStand (has_spans (kind_number plan.kind)) bytes cells_first (plan.width * plan.height) plan.parts
 
 pub record SheetHeld (cellLimit : ℕ) (bytes : List ℕ) (plan : Plan) : Type 0 where
   pub held : PartsHeld bytes plan.parts
@@ -137,15 +158,15 @@ SheetTold cellLimit bytes (Err refusal) = read_sheet cellLimit bytes ≡ refused
 
 -- how many numbers the spans have that such a sheet states
 abbrev pub stated_long : ℕ → Parts → ℕ
-stated_long kind parts = cond (has_spans kind) parts.spans.length (numbers_per_span * (parts.boundaries.length / numbers_per_boundary))
+stated_long kind parts = cond (has_spans kind) parts.spans.count (numbers_per_span * (parts.boundaries.count / numbers_per_boundary))
 
 -- lists of these lengths have room for all of it, where the spans have `stated` numbers
 abbrev pub room_in : Parts → ℕ → ℕ → ℕ → ℕ → ℕ → Bool
 room_in parts stated cells spans boundaries anchors =
-    leb parts.cells.length cells && leb stated spans && leb parts.boundaries.length boundaries && leb parts.anchors.length anchors
+    leb parts.cells.count cells && leb stated spans && leb parts.boundaries.count boundaries && leb parts.anchors.count anchors
 
 pub record Room (parts : Parts) (stated cells spans boundaries anchors : ℕ) : Type 0 where
-  pub for_cells : parts.cells.length ≤ cells
+  pub for_cells : parts.cells.count ≤ cells
   pub for_spans : stated ≤ spans
-  pub for_boundaries : parts.boundaries.length ≤ boundaries
-  pub for_anchors : parts.anchors.length ≤ anchors
+  pub for_boundaries : parts.boundaries.count ≤ boundaries
+  pub for_anchors : parts.anchors.count ≤ anchors

@@ -9,10 +9,10 @@ ghost use Rattle.definitions.specs.SheetNumber as grammar;
 ghost use Rattle.definitions.specs.Lists.{overwrite};
 ghost use Rattle.definitions.specs.Limits.{is_side};
 ghost use Rattle.definitions.specs.Grid.{segment_at};
-ghost use Rattle.definitions.specs.Sheet.{cell, entries, is_map_kind, has_spans, spans_held, spans_stated, endpoints, endpoints_in, read_verdict};
+ghost use Rattle.definitions.specs.Sheet.{cell, entries, has_spans, spans_held, spans_stated, endpoints, endpoints_in, read_verdict};
 ghost use Rattle.sheet.specs.Numbers.{read_of, up_to, items_at, Told, ShortTold, Held, values_at};
 ghost use Rattle.sheet.specs.Parts as parts;
-ghost use Rattle.sheet.specs.Parts.{PartTold, ListsTold, SheetTold, PartsHeld, part_of, cells_in, stated_long, room_in, Room};
+ghost use Rattle.sheet.specs.Parts.{kind_number, KindAsked, opened_of, PartTold, ListsTold, SheetTold, PartsHeld, part_of, cells_in, stated_long, room_in, Room};
 ghost use Rattle.sheet.specs.Contract.{header_in, Answered, reading_within};
 
 use definitions::limits::{NUMBERS_PER_ANCHOR, NUMBERS_PER_BOUNDARY, NUMBERS_PER_SPAN};
@@ -42,10 +42,9 @@ pub fn number(bytes: &[u8], at: usize) -> Result<Found<u64>, Refusal>
 {
     let mut value: u64 = 0;
     let mut scale: u64 = 1;
-    // Kept: the number is put together while its end is looked for, so that a chain would carry both and end early on every path.
-    for next in at..bytes.len() {
-        let byte = u64::from(bytes[next]);
-        if ill_formed(next - at, byte) {
+    for (group, &byte) in bytes[at..].iter().enumerate() {
+        let byte = u64::from(byte);
+        if ill_formed(group, byte) {
             return Err(Refusal {
                 cause: Cause::Sheet,
                 place: at,
@@ -55,7 +54,7 @@ pub fn number(bytes: &[u8], at: usize) -> Result<Found<u64>, Refusal>
         if byte < 128 {
             return Ok(Found {
                 value,
-                next: next + 1,
+                next: at + group + 1,
             });
         }
         scale *= 128;
@@ -100,8 +99,6 @@ pub fn number_at(bytes: &[u8], at: usize) -> Result<Found<u64>, Refusal>
 }
 
 // ---- numbers of at most so much, one after the other
-
-const MOST: u64 = 0xffff_ffff_ffff_ffff;
 
 pub const CELL_MOST: u64 = 255;
 
@@ -154,17 +151,17 @@ fn short_at(bytes: &[u8], at: usize) -> Option<Found<u64>>
     None
 }
 
-// Stores numbers that were judged before, from place `first` of the list up to `count`.
-fn fill_rest(bytes: &[u8], at: usize, first: usize, count: usize, out: &mut [u64])
-    requires { (Held grammar.number bytes.now at (count - first)) × (first ≤ count) × (count ≤ length out.old) }
-    ensures { out.new ≡ sets out.old first (values_at grammar.number bytes.now at (count - first)) }
+// Fills a list with numbers that were judged before.
+fn fill_rest(bytes: &[u8], at: usize, out: &mut [u64])
+    requires { Held grammar.number bytes.now at (length out.old) }
+    ensures { out.new ≡ values_at grammar.number bytes.now at (length out.old) }
 {
     let mut next = at;
-    for i in first..count {
-        let Ok(read) = item(bytes, next, MOST) else {
+    for entry in out.iter_mut() {
+        let Ok(read) = item(bytes, next, u64::MAX) else {
             return;
         };
-        out[i] = read.value;
+        *entry = read.value;
         next = read.next;
     }
 }
@@ -177,7 +174,7 @@ pub fn fill_numbers(bytes: &[u8], at: usize, count: usize, out: &mut [u64])
     let mut next = at;
     for i in 0..count {
         let Some(read) = short_at(bytes, next) else {
-            fill_rest(bytes, next, i, count, &mut *out);
+            fill_rest(bytes, next, &mut out[i..count]);
             return;
         };
         out[i] = read.value;
@@ -185,51 +182,73 @@ pub fn fill_numbers(bytes: &[u8], at: usize, count: usize, out: &mut [u64])
     }
 }
 
-// Stores `count` cells that were judged before.
-// Kept: alike `fill_rest`, since a bound of `TryFrom` says nothing of the value that a contract speaks of.
-fn fill_cells(bytes: &[u8], at: usize, count: usize, out: &mut [u8])
-    requires { (Held cell bytes.now at count) × (count ≤ length out.old) }
-    ensures { out.new ≡ overwrite (values_at cell bytes.now at count) out.old }
+// Fills a list with cells that were judged before.
+// Kept: beside `fill_rest`: one function of both would need a trait with the greatest number and the conversion of either type, which is longer than this loop.
+fn fill_cells(bytes: &[u8], at: usize, out: &mut [u8])
+    requires { Held cell bytes.now at (length out.old) }
+    ensures { out.new ≡ values_at cell bytes.now at (length out.old) }
 {
     let mut next = at;
-    for i in 0..count {
+    for entry in out.iter_mut() {
         let Ok(read) = item(bytes, next, CELL_MOST) else {
             return;
         };
-        out[i] = read.value as u8;
+        *entry = read.value as u8;
         next = read.next;
     }
 }
 
 // ---- the parts of a sheet
 
-fn is_map_kind(kind: u64) -> bool
-    ensures { result ≡ is_map_kind kind }
-{
-    (kind == 1) | (kind == 3)
+// The kind of a sheet that states a map: its spans stand in it, or its boundaries serve as spans.
+#[derive(Clone, Copy)]
+pub enum Kind {
+    OwnSpans,
+    SharedSpans,
+}
+
+impl Kind {
+    pub fn has_spans(self) -> bool
+        ensures { result ≡ has_spans (kind_number self) }
+    {
+        matches!(self, Kind::OwnSpans)
+    }
+}
+
+// The kind stands at the first byte.
+impl TryFrom<u64> for Kind {
+    type Error = Refusal;
+
+    ghost try_from_gives = { KindAsked };
+
+    fn try_from(kind: u64) -> Result<Kind, Refusal> {
+        match kind {
+            1 => Ok(Kind::OwnSpans),
+            3 => Ok(Kind::SharedSpans),
+            _ => Err(Refusal {
+                cause: Cause::Sheet,
+                place: 0,
+            }),
+        }
+    }
 }
 
 // What a sheet opens with.
 #[derive(Clone, Copy)]
 pub struct Heading {
-    pub kind: u64,
+    pub kind: Kind,
     pub pass: u64,
 }
 
 fn opening(bytes: &[u8]) -> Result<Found<Heading>, Refusal>
-    ensures { parts.opening 0 bytes.now ≡ read_of bytes.now result }
+    ensures { parts.opening 0 bytes.now ≡ opened_of bytes.now result }
 {
-    let kind = item(bytes, 0, MOST)?;
-    if !is_map_kind(kind.value) {
-        return Err(Refusal {
-            cause: Cause::Sheet,
-            place: 0,
-        });
-    }
-    let pass = item(bytes, kind.next, MOST)?;
+    let number = item(bytes, 0, u64::MAX)?;
+    let kind = Kind::try_from(number.value)?;
+    let pass = item(bytes, number.next, u64::MAX)?;
     Ok(Found {
         value: Heading {
-            kind: kind.value,
+            kind,
             pass: pass.value,
         },
         next: pass.next,
@@ -263,8 +282,8 @@ fn sides(bytes: &[u8], at: usize, limit: u64) -> Result<Found<Extent>, Refusal>
     requires { at ≤ length bytes.now }
     ensures { parts.sides limit at (drop at bytes.now) ≡ read_of bytes.now result }
 {
-    let width = item(bytes, at, MOST)?;
-    let height = item(bytes, width.next, MOST)?;
+    let width = item(bytes, at, u64::MAX)?;
+    let height = item(bytes, width.next, u64::MAX)?;
     if !area_allowed(width.value, height.value, limit) {
         return Err(Refusal {
             cause: Cause::Sides,
@@ -281,11 +300,11 @@ fn sides(bytes: &[u8], at: usize, limit: u64) -> Result<Found<Extent>, Refusal>
     })
 }
 
-// Where the numbers of a list stand, and how many there are.
+// Where a list stands, and how many it has: of numbers here, and of entries in a result.
 #[derive(Clone, Copy)]
 pub struct Part {
     pub first: usize,
-    pub length: usize,
+    pub count: usize,
 }
 
 const ENTRIES_MOST: u64 = 256;
@@ -295,7 +314,7 @@ fn entries(bytes: &[u8], at: usize, size: usize) -> Result<Found<Part>, Refusal>
     requires { (at ≤ length bytes.now) × (size ≤ 9) }
     ensures { PartTold (entries size) bytes.now at result }
 {
-    let count = item(bytes, at, MOST)?;
+    let count = item(bytes, at, u64::MAX)?;
     if ENTRIES_MOST < count.value {
         return Err(Refusal {
             cause: Cause::Entries,
@@ -303,10 +322,13 @@ fn entries(bytes: &[u8], at: usize, size: usize) -> Result<Found<Part>, Refusal>
         });
     }
     let first = count.next;
-    let length = count.value as usize * size;
-    let next = judge(bytes, first, length, MOST)?;
+    let numbers = count.value as usize * size;
+    let next = judge(bytes, first, numbers, u64::MAX)?;
     Ok(Found {
-        value: Part { first, length },
+        value: Part {
+            first,
+            count: numbers,
+        },
         next,
     })
 }
@@ -322,7 +344,7 @@ fn spans_held(bytes: &[u8], at: usize, own: bool) -> Result<Found<Part>, Refusal
         Ok(Found {
             value: Part {
                 first: at,
-                length: 0,
+                count: 0,
             },
             next: at,
         })
@@ -358,7 +380,7 @@ fn lists(bytes: &[u8], at: usize, area: usize, own: bool) -> Result<Parts, Refus
     Ok(Parts {
         cells: Part {
             first: at,
-            length: area,
+            count: area,
         },
         spans: spans.value,
         boundaries: boundaries.value,
@@ -373,7 +395,7 @@ fn lists(bytes: &[u8], at: usize, area: usize, own: bool) -> Result<Parts, Refus
 // What was found by judging: the kind, the pass, both sides, and where the cells and the lists stand.
 #[derive(Clone, Copy)]
 pub struct Plan {
-    pub kind: u64,
+    pub kind: Kind,
     pub pass: u64,
     pub width: usize,
     pub height: usize,
@@ -388,7 +410,7 @@ pub fn judge_sheet(bytes: &[u8], limit: u64) -> Result<Plan, Refusal>
     let heading = opening.value;
     let sides = sides(bytes, opening.next, limit)?;
     let extent = sides.value;
-    let parts = lists(bytes, sides.next, extent.cells, heading.kind == 1)?;
+    let parts = lists(bytes, sides.next, extent.cells, heading.kind.has_spans())?;
     Ok(Plan {
         kind: heading.kind,
         pass: heading.pass,
@@ -411,13 +433,13 @@ pub struct Header {
 }
 
 // How many numbers the spans have: those that the sheet holds, or four for each boundary.
-fn stated_length(kind: u64, parts: Parts) -> usize
-    ensures { result ≡ stated_long kind parts }
+fn stated_length(kind: Kind, parts: Parts) -> usize
+    ensures { result ≡ stated_long (kind_number kind) parts }
 {
-    if kind == 1 {
-        parts.spans.length
+    if kind.has_spans() {
+        parts.spans.count
     } else {
-        parts.boundaries.length / NUMBERS_PER_BOUNDARY * NUMBERS_PER_SPAN
+        parts.boundaries.count / NUMBERS_PER_BOUNDARY * NUMBERS_PER_SPAN
     }
 }
 
@@ -432,10 +454,10 @@ fn fits(
 ) -> bool
     ensures { result ≡ room_in parts stated cells spans boundaries anchors }
 {
-    parts.cells.length <= cells
+    parts.cells.count <= cells
         && stated <= spans
-        && parts.boundaries.length <= boundaries
-        && parts.anchors.length <= anchors
+        && parts.boundaries.count <= boundaries
+        && parts.anchors.count <= anchors
 }
 
 // Stores the endpoints of boundary i as span i.
@@ -445,10 +467,7 @@ fn put_endpoints(boundaries: &[u64], i: usize, spans: &mut [u64])
 {
     let k = NUMBERS_PER_BOUNDARY * i;
     let place = NUMBERS_PER_SPAN * i;
-    spans[place] = boundaries[k];
-    spans[place + 1] = boundaries[k + 1];
-    spans[place + 2] = boundaries[k + 2];
-    spans[place + 3] = boundaries[k + 3];
+    spans[place..place + NUMBERS_PER_SPAN].copy_from_slice(&boundaries[k..k + NUMBERS_PER_SPAN]);
 }
 
 // Stores the endpoints of the first boundaries, so many of them, as spans.
@@ -464,29 +483,29 @@ pub fn fill_endpoints(boundaries: &[u64], count: usize, spans: &mut [u64])
 // Stores the spans that were judged before, or the endpoints of the boundaries.
 fn fill_spans(
     bytes: &[u8],
-    kind: u64,
+    kind: Kind,
     part: Part,
     boundaries: &[u64],
     count: usize,
     spans: &mut [u64],
 )
-    requires held { Held grammar.number bytes.now part.first part.length }
-    requires room { (9 * count ≤ length boundaries.now) × (cond (has_spans kind) part.length (4 * count) ≤ length spans.old) }
+    requires held { Held grammar.number bytes.now part.first part.count }
+    requires room { (9 * count ≤ length boundaries.now) × (cond (has_spans (kind_number kind)) part.count (4 * count) ≤ length spans.old) }
     ensures { spans.new
-        ≡ overwrite (cond (has_spans kind) (part_of bytes.now part) (endpoints_in count boundaries.now)) spans.old }
+        ≡ overwrite (cond (has_spans (kind_number kind)) (part_of bytes.now part) (endpoints_in count boundaries.now)) spans.old }
 {
-    if kind == 1 {
-        fill_numbers(bytes, part.first, part.length, &mut *spans);
+    if kind.has_spans() {
+        fill_numbers(bytes, part.first, part.count, &mut *spans);
         return;
     }
     fill_endpoints(boundaries, count, &mut *spans);
 }
 
 // Fills the lists with what was judged before.
-// Kept: the four lists stand by themselves, as the C interface lends them: only here would a struct of them be taken, and in its contract each list stands by itself too.
+// Kept: the four lists by themselves: a struct of them would be made in `read_within` alone, and its contract would say of each that it is still the list that was lent.
 fn fill(
     bytes: &[u8],
-    kind: u64,
+    kind: Kind,
     parts: Parts,
     cells: &mut [u8],
     spans: &mut [u64],
@@ -494,44 +513,43 @@ fn fill(
     anchors: &mut [u64],
 )
     requires held { PartsHeld bytes.now parts }
-    requires room { Room parts (stated_long kind parts) (length cells.old) (length spans.old) (length boundaries.old) (length anchors.old) }
+    requires room { Room parts (stated_long (kind_number kind) parts) (length cells.old) (length spans.old)
+        (length boundaries.old) (length anchors.old) }
     ensures cells { cells.new ≡ overwrite (cells_in bytes.now parts) cells.old }
     ensures spans { spans.new
-        ≡ overwrite (spans_stated (has_spans kind) (part_of bytes.now parts.spans) (part_of bytes.now parts.boundaries))
+        ≡ overwrite (spans_stated (has_spans (kind_number kind)) (part_of bytes.now parts.spans) (part_of bytes.now parts.boundaries))
         spans.old }
     ensures boundaries { boundaries.new ≡ overwrite (part_of bytes.now parts.boundaries) boundaries.old }
     ensures anchors { anchors.new ≡ overwrite (part_of bytes.now parts.anchors) anchors.old }
 {
-    let a = parts.cells;
-    let b = parts.spans;
-    let c = parts.boundaries;
-    let d = parts.anchors;
-    fill_cells(bytes, a.first, a.length, &mut *cells);
-    fill_numbers(bytes, c.first, c.length, &mut *boundaries);
+    fill_cells(bytes, parts.cells.first, &mut cells[..parts.cells.count]);
+    fill_numbers(
+        bytes,
+        parts.boundaries.first,
+        parts.boundaries.count,
+        &mut *boundaries,
+    );
     fill_spans(
         bytes,
         kind,
-        b,
+        parts.spans,
         &*boundaries,
-        c.length / NUMBERS_PER_BOUNDARY,
-        &mut *spans,
+        parts.boundaries.count / NUMBERS_PER_BOUNDARY,
+        spans,
     );
-    fill_numbers(bytes, d.first, d.length, &mut *anchors);
+    fill_numbers(bytes, parts.anchors.first, parts.anchors.count, anchors);
 }
 
 fn header_of(plan: Plan, stated: usize) -> Header
     ensures { result ≡ header_in plan stated }
 {
-    let parts = plan.parts;
-    let c = parts.boundaries;
-    let d = parts.anchors;
     Header {
         pass: plan.pass,
         width: plan.width,
         height: plan.height,
         spans: stated / NUMBERS_PER_SPAN,
-        boundaries: c.length / NUMBERS_PER_BOUNDARY,
-        anchors: d.length / NUMBERS_PER_ANCHOR,
+        boundaries: plan.parts.boundaries.count / NUMBERS_PER_BOUNDARY,
+        anchors: plan.parts.anchors.count / NUMBERS_PER_ANCHOR,
     }
 }
 
@@ -564,19 +582,16 @@ pub fn read_within(
             place: 0,
         });
     }
-    fill(
-        bytes,
-        plan.kind,
-        parts,
-        &mut *cells,
-        &mut *spans,
-        &mut *boundaries,
-        &mut *anchors,
-    );
+    fill(bytes, plan.kind, parts, cells, spans, boundaries, anchors);
     Ok(header_of(plan, stated))
 }
 
 pub const PLAIN_CELL_LIMIT: u64 = 1_048_576;
+
+// How many bytes and cells a sheet has at most that is run or reported.
+pub const SHEET_BYTES_MOST: usize = 65_536;
+
+pub const CELLS_MOST: u64 = 4096;
 
 // Reads a sheet into the lists: the reading of SPECIFICATION 14 alone.
 pub fn read_sheet(

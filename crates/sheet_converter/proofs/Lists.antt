@@ -27,9 +27,9 @@ stated_1 k spans boundaries = ap (λ n. spans_stated (has_spans n) spans boundar
 pub record PlanFits (plan : Plan) : Type 0 where
   pub wide : plan.width ≤ max_side
   pub high : plan.height ≤ max_side
-  pub spans : plan.parts.spans.length ≤ 1024
-  pub boundaries : plan.parts.boundaries.length ≤ 2304
-  pub anchors : plan.parts.anchors.length ≤ 512
+  pub spans : plan.parts.spans.count ≤ 1024
+  pub boundaries : plan.parts.boundaries.count ≤ 2304
+  pub anchors : plan.parts.anchors.count ≤ 512
 
 pub plan-fits : {bytes : List ℕ} {plan : Plan} → SheetHeld plain_cell_limit bytes plan → plan.kind ≡ 1 → PlanFits plan
 plan-fits {bytes} {plan} S k =
@@ -45,8 +45,8 @@ plan-fits {bytes} {plan} S k =
     }
 
 -- the first numbers of a list that was filled
-pub part-taken : (bytes : List ℕ) (part : Part) {filled : List ℕ} (old : List ℕ) → Held number bytes part.first part.length
-    → filled ≡ overwrite (part_of bytes part) old → take part.length filled ≡ part_of bytes part
+pub part-taken : (bytes : List ℕ) (part : Part) {filled : List ℕ} (old : List ℕ) → Held number bytes part.first part.count
+    → filled ≡ overwrite (part_of bytes part) old → take part.count filled ≡ part_of bytes part
 part-taken bytes part {filled} old H e =
     let l = part_of bytes part in
     ap (λ n. take n filled) (sym (held-length H)) ∙ ap (take (length l)) e ∙ take-append_seam l (drop (length l) old)

@@ -100,7 +100,7 @@ fn map_check(
     anchors: &[u64],
 ) -> Result<(), Refusal>
     requires sides { (plan.width ≤ max_side) × (plan.height ≤ max_side) }
-    requires cells { Held cell bytes.now plan.parts.cells.first plan.parts.cells.length }
+    requires cells { Held cell bytes.now plan.parts.cells.first plan.parts.cells.count }
     requires few { length boundaries.now ≤ 2304 }
     ensures { refusal_in result
         ≡ map_refusal plan.pass plan.width plan.height (cells_in bytes.now plan.parts)
@@ -113,7 +113,7 @@ fn map_check(
     let parts = plan.parts;
     let cells = parts.cells;
     no_fault(
-        cells_fault(bytes, cells.first, cells.length),
+        cells_fault(bytes, cells.first, cells.count),
         Cause::Elevation,
     )?;
     ensure(is_one_list(spans, boundaries), Cause::TwoLists)
@@ -132,12 +132,12 @@ fn plan_check(bytes: &[u8], plan: Plan) -> Result<(), Refusal>
     let b = parts.spans;
     let c = parts.boundaries;
     let d = parts.anchors;
-    fill_numbers(bytes, b.first, b.length, &mut spans);
-    fill_numbers(bytes, c.first, c.length, &mut boundaries);
-    fill_numbers(bytes, d.first, d.length, &mut anchors);
-    let spans_end = b.length;
-    let boundaries_end = c.length;
-    let anchors_end = d.length;
+    fill_numbers(bytes, b.first, b.count, &mut spans);
+    fill_numbers(bytes, c.first, c.count, &mut boundaries);
+    fill_numbers(bytes, d.first, d.count, &mut anchors);
+    let spans_end = b.count;
+    let boundaries_end = c.count;
+    let anchors_end = d.count;
     map_check(
         bytes,
         plan,

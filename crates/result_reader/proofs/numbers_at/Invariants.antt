@@ -2,5 +2,5 @@
 use Rattle.result_reader.proofs.Numbers.{Reading}
 use Rattle.result_reader.proofs.numbers_at.Given as goal
 
-abbrev pub invariant-loop-i : goal.invariant-loop-i
-invariant-loop-i g l = Reading g.row.N l.at l.bytes l.value l.next l.i
+abbrev pub invariant-loop-number : goal.invariant-loop-number
+invariant-loop-number g l = Reading g.row.N l.at l.bytes l.number-items l.next l.number-index

@@ -13,5 +13,5 @@ returns-then-own c =
 pub returns-else-own : goal.returns-else-own
 returns-else-own c =
     let given = c.args in
-    subst (λ t. PartHeld (spans_held t) given.bytes.now given.at (record { first = given.at; length = 0 }) given.at) (sym c.if-own.false)
+    subst (λ t. PartHeld (spans_held t) given.bytes.now given.at (record { first = given.at; count = 0 }) given.at) (sym c.if-own.false)
     (spans_none given.bytes.now given.at c.requires)
