@@ -1,4 +1,4 @@
--- Forests of parents: what a new parent leaves of them, and the way from a region to its root. Assumes nothing.
+-- Classes of regions by their names: two classes joined are two names merged, and in ascending order the parents become names. Assumes nothing.
 use Prim.Native.Nat.{ℕ, suc, ◌+◌, ◌-◌, ◌≤◌, ◌<◌, min, max}
 use native.Mathlib.Omega.{arith}
 use lib.Arith.{lt_of_le-ne}
@@ -8,28 +8,28 @@ use mathlib.Core.Logic.{⊎_elim}
 use mathlib.Core.List.{List, [], ◌∷◌, ◌++◌}
 use lib.ListN.{length, get_or, set, length-set}
 use lib.Seq.{get_or-set_same, get_or-set_other}
-use lib.Dec.{ltb}
-use borrow.Author.Tests.{ltb-true, ltb-false, eq-eqb, ne_eqb}
+use lib.Dec.{eqb}
+use borrow.Author.Tests.{eqb-true, eqb-false}
 use Rattle.definitions.specs.Grid.{Pair}
 use Rattle.definitions.specs.Partition.{merge, merge_all}
-use Rattle.laws.specs.RegionLaws.Merging.{merged, merge_at, merge-length, merge_all-length, merged_one}
-use Rattle.laws.specs.RegionLaws.MergingInside.{min-l, min-r, max-l, max-r}
-use Rattle.laws.specs.ListLaws.Beyond.{Beyond, beyond_same, beyond-set, beyond-then}
+use Rattle.laws.specs.RegionLaws.Merging.{merged, merge_at, merge-length, merge_all-length}
+use Rattle.laws.specs.ListLaws.Beyond.{Beyond, beyond_same, beyond-then}
 use Rattle.laws.specs.NumberLaws.Comparisons.{same_or}
 use Rattle.context.specs.Shown.{pair_at, pairs_between}
-use Rattle.interior_proposals.specs.Forest.{Parented, Found, Placed, Merged, Names}
+use Rattle.parents.specs.Forest.{joined_name, Left}
+use Rattle.parents.specs.Forest as parents
+use Rattle.parents.specs.ForestLaws.{name-low}
+use Rattle.interior_proposals.specs.Forest.{class_of, Parented, Placed, Merged, Names}
 use Rattle.interior_proposals.proofs.RowScans.{between_none, between_next, between-end}
 
--- ---- what stays
-
--- ---- a new parent
+-- ---- a store
 
 -- what stands for region y after a store for region x
 pub at_set : (ps : List ℕ) (x v y : ℕ) → 1 ≤ x → 1 ≤ y → (y ≡ x → ⊥) → get_or (set ps (x - 1) v) (y - 1) 0 ≡ get_or ps (y - 1) 0
 at_set ps x v y a b n = get_or-set_other ps (x - 1) (y - 1) v 0 (λ e. n (omega arith))
 
 module _ (P : ℕ → ℕ → Type 0) (ps : List ℕ) (x v : ℕ) (a : 1 ≤ x) (l : x ≤ length ps) where
-  -- what holds of each region and its parent holds after a store, if it holds of the new parent
+  -- what holds of each region and what stands for it holds after a store, if it holds of what is stored
   pub set_case : (y : ℕ) → 1 ≤ y → P x v → ((y ≡ x → ⊥) → P y (get_or ps (y - 1) 0)) → P y (get_or (set ps (x - 1) v) (y - 1) 0)
   set_case y b new old =
       ⊎_elim
@@ -37,162 +37,88 @@ module _ (P : ℕ → ℕ → Type 0) (ps : List ℕ) (x v : ℕ) (a : 1 ≤ x) 
       (λ n. subst (P y) (sym (at_set ps x v y a b n)) (old n))
       (same_or y x)
 
--- a parent that is no larger, has the same name, and is the region itself only where that is its own name
-pub reparented : {cs ps : List ℕ} (x v : ℕ) → Parented cs ps → 1 ≤ x → x < length cs → 1 ≤ v → v ≤ x → get_or cs v 0 ≡ get_or cs x 0 → (v ≡ x → get_or cs x 0 ≡ x) → Parented cs (set ps (x - 1) v)
-reparented {cs} {ps} x v P a l from upto same own =
+-- ---- two classes become one
+
+-- parents of the same names
+pub renamed : {n : ℕ} {f g : ℕ → ℕ} {p : List ℕ} → ((c : ℕ) → c < n → f c ≡ g c) → parents.Forest n f p → parents.Forest n g p
+renamed h F =
     record {
-      long = subst (λ n. length cs ≤ suc n) (sym (length-set ps (x - 1) v)) P.long;
-      low = λ y b m. set_case (λ z q. 1 ≤ q) ps x v a in_ps y b from (λ n. P.low y b m);
-      high = λ y b m. set_case (λ z q. q ≤ z) ps x v a in_ps y b upto (λ n. P.high y b m);
-      same = λ y b m. set_case (λ z q. get_or cs q 0 ≡ get_or cs z 0) ps x v a in_ps y b same (λ n. P.same y b m);
-      own = λ y b m. set_case (λ z q. q ≡ z → get_or cs z 0 ≡ z) ps x v a in_ps y b own (λ n. P.own y b m);
+      few = F.few;
+      long = F.long;
+      parent = λ c l.
+          let P = F.parent c l in
+          record { low = P.low; same = sym (h _ (omega (arith, P.low, l))) ∙ P.same ∙ h c l; top = λ e. sym (h c l) ∙ P.top e };
     }
+
+-- one merge, of numbers from 1 on and of those one less
+merged_less : (a b r : ℕ) → 1 ≤ a → 1 ≤ b → 1 ≤ r → merged (a - 1) (b - 1) (r - 1) ≡ merged a b r - 1
+unfolding merged
+merged_less a b r i j k = go (eqb r (max a b)) refl (eqb (r - 1) (max (a - 1) (b - 1))) refl
   where
-    in_ps : x ≤ length ps
-    in_ps = omega (arith, P.long)
+    go : (s : Bool) → eqb r (max a b) ≡ s → (t : Bool) → eqb (r - 1) (max (a - 1) (b - 1)) ≡ t → cond t (min (a - 1) (b - 1)) (r - 1) ≡ cond s (min a b) r - 1
+    go true e true f = omega (arith, i, j)
+    go false e false f = refl
+    go true e false f = absurd (eqb-false (r - 1) (max (a - 1) (b - 1)) f (omega (arith, eqb-true r (max a b) e, i, j)))
+    go false e true f = absurd (eqb-false r (max a b) e (omega (arith, eqb-true (r - 1) (max (a - 1) (b - 1)) f, i, j, k)))
 
--- ---- the way from r to its root, at x
+merged_from : (a b r : ℕ) → 1 ≤ a → 1 ≤ b → 1 ≤ r → 1 ≤ merged a b r
+unfolding merged
+merged_from a b r i j k = go (eqb r (max a b))
+  where
+    go : (t : Bool) → 1 ≤ cond t (min a b) r
+    go true = omega (arith, i, j)
+    go false = k
 
-pub record Way (cs was : List ℕ) (r : ℕ) (ps : List ℕ) (x : ℕ) : Type 0 where
-  pub parented : Parented cs ps
-  pub same : get_or cs x 0 ≡ get_or cs r 0
-  pub from : 1 ≤ x
-  pub upto : x ≤ r
-  pub beyond : Beyond (length cs - 1) was ps
+module _ {cs ps : List ℕ} {p : Pair} (w : Placed (length cs) p) (P : Parented cs ps) where
+  abbrev low : ℕ
+  low = get_or cs p.lo 0
 
-module _ {cs was : List ℕ} {r : ℕ} where
-  pub way-start : Parented cs was → 1 ≤ r → Way cs was r was r
-  way-start P a = record { parented = P; same = refl; from = a; upto = omega arith; beyond = beyond_same (length cs - 1) was }
+  abbrev high : ℕ
+  high = get_or cs p.hi 0
 
-  pub way_in : {ps : List ℕ} {x : ℕ} → r < length cs → Way cs was r ps x → (1 ≤ x) × (x ≤ length ps)
-  way_in l w = (w.from, omega (arith, w.parented.long, w.upto))
+  low_name : 1 ≤ low
+  low_name = P.named p.lo w.low_from w.low_upto
 
-  module _ {ps : List ℕ} {x : ℕ} (l : r < length cs) (w : Way cs was r ps x) where
-    x_in : x < length cs
-    x_in = omega (arith, w.upto)
+  high_name : 1 ≤ high
+  high_name = P.named p.hi w.high_from w.high_upto
 
-    pub parent_in : (1 ≤ get_or ps (x - 1) 0) × (get_or ps (x - 1) 0 ≤ length ps)
-    parent_in = (w.parented.low x w.from x_in, omega (arith, w.parented.high x w.from x_in, w.parented.long, w.upto))
+  merged-size : length (merge cs p) ≡ length cs
+  merged-size = merge-length cs p
 
-    pub parent-le : get_or ps (x - 1) 0 ≤ x
-    parent-le = w.parented.high x w.from x_in
+  at_region : (x : ℕ) → 1 ≤ x → suc (x - 1) ≡ x
+  at_region x h = omega arith
 
-    pub above_in : (1 ≤ get_or ps (get_or ps (x - 1) 0 - 1) 0) × (get_or ps (get_or ps (x - 1) 0 - 1) 0 ≤ get_or ps (x - 1) 0)
-    above_in =
-        let b = w.parented.low x w.from x_in in
-        let m : get_or ps (x - 1) 0 < length cs = omega (arith, parent-le, x_in) in
-        (w.parented.low (get_or ps (x - 1) 0) b m, w.parented.high (get_or ps (x - 1) 0) b m)
+  class_is : (c : ℕ) → c < length cs - 1 → joined_name (class_of cs) (p.lo - 1) (p.hi - 1) c ≡ class_of (merge cs p) c
+  class_is c l =
+      ap₂ (λ x y. merged (get_or cs x 0 - 1) (get_or cs y 0 - 1) (get_or cs (suc c) 0 - 1)) (at_region p.lo w.low_from) (at_region p.hi w.high_from)
+      ∙ merged_less low high (get_or cs (suc c) 0) low_name high_name (P.named (suc c) (omega arith) (omega (arith, l)))
+      ∙ ap (λ n. n - 1) (sym (merge_at cs p (suc c) (omega (arith, l))))
 
-    -- a step by two
-    pub way_step : (v : ℕ) → v ≡ get_or ps (get_or ps (x - 1) 0 - 1) 0 → Way cs was r (set ps (x - 1) v) v
-    way_step v e =
-        record {
-          parented = reparented x v w.parented w.from x_in from (omega (arith, upto, parent-le)) same (λ q. w.parented.own x w.from x_in (omega (arith, upto, parent-le)));
-          same = same ∙ w.same;
-          from = from;
-          upto = omega (arith, upto, parent-le, w.upto);
-          beyond = beyond-then w.beyond (beyond-set (length cs - 1) ps (x - 1) v (omega (arith, w.from, x_in)));
-        }
-      where
-        from : 1 ≤ v
-        from = omega (arith, above_in.0)
-
-        upto : v ≤ get_or ps (x - 1) 0
-        upto = omega (arith, above_in.1)
-
-        same : get_or cs v 0 ≡ get_or cs x 0
-        same =
-            ap (λ z. get_or cs z 0) e ∙ w.parented.same (get_or ps (x - 1) 0) (w.parented.low x w.from x_in) (omega (arith, parent-le, x_in))
-            ∙ w.parented.same x w.from x_in
-
-    -- a root
-    pub way_end : get_or ps (x - 1) 0 ≡ x → Found cs was r ps x
-    way_end e =
-        let own = w.parented.own x w.from x_in e in
-        record { parented = w.parented; name = sym own ∙ w.same; own = own; from = w.from; upto = w.upto; beyond = w.beyond }
-
--- ---- two roots become one
-
-module _ (a b : ℕ) where
-  -- of two numbers, one is the lesser and the other the greater
-  lesser-greater : (P : ℕ → ℕ → Type 0) → (a < b → P a b) → (b ≤ a → P b a) → P (min a b) (max a b)
-  lesser-greater P h k = go (ltb a b) refl
-    where
-      go : (t : Bool) → ltb a b ≡ t → P (min a b) (max a b)
-      go true e =
-          let l = ltb-true a b e in
-          subst (λ x. P x (max a b)) (sym (min-l a b l)) (subst (P a) (sym (max-l a b l)) (h l))
-      go false e =
-          let l = ltb-false a b e in
-          subst (λ x. P x (max a b)) (sym (min-r a b l)) (subst (P b) (sym (max-r a b l)) (k l))
-
-  merged-other : (r : ℕ) → (r ≡ max a b → ⊥) → merged a b r ≡ r
-  unfolding merged
-  merged-other r n = ap (λ t. cond t (min a b) r) (ne_eqb r (max a b) n)
-
-  merged-greatest : merged a b (max a b) ≡ min a b
-  unfolding merged
-  merged-greatest = ap (λ t. cond t (min a b) (max a b)) (eq-eqb (max a b) (max a b) refl)
-
-module _ {cs ps : List ℕ} {p : Pair} {a b : ℕ} {was mid : List ℕ} (w : Placed (length cs) p) (A : Found cs was p.lo mid a) (B : Found cs mid p.hi ps b) where
-  parented : Parented cs ps
-  parented = B.parented
-
-  new : (x : ℕ) → x < length cs → get_or (merge cs p) x 0 ≡ merged a b (get_or cs x 0)
-  new x l = merge_at cs p x l ∙ ap₂ (λ u v. merged u v (get_or cs x 0)) (sym A.name) (sym B.name)
-
-  least_in : (1 ≤ min a b) × (min a b ≤ max a b)
-  least_in = (omega (arith, A.from, B.from), omega arith)
-
-  pub greatest_in : (1 ≤ max a b) × (max a b < length cs)
-  greatest_in = (omega (arith, A.from), omega (arith, A.upto, B.upto, w.low_upto, w.high_upto))
-
-  one_name : merged a b (get_or cs (min a b) 0) ≡ merged a b (get_or cs (max a b) 0)
-  one_name =
-      lesser-greater a b (λ u v. merged a b (get_or cs u 0) ≡ merged a b (get_or cs v 0))
-      (λ l. ap (merged a b) A.own ∙ merged_one a b ∙ sym (ap (merged a b) B.own))
-      (λ l. ap (merged a b) B.own ∙ sym (merged_one a b) ∙ sym (ap (merged a b) A.own))
-
-  greatest-own : get_or cs (max a b) 0 ≡ max a b
-  greatest-own = lesser-greater a b (λ u v. get_or cs v 0 ≡ v) (λ l. B.own) (λ l. A.own)
-
-  pub linked : Parented (merge cs p) (set ps (max a b - 1) (min a b))
-  linked =
+  pub two_classes : parents.PlacedTwo ps (p.lo - 1) (p.hi - 1)
+  two_classes =
       record {
-        long = subst (λ n. length (merge cs p) ≤ suc n) (sym (length-set ps (max a b - 1) (min a b))) (subst (λ n. n ≤ suc (length ps)) (sym size) parented.long);
-        low = λ y c m. set_case (λ z q. 1 ≤ q) ps (max a b) (min a b) greatest_in.0 in_ps y c least_in.0 (λ n. parented.low y c (old m));
-        high = λ y c m. set_case (λ z q. q ≤ z) ps (max a b) (min a b) greatest_in.0 in_ps y c least_in.1 (λ n. parented.high y c (old m));
-        same = λ y c m. set_case (λ z q. get_or (merge cs p) q 0 ≡ get_or (merge cs p) z 0) ps (max a b) (min a b) greatest_in.0 in_ps y c
-            (new (min a b) (omega (arith, greatest_in.1)) ∙ one_name ∙ sym (new (max a b) greatest_in.1))
-            (λ n. new (get_or ps (y - 1) 0) (omega (arith, parented.high y c (old m), old m)) ∙ ap (merged a b) (parented.same y c (old m)) ∙ sym (new y (old m)));
-        own = λ y c m. set_case (λ z q. q ≡ z → get_or (merge cs p) z 0 ≡ z) ps (max a b) (min a b) greatest_in.0 in_ps y c
-            (λ e. new (max a b) greatest_in.1 ∙ ap (merged a b) greatest-own ∙ merged-greatest a b ∙ e)
-            (λ n e.
-            let o = parented.own y c (old m) e in
-            new y (old m) ∙ ap (merged a b) o ∙ merged-other a b y n);
+        n = length cs - 1;
+        name = class_of cs;
+        forest = P.classes;
+        first = omega (arith, w.low_from, w.low_upto);
+        second = omega (arith, w.high_from, w.high_upto);
       }
-    where
-      size : length (merge cs p) ≡ length cs
-      size = merge-length cs p
 
-      old : {y : ℕ} → y < length (merge cs p) → y < length cs
-      old {y} m = subst (λ n. y < n) size m
-
-      in_ps : max a b ≤ length ps
-      in_ps = omega (arith, greatest_in.1, parented.long)
-
-  -- g and l are what `greater` and `lesser` returned
-  pub joined : {g l : ℕ} {now : List ℕ} → g ≡ max a b → l ≡ min a b → now ≡ set ps (g - 1) l → Merged cs was (p ∷ []) now
+  -- from what `join` of crate `parents` ensures
+  pub joined : {now : List ℕ} → ((n : ℕ) (name : ℕ → ℕ) → parents.Forest n name ps → p.lo - 1 < n → p.hi - 1 < n → Left n (joined_name name (p.lo - 1) (p.hi - 1)) ps now) → Merged cs ps (p ∷ []) now
   unfolding merge_all
-  joined {g} {l} d e s =
-      subst (λ ls. Merged cs was (p ∷ []) ls) (sym (s ∙ ap₂ (λ x y. set ps (x - 1) y) d e))
-      (record {
-        parented = linked;
-        beyond = beyond-then A.beyond (beyond-then B.beyond (beyond-set (length cs - 1) ps (max a b - 1) (min a b) (omega (arith, greatest_in.0, greatest_in.1))));
-      })
-
-  pub greatest-placed : {g : ℕ} → g ≡ max a b → (1 ≤ g) × (g ≤ length ps)
-  greatest-placed d = (omega (arith, greatest_in.0), omega (arith, greatest_in.1, parented.long))
+  joined {now} ensures =
+      let L = ensures (length cs - 1) (class_of cs) P.classes (omega (arith, w.low_from, w.low_upto)) (omega (arith, w.high_from, w.high_upto)) in
+      record {
+        parented =
+            record {
+              named = λ x a l.
+                  let k : x < length cs = omega (arith, l, merged-size) in
+                  subst (λ n. 1 ≤ n) (sym (merge_at cs p x k)) (merged_from low high (get_or cs x 0) low_name high_name (P.named x a k));
+              classes = subst (λ n. parents.Forest (n - 1) (class_of (merge cs p)) now) (sym merged-size) (renamed class_is L.forest);
+            };
+        beyond = L.beyond;
+      }
 
 -- ---- many pairs
 
@@ -215,46 +141,64 @@ module _ {cs was : List ℕ} where
 
 -- ---- parents become names, in ascending order
 
--- done up to region k
-pub record Flat (cs ps : List ℕ) (k : ℕ) : Type 0 where
-  pub parented : Parented cs ps
-  pub flat : (x : ℕ) → 1 ≤ x → x ≤ k → get_or ps (x - 1) 0 ≡ get_or cs x 0
+-- the first k are names, and the others parents as they were
+pub record Flat (cs was ps : List ℕ) (k : ℕ) : Type 0 where
+  pub flat : (c : ℕ) → c < k → get_or ps c 0 ≡ get_or cs (suc c) 0
+  pub rest : (c : ℕ) → k ≤ c → get_or ps c 0 ≡ get_or was c 0
+  pub same_long : length ps ≡ length was
 
-module _ {cs ps : List ℕ} {k : ℕ} (F : Flat cs ps k) (l : k + 1 < length cs) where
-  here : k + 1 - 1 ≡ k
-  here = omega arith
+pub flat-start : (cs was : List ℕ) → Flat cs was was 0
+flat-start cs was = record { flat = λ c h. absurd (omega arith); rest = λ c h. refl; same_long = refl }
 
-  from : 1 ≤ k + 1
-  from = omega arith
+module _ {cs was ps : List ℕ} {k : ℕ} (P : Parented cs was) (F : Flat cs was ps k) (l : k + 1 < length cs) where
+  abbrev up : parents.Parent (class_of cs) k (get_or was k 0)
+  up = P.classes.parent k (omega (arith, l))
 
-  at_k : Way cs ps (k + 1) ps (k + 1)
-  at_k = way-start F.parented from
+  name_from : (c : ℕ) → c ≤ k → 1 ≤ get_or cs (suc c) 0
+  name_from c h = P.named (suc c) (omega arith) (omega (arith, l, h))
 
-  pub flat-parent : (1 ≤ get_or ps k 0) × (get_or ps k 0 ≤ length ps)
-  flat-parent = subst (λ i. (1 ≤ get_or ps i 0) × (get_or ps i 0 ≤ length ps)) here (parent_in l at_k)
+  pub parent_low : get_or ps k 0 ≤ k
+  parent_low = omega (arith, F.rest k (omega arith), up.low)
 
-  name_at : get_or ps (get_or ps (k + 1 - 1) 0 - 1) 0 ≡ get_or cs (k + 1) 0
-  name_at =
-      ⊎_elim
-      (λ e. ap (λ x. get_or ps (x - 1) 0) e ∙ e ∙ sym (F.parented.own (k + 1) from l e))
-      (λ n. F.flat (get_or ps (k + 1 - 1) 0) (F.parented.low (k + 1) from l) (below n) ∙ F.parented.same (k + 1) from l)
-      (same_or (get_or ps (k + 1 - 1) 0) (k + 1))
-    where
-      below : (get_or ps (k + 1 - 1) 0 ≡ k + 1 → ⊥) → get_or ps (k + 1 - 1) 0 ≤ k
-      below n = omega (arith, lt_of_le-ne (F.parented.high (k + 1) from l) n)
+  -- what is stored is the name
+  pub own_name : get_or ps k 0 ≡ k → k + 1 ≡ get_or cs (suc k) 0
+  own_name e = omega (arith, up.top (sym (F.rest k (omega arith)) ∙ e), name_from k (omega arith))
 
-  pub flat_more : (v : ℕ) → v ≡ get_or ps (get_or ps k 0 - 1) 0 → Flat cs (set ps k v) (k + 1)
-  flat_more v e = subst (λ i. Flat cs (set ps i v) (k + 1)) here
-      (record {
-        parented = (way_step l at_k v up).parented;
-        flat = λ x a m. set_case (λ z q. z ≤ k + 1 → q ≡ get_or cs z 0) ps (k + 1) v from (omega (arith, l, F.parented.long)) x a (λ u. up ∙ name_at) (λ n u. F.flat x a (omega (arith, lt_of_le-ne u n))) m;
-      })
-    where
-      up : v ≡ get_or ps (get_or ps (k + 1 - 1) 0 - 1) 0
-      up = e ∙ ap (λ i. get_or ps (get_or ps i 0 - 1) 0) (sym here)
+  pub parents_name : (get_or ps k 0 ≡ k → ⊥) → get_or ps (get_or ps k 0) 0 ≡ get_or cs (suc k) 0
+  parents_name n =
+      let p : get_or ps k 0 ≡ get_or was k 0 = F.rest k (omega arith) in
+      let same : class_of cs (get_or ps k 0) ≡ class_of cs k = ap (class_of cs) p ∙ up.same in
+      F.flat (get_or ps k 0) (lt_of_le-ne parent_low n) ∙ omega (arith, same, name_from (get_or ps k 0) parent_low, name_from k (omega arith))
 
-pub flat-end : {cs ps : List ℕ} {k n : ℕ} → Flat cs ps k → n ≤ k → length cs ≡ suc n → Names cs ps
-flat-end F a e = record { long = F.parented.long; low = F.parented.low; high = F.parented.high; at = λ x b l. F.flat x b (omega arith) }
+  pub flat_more : (v : ℕ) → v ≡ get_or cs (suc k) 0 → Flat cs was (set ps k v) (k + 1)
+  flat_more v e =
+      record {
+        flat = λ c h. ⊎_elim
+            (λ q. ap (λ i. get_or (set ps k v) i 0) q ∙ get_or-set_same ps k v 0 (omega (arith, F.same_long, P.classes.long, l)) ∙ e ∙ ap (λ i. get_or cs (suc i) 0) (sym q))
+            (λ n. get_or-set_other ps k c v 0 n ∙ F.flat c (lt_of_le-ne (omega arith) n)) (same_or c k);
+        rest = λ c h. get_or-set_other ps k c v 0 (λ q. omega arith) ∙ F.rest c (omega arith);
+        same_long = length-set ps k v ∙ F.same_long;
+      }
+
+pub flat-end : {cs was ps : List ℕ} {k n : ℕ} → Parented cs was → Flat cs was ps k → n ≤ k → length cs ≡ suc n → Names cs ps
+flat-end {cs} {was} {ps} {k} {n} P F a e =
+    record {
+      long = omega (arith, F.same_long, P.classes.long);
+      low = λ x b l. subst (λ v. 1 ≤ v) (sym (at x b l)) (P.named x b l);
+      high = λ x b l. subst (λ v. v ≤ x) (sym (at x b l)) (under x b l);
+      at = at;
+    }
+  where
+    back : (x : ℕ) → 1 ≤ x → suc (x - 1) ≡ x
+    back x b = omega arith
+
+    at : (x : ℕ) → 1 ≤ x → x < length cs → get_or ps (x - 1) 0 ≡ get_or cs x 0
+    at x b l = F.flat (x - 1) (omega (arith, a, e, b, l)) ∙ ap (λ i. get_or cs i 0) (back x b)
+
+    under : (x : ℕ) → 1 ≤ x → x < length cs → get_or cs x 0 ≤ x
+    under x b l =
+        let low : get_or cs (suc (x - 1)) 0 - 1 ≤ x - 1 = name-low P.classes (x - 1) (omega (arith, b, l)) in
+        omega (arith, low, ap (λ i. get_or cs i 0) (back x b), P.named x b l)
 
 -- ---- row by row
 

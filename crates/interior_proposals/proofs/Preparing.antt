@@ -16,42 +16,42 @@ use Rattle.laws.specs.ListLaws.Lists.{All, length_run}
 use Rattle.laws.specs.RegionLaws.Merging.{run_at, merge_all-length}
 use Rattle.laws.specs.ListLaws.Beyond.{Beyond}
 use Rattle.context.specs.Shown.{ShownAnchored, ShownIncidents, ShownPairs, pair_at, pairs_between}
-use Rattle.interior_proposals.specs.Forest.{Parented, Rows, Merged}
+use Rattle.parents.specs.Forest.{Forest}
+use Rattle.interior_proposals.specs.Forest.{class_of, Parented, Rows, Merged}
 use Rattle.interior_proposals.specs.Given.{flags_of, alone, links_of, Prepared}
 use Rattle.interior_proposals.proofs.RowScans.{between_at}
 use Rattle.interior_proposals.proofs.Stored.{Stored}
-use Rattle.interior_proposals.proofs.Forests.{merged-start, merged-then}
+use Rattle.interior_proposals.proofs.Forests.{renamed, merged-start, merged-then}
 
 -- the mark to be stored at k
 abbrev pub flags_at : List ℕ → List ℕ → ℕ → ℕ
 flags_at marks counts k = flags_of (eqb (get_or marks k 0 % 2) 1) (eqb (get_or counts k 0) 1) false
 
-abbrev pub field_own : ℕ → ℕ
-field_own k = k + 1
-
 pub size-alone : (C : Context) → length (alone C) ≡ suc C.regions
 size-alone C = length_run 0 (suc C.regions)
 
-module _ (C : Context) {marks₀ counts₀ marks counts : List ℕ} {k : ℕ} (m : Stored (flags_at marks₀ counts₀) marks₀ marks k) (p : Stored field_own counts₀ counts k) where
-  pub prepared : C.regions ≤ k → C.regions ≤ length marks → C.regions ≤ length counts → ShownAnchored C marks₀ → ShownIncidents C counts₀ → Prepared C marks counts
-  prepared l a b A I =
+module _ (C : Context) where
+  named-alone : (x : ℕ) → x < length (alone C) → get_or (alone C) x 0 ≡ x
+  named-alone x l = run_at (suc C.regions) x (subst (λ n. x < n) (size-alone C) l)
+
+  -- each number is a class of its own
+  pub parented-alone : {parents : List ℕ} → Forest C.regions (λ c. c) parents → Parented (alone C) parents
+  parented-alone {parents} F =
       record {
-        marked = record { long = a; at = λ x h u. m.done (x - 1) (omega arith) ∙ ap₂ (λ s t. flags_of s t false) (sym (A.at x h u)) (sym (ap (λ n. eqb n 1) (I.at x h u))) };
-        parented =
-            record {
-              long = subst (λ n. n ≤ suc (length counts)) (sym (size-alone C)) (omega arith);
-              low = λ x h u. omega (arith, own x h u);
-              high = λ x h u. omega (arith, own x h u);
-              same = λ x h u. ap (λ y. get_or (alone C) y 0) (own x h u);
-              own = λ x h u e. run_at (suc C.regions) x (subst (λ n. x < n) (size-alone C) u);
-            };
+        named = λ x a l. omega (arith, named-alone x l);
+        classes = subst (λ n. Forest n (class_of (alone C)) parents) same (renamed {f = λ c. c} (λ c l. omega (arith, named-alone (suc c) (omega (arith, l, size-alone C)))) F);
       }
     where
-      own : (x : ℕ) → 1 ≤ x → x < length (alone C) → get_or counts (x - 1) 0 ≡ x
-      own x h u = p.done (x - 1) (omega (arith, size-alone C)) ∙ back
-        where
-          back : x - 1 + 1 ≡ x
-          back = omega arith
+      same : C.regions ≡ length (alone C) - 1
+      same = omega (arith, size-alone C)
+
+  pub prepared : {marks₀ counts₀ marks counts : List ℕ} {k : ℕ} → Stored (flags_at marks₀ counts₀) marks₀ marks k → Forest C.regions (λ c. c) counts → C.regions ≤ k → C.regions ≤ length marks
+      → ShownAnchored C marks₀ → ShownIncidents C counts₀ → Prepared C marks counts
+  prepared m F l a A I =
+      record {
+        marked = record { long = a; at = λ x h u. m.done (x - 1) (omega arith) ∙ ap₂ (λ s t. flags_of s t false) (sym (A.at x h u)) (sym (ap (λ n. eqb n 1) (I.at x h u))) };
+        parented = parented-alone F;
+      }
 
 -- ---- rows
 

@@ -1,30 +1,19 @@
--- A list of parents that stands for a list of names: what is said of region r stands at r - 1 in the former, and at r in the latter. Definitions only; assumes nothing.
+-- A list of parents, as crate `parents` has them, that stands for a list of names: what is said of region r stands at r - 1 in the former, and at r in the latter. Definitions only; assumes nothing.
 use Rattle.std.specs.Prelude.{ℕ, suc, ◌-◌, ◌≤◌, ◌<◌, ◌≡◌, List, length, get_or}
 use Rattle.definitions.specs.Grid.{Pair}
 use Rattle.definitions.specs.Partition.{merge_all}
 use Rattle.laws.specs.ListLaws.Beyond.{Beyond}
 use Rattle.context.specs.Shown.{pair_at}
+use Rattle.parents.specs.Forest as parents
 
--- a parent is no larger than its region and has its name, and a region that is its own parent is its own name
+-- the class of number c, where region c + 1 has its name from cs: one less than the name
+abbrev pub class_of : List ℕ → ℕ → ℕ
+class_of cs c = get_or cs (suc c) 0 - 1
+
+-- cs names regions, and the list has parents of their classes
 pub record Parented (cs ps : List ℕ) : Type 0 where
-  pub long : length cs ≤ suc (length ps)
-  pub low : (x : ℕ) → 1 ≤ x → x < length cs → 1 ≤ get_or ps (x - 1) 0
-  pub high : (x : ℕ) → 1 ≤ x → x < length cs → get_or ps (x - 1) 0 ≤ x
-  pub same : (x : ℕ) → 1 ≤ x → x < length cs → get_or cs (get_or ps (x - 1) 0) 0 ≡ get_or cs x 0
-  pub own : (x : ℕ) → 1 ≤ x → x < length cs → get_or ps (x - 1) 0 ≡ x → get_or cs x 0 ≡ x
-
--- the parents are those of some names, among which is that of r
-abbrev pub Rooted : List ℕ → ℕ → Type 0
-Rooted ps r = (cs : List ℕ) × (Parented cs ps × ((1 ≤ r) × (r < length cs)))
-
--- x is the name of r, and the parents, once `was`, have the same names
-pub record Found (cs was : List ℕ) (r : ℕ) (ps : List ℕ) (x : ℕ) : Type 0 where
-  pub parented : Parented cs ps
-  pub name : x ≡ get_or cs r 0
-  pub own : get_or cs x 0 ≡ x
-  pub from : 1 ≤ x
-  pub upto : x ≤ r
-  pub beyond : Beyond (length cs - 1) was ps
+  pub named : (x : ℕ) → 1 ≤ x → x < length cs → 1 ≤ get_or cs x 0
+  pub classes : parents.Forest (length cs - 1) (class_of cs) ps
 
 -- both regions of a pair have names, of a list of n names
 pub record Placed (n : ℕ) (p : Pair) : Type 0 where
@@ -32,10 +21,6 @@ pub record Placed (n : ℕ) (p : Pair) : Type 0 where
   pub low_upto : p.lo < n
   pub high_from : 1 ≤ p.hi
   pub high_upto : p.hi < n
-
--- the parents are those of some names, among which are those of p
-abbrev pub Joinable : List ℕ → Pair → Type 0
-Joinable ps p = (cs : List ℕ) × (Parented cs ps × Placed (length cs) p)
 
 -- the pairs of the rows from `first` on, before `end`, have names, of a list of n names
 abbrev pub Rows : ℕ → List ℕ → ℕ → ℕ → Type 0

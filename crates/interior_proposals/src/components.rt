@@ -1,20 +1,20 @@
-// The components of regions that ordinary full cuts join: a forest of parents in a lent list, in which every parent is no larger than its region.
+// The components of regions that ordinary full cuts join, as classes of crate `parents` in a lent list, where region r is number r - 1; then the name of each region.
 ghost use Rattle.std.specs.Prelude.{◌≡◌, List, [], ◌∷◌, ℕ, suc, ◌+◌, ◌-◌, ◌*◌, ◌%◌, ◌≤◌, ◌<◌, eqb, length, get_or, set, false};
 ghost use Rattle.definitions.specs.Limits.{max_side, numbers_per_pair, numbers_per_boundary, tallies_per_span};
 ghost use Rattle.definitions.specs.Context.{Context};
 ghost use Rattle.definitions.specs.RampInteriors.{is_ordinary, links};
 ghost use Rattle.context.specs.Shown.{ShownBoundaries, ShownTallies, ShownAnchored, ShownIncidents, pairs_between};
-ghost use Rattle.context.specs.Rows.{pair_form};
 ghost use Rattle.laws.specs.ListLaws.Beyond.{Beyond};
-ghost use Rattle.interior_proposals.specs.Forest.{Parented, Rooted, Found, Joinable, Placed, Merged, Rows, RowsJoinable, Forest, Names};
+ghost use Rattle.interior_proposals.specs.Forest.{Parented, Merged, Rows, RowsJoinable, Forest, Names};
 ghost use Rattle.interior_proposals.specs.Given.{Given, Lent, SomeLent, flags_of, alone, links_of, CutJoinable, CutsJoinable, Prepared, Known};
 
 use context::PartitionContext;
 use context::pairs::{Pair, row_at};
 use geometry::boundaries::has_ramp;
+use parents::{alone, join};
 use std::ops::Range;
 
-// The parent of region r.
+// The name of region r.
 pub fn parent_of(parents: &[u32], r: u32) -> u32
     requires { (1 ≤ r) × (r ≤ length parents.now) }
     ensures { result ≡ get_or parents.now (r - 1) 0 }
@@ -29,36 +29,6 @@ pub fn set_parent(parents: &mut [u32], r: u32, p: u32)
     parents[r as usize - 1] = p;
 }
 
-// The root of region r. Each region passed gets its parent's parent as its parent, so that later ways are shorter.
-fn root_of(parents: &mut [u32], r: u32) -> u32
-    requires { Rooted parents.old r }
-    ensures { (cs : List ℕ) → Parented cs parents.old → r < length cs → Found cs parents.old r parents.new result }
-{
-    let mut x = r;
-    let mut p = parent_of(parents, x);
-    // Kept: the way goes from a region to its parent, and no range or chain has these numbers.
-    while p != x {
-        let above = parent_of(parents, p);
-        set_parent(parents, x, above);
-        x = above;
-        p = parent_of(parents, x);
-    }
-    x
-}
-
-// Joins the regions of a pair: the larger root gets the smaller for its parent.
-fn join(parents: &mut [u32], pair: Pair)
-    requires { Joinable parents.old (pair_form pair) }
-    ensures { (cs : List ℕ) →
-        Parented cs parents.old →
-        Placed (length cs) (pair_form pair) →
-        Merged cs parents.old (pair_form pair ∷ []) parents.new }
-{
-    let a = root_of(parents, pair.lo);
-    let b = root_of(parents, pair.hi);
-    set_parent(parents, a.max(b), a.min(b));
-}
-
 // Joins the regions of each pair of the rows.
 fn join_pairs(parents: &mut [u32], pairs: &[u32], rows: Range<usize>)
     requires sizes { (rows.start ≤ rows.end) × (numbers_per_pair * rows.end ≤ length pairs.now) }
@@ -69,7 +39,8 @@ fn join_pairs(parents: &mut [u32], pairs: &[u32], rows: Range<usize>)
         Merged cs parents.old (pairs_between pairs.now rows.start rows.end) parents.new }
 {
     for k in rows.start..rows.end {
-        join(parents, row_at(pairs, k));
+        let Pair { lo, hi } = row_at(pairs, k);
+        join(parents, lo as usize - 1, hi as usize - 1);
     }
 }
 
@@ -115,20 +86,22 @@ fn join_cuts(parents: &mut [u32], context: PartitionContext)
     }
 }
 
-// Each region's parent becomes its name, in ascending order: the name of a parent stands there already.
+// In place of its parent each region gets its name, in ascending order: the name of a parent stands there already, and who is his own parent is his own name.
 fn flatten(parents: &mut [u32], regions: usize)
     requires { Forest parents.old regions }
     ensures named { (cs : List ℕ) → Parented cs parents.old → length cs ≡ suc regions → Names cs parents.new }
     ensures beyond { Beyond regions parents.old parents.new }
 {
+    // Kept: each turn reads the list at a lower place too, which an iterator over its entries would not let it.
     for k in 0..regions {
-        let p = parents[k];
-        let q = parent_of(parents, p);
-        parents[k] = q;
+        let p = parents[k] as usize;
+        let name = if p == k { k as u32 + 1 } else { parents[p] };
+        parents[k] = name;
     }
 }
 
 // The mark of a region that has `count` incidents: bit 0 says whether it is anchored, bit 1 whether it has exactly one incident.
+// Kept: the marks are numbers in a list that C lends, with one for each region and no other room, so that what is known of a region is bits of its number.
 fn flags(mark: u16, count: u32) -> u16
     ensures { result ≡ flags_of (eqb (mark % 2) 1) (eqb count 1) false }
 {
@@ -136,7 +109,7 @@ fn flags(mark: u16, count: u32) -> u16
     if count == 1 { anchored + 2 } else { anchored }
 }
 
-// Moves what is needed of the counts of incidents into the marks, and makes each region its own parent in their place.
+// Moves what is needed of the counts of incidents into the marks, and makes each region a class of its own in their place.
 fn prepare(marks: &mut [u16], counts: &mut [u32], regions: usize)
     requires { (regions ≤ length marks.old) × (regions ≤ length counts.old) × (regions ≤ max_side * max_side) }
     ensures prepared { (C : Context) →
@@ -146,11 +119,10 @@ fn prepare(marks: &mut [u16], counts: &mut [u32], regions: usize)
         Prepared C marks.new counts.new }
     ensures beyond { Beyond regions marks.old marks.new × Beyond regions counts.old counts.new }
 {
-    for k in 0..regions {
-        let mark = flags(marks[k], counts[k]);
-        marks[k] = mark;
-        counts[k] = k as u32 + 1;
+    for (k, &count) in counts[..regions].iter().enumerate() {
+        marks[k] = flags(marks[k], count);
     }
+    alone(counts, regions);
 }
 
 // Names the component of each region by its least region, in place of the counts of incidents.

@@ -14,6 +14,7 @@ use context::pairs::{Pair, row_at};
 use std::ops::Range;
 
 // Whether region x is marked as an exterior.
+// Kept: bit 2 of the mark, beside those that `flags` of components.rt sets, since the list of marks is C's and has no other room.
 fn is_exterior(marks: &[u16], x: u32) -> bool
     requires { (1 ≤ x) × (x ≤ length marks.now) }
     ensures { result ≡ leb 4 (entry_at marks.now x) }

@@ -14,13 +14,13 @@ use Rattle.context.specs.declared.Region.{Region}
 use Rattle.context.specs.Records.{record_of, Counted}
 use Rattle.junction_proposals.specs.declared.proposals.Candidate.{Candidate}
 use Rattle.junction_proposals.specs.Unions.{mark_at}
-use Rattle.junction_proposals.specs.Rows.{row_at, is_allowed, bridge_region}
+use Rattle.junction_proposals.specs.Rows.{form, is_allowed, bridge_region}
 use Rattle.junction_regions.specs.Tests.{is_local, union_of, bridge_of}
 use Rattle.junction_regions.specs.Asked.{OnMap, Asked}
 
-module _ {C : Context} {boundaries marks : List ℕ} {rows : List Candidate} {k : ℕ} {first second : Region} (h : Asked C boundaries marks rows k first second) where
+module _ {C : Context} {boundaries marks : List ℕ} {given : Candidate} {first second : Region} (h : Asked C boundaries marks given first second) where
   abbrev row : Proposal
-  row = row_at rows k
+  row = form given
 
   -- s is what stands in the list as its boundary
   pub ends-are : {s : Segment} → s ≡ segment_at boundaries (numbers_per_boundary * row.index) → s ≡ (C.boundary row.index).endpoints

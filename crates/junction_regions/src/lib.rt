@@ -2,7 +2,7 @@
 
 #![tactic(auto)]
 
-ghost use Rattle.std.specs.Prelude.{◌≡◌, ◌+◌, ◌-◌, ◌*◌, ◌≤◌, ◌<◌, length};
+ghost use Rattle.std.specs.Prelude.{◌≡◌, ◌-◌, ◌≤◌};
 ghost use Rattle.definitions.specs.RegionRecord.{accepts, same_dominance};
 ghost use Rattle.definitions.specs.Context.{Context};
 ghost use Rattle.definitions.specs.Junctions.{within_radius, within_span_radius};
@@ -12,7 +12,7 @@ ghost use Rattle.span_geometry.specs.Shapes.{InLimits};
 ghost use Rattle.elevations.specs.Forms.{share_form};
 ghost use Rattle.geometry.specs.Forms.{point_form, segment_from};
 ghost use Rattle.context.specs.Records.{record_of, Counted};
-ghost use Rattle.junction_proposals.specs.Rows.{row_at, is_allowed};
+ghost use Rattle.junction_proposals.specs.Rows.{form, is_allowed};
 ghost use Rattle.junction_regions.specs.Tests.{near_middle, near_span, accepted_of, is_local, union_of, bridge_of};
 ghost use Rattle.junction_regions.specs.Asked.{OnMap, Asked};
 
@@ -134,40 +134,34 @@ pub fn bridge_region(pocket: Region, a: PixelPosition, b: PixelPosition) -> bool
         & (within_radius(pocket, center(a, b)) & pocket.is_strictly_flat(pocket))
 }
 
-// ---- rows
+// ---- proposals
 
-// Where the records of row k's regions stand.
-pub fn first_place(rows: &[Candidate], k: usize) -> usize
-    requires rows_room { k < length rows.now }
-    requires first_named { 1 ≤ (row_at rows.now k).first }
-    ensures { result ≡ (row_at rows.now k).first - 1 }
+// Where the records of a proposal's regions stand.
+pub fn first_place(row: Candidate) -> usize
+    requires { 1 ≤ row.first }
+    ensures { result ≡ row.first - 1 }
 {
-    rows[k].first as usize - 1
+    row.first as usize - 1
 }
 
-pub fn second_place(rows: &[Candidate], k: usize) -> usize
-    requires rows_room { k < length rows.now }
-    requires second_named { 1 ≤ (row_at rows.now k).second }
-    ensures { result ≡ (row_at rows.now k).second - 1 }
+pub fn second_place(row: Candidate) -> usize
+    requires { 1 ≤ row.second }
+    ensures { result ≡ row.second - 1 }
 {
-    rows[k].second as usize - 1
+    row.second as usize - 1
 }
 
-// Whether the records of its two regions allow the proposal of row k.
+// Whether the records of its two regions allow the proposal.
 pub fn is_allowed(
     boundaries: &[u64],
     marks: &[u16],
-    rows: &[Candidate],
-    k: usize,
+    row: Candidate,
     first: Region,
     second: Region,
 ) -> bool
-    requires { (C : Context) × Asked C boundaries.now marks.now rows.now k first second }
-    ensures { (C : Context) →
-        Asked C boundaries.now marks.now rows.now k first second →
-        result ≡ is_allowed C (row_at rows.now k) }
+    requires { (C : Context) × Asked C boundaries.now marks.now row first second }
+    ensures { (C : Context) → Asked C boundaries.now marks.now row first second → result ≡ is_allowed C (form row) }
 {
-    let row = rows[k];
     let ends = segment_of(boundaries, row.index);
     if !row.kind.is_union() {
         return bridge_region(first, ends.a, ends.b);

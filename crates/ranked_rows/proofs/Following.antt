@@ -123,6 +123,7 @@ module _ (full : List (Option declared.Pair)) (rows : List Candidate) (order : L
             length-drop (length (flat_ranked before)) old,
             listing.room,
             listing.few,
+            listing.ordered,
             rank.rank_in_lem,
           )
 

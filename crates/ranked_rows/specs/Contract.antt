@@ -22,18 +22,18 @@ pub record TwoRows (rows : List Candidate) (count q p : ℕ) : Type 0 where
   pub first_in_lem : (row_at rows q).index < count
   pub second_in_lem : (row_at rows p).index < count
 
--- n rows whose boundaries are among the first `count`, room for their order, and for each in the list
+-- n rows whose boundaries are among the first `count`, an order of some of them, and room for each in the list
 pub record Listing (rows : List Candidate) (order listed : List ℕ) (count n : ℕ) : Type 0 where
   pub few : n ≤ max_proposals
   pub whole : n ≤ length rows
   pub small : count ≤ 256
   pub below : (k : ℕ) → k < n → (row_at rows k).index < count
-  pub ordered : max_proposals ≤ length order
+  pub ordered : length order ≤ n
   pub room : numbers_per_ranked * max_proposals ≤ length listed
 
 -- row p has rank k, and the ranks before it are rows
 pub record RankOf (order : List ℕ) (n k p : ℕ) : Type 0 where
-  pub rank_in_lem : k < n
+  pub rank_in_lem : k < length order
   pub row_in : p < n
   pub rows_in : Rows order k n
 

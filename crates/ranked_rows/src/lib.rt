@@ -95,16 +95,16 @@ fn list_row(found: &FoundRows, order: &[u32], listed: &mut [u32], k: usize, p: u
     put_ranked(found.rows, listed, k, p, by);
 }
 
-// Writes the first m rows that the order names, by rank.
-fn list_in_order(found: &FoundRows, order: &[u32], listed: &mut [u32], m: usize)
+// Writes the rows that the order names, by rank.
+fn list_in_order(found: &FoundRows, order: &[u32], listed: &mut [u32])
     requires listing { Listing found.now.rows.now order.now listed.old found.now.count found.now.n }
-    requires places { (m ≤ found.now.n) × Rows order.now m found.now.n }
+    requires rows { Rows order.now (length order.now) found.now.n }
     ensures { listed.new
-        ≡ overwrite (flat_ranked (listed_from found.now.full.now found.now.count (order_of found.now.rows.now order.now m)))
+        ≡ overwrite (flat_ranked (listed_from found.now.full.now found.now.count (order_of found.now.rows.now order.now (length order.now))))
         listed.old }
 {
-    for k in 0..m {
-        list_row(found, order, listed, k, order[k] as usize);
+    for (k, &p) in order.iter().enumerate() {
+        list_row(found, order, listed, k, p as usize);
     }
 }
 
@@ -119,6 +119,6 @@ pub fn list_ranked(found: &FoundRows, verdicts: &[bool], listed: &mut [u32]) -> 
 {
     let mut order = [0u32; MAX_PROPOSALS];
     let m = rank_proposals(found, verdicts, &mut order);
-    list_in_order(found, &order, listed, m);
+    list_in_order(found, &order[..m], listed);
     m
 }

@@ -13,7 +13,7 @@ use Rattle.laws.specs.NumberLaws.Comparisons.{last_or}
 use Rattle.context.specs.declared.Region.{Region}
 use Rattle.region_pairs.specs.declared.Pair.{Pair}
 use Rattle.junction_proposals.specs.declared.proposals.Candidate.{Candidate}
-use Rattle.junction_proposals.specs.Rows.{max_proposals, row_at, RowFits, is_allowed}
+use Rattle.junction_proposals.specs.Rows.{max_proposals, nothing, row_at, RowFits, is_allowed}
 use Rattle.junction_selection.specs.Taken.{Judged, removed_at}
 use Rattle.junction_selection.proofs.Passing.{pass-removed}
 use Rattle.junction_regions.specs.Asked.{Asked}
@@ -23,11 +23,10 @@ use Rattle.topology.specs.Proposals.{Allows, Allowed, Passes, Proposed, Unmarked
 -- the records of row k's regions were read at i and j
 pub asked : {C : Context} {records : List Region} {boundaries marks : List ℕ} {rows : List Candidate} {n k i j : ℕ} {first second : Region} → Allows C records boundaries marks rows n → k < n
     → i ≡ (row_at rows k).first - 1 → ((d : Region) → first ≡ get_or records i d) → j ≡ (row_at rows k).second - 1 → ((d : Region) → second ≡ get_or records j d)
-    → Asked C boundaries marks rows k first second
+    → Asked C boundaries marks (get_or rows k nothing) first second
 asked {k = k} h l p a q b =
     record {
       told = h.told;
-      whole = omega (arith, h.whole);
       fits = h.fits k l;
       first_is = record_is h.held p (h.fits k l).first_from (h.fits k l).first_to a;
       second_is = record_is h.held q (h.fits k l).second_from (h.fits k l).second_to b;

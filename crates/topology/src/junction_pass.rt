@@ -37,10 +37,10 @@ pub fn allow_proposals(
         Allows C records.now boundaries.now marks.now rows.now n →
         Allowed C rows.now n allowed.new }
 {
-    for k in 0..n {
-        let first = record_at(records, first_place(rows, k));
-        let second = record_at(records, second_place(rows, k));
-        let fits = is_allowed(boundaries, marks, rows, k, first, second);
+    for (k, &row) in rows[..n].iter().enumerate() {
+        let first = record_at(records, first_place(row));
+        let second = record_at(records, second_place(row));
+        let fits = is_allowed(boundaries, marks, row, first, second);
         put_allowed(allowed, k, fits);
     }
 }

@@ -97,12 +97,9 @@ fn best_near(
         NearBest C chosen entries.now n result }
     ensures left { is_stale context.entry.pairs.now context.entry.starts.now taken.now.marks.now taken.now.removed taken.now.ramp_ends result ≡ false }
 {
-    let mut best = None;
-    // Kept: no `fold`, as in `least_best` of mouth_selection: its step would be asked to be callable with any best so far.
-    for k in 0..n {
-        best = better_near(records, context, taken, best, entries[k]);
-    }
-    best
+    (0..n).fold(None, |best, k| {
+        better_near(records, context, taken, best, entries[k])
+    })
 }
 
 // The best of ramp a: the least of its proposals that conflict with none taken.

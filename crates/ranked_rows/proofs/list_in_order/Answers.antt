@@ -1,6 +1,7 @@
 -- `ranked_rows::list_in_order` meets its contract. The loop's invariant: the rows of the first k ranks are written (`ListedTo`). Assumes nothing.
 use native.Mathlib.Nat.{le_antisymm}
 use native.Mathlib.Omega.{arith}
+use lib.ListN.{length}
 use mathlib.Core.Path.{refl, ap, ◌∙◌}
 use Rattle.definitions.specs.Lists.{overwrite}
 use Rattle.junction_selection.specs.Ranks.{order_of}
@@ -12,20 +13,16 @@ use Rattle.ranked_rows.proofs.list_in_order.Goals as goal
 pub loop-k-init : goal.loop-k-init
 loop-k-init c =
     let a = c.args in
-    listed_none a.found.now.full.now a.found.now.rows.now a.order.now a.found.now.count a.m a.listed.now
-
-pub bounds-order-k : goal.bounds-order-k
-bounds-order-k c =
-    omega (arith, c.loop-k-test.true, c.requires.listing.few, c.requires.listing.ordered, c.requires.places.0)
+    listed_none a.found.now.full.now a.found.now.rows.now a.order.now a.found.now.count (length a.order.now) a.listed.now
 
 pub list_row-requires : goal.list_row-requires
 list_row-requires c =
     let asked : Listing c.args.found.now.rows.now c.args.order.now c.loop-k.listed c.args.found.now.count c.args.found.now.n = listing_of c.loop-k.listed c.requires.listing c.loop-k.invariant.long in
-    let rows_in = c.requires.places.1 in
+    let rows_in = c.requires.rows in
     let k = c.loop-k.k in record {
       listing = asked;
       rank = record {
-        rank_in_lem = omega (arith, c.loop-k-test.true, c.requires.places.0);
+        rank_in_lem = c.loop-k-test.true;
         row_in = rows_in k c.loop-k-test.true;
         rows_in = λ j h. rows_in j (omega (arith, c.loop-k-test.true));
       };

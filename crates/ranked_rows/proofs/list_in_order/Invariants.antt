@@ -1,7 +1,8 @@
 -- `ranked_rows::list_in_order` meets its contract. The loop's invariant: the rows of the first k ranks are written (`ListedTo`). Assumes nothing.
+use lib.ListN.{length}
 use Rattle.ranked_rows.proofs.Following.{ListedTo}
 use Rattle.ranked_rows.proofs.list_in_order.Given as goal
 
 abbrev pub invariant-loop-k : goal.invariant-loop-k
 invariant-loop-k l =
-    ListedTo l.found.full.now l.found.rows.now l.order l.found.count l.m l.initial.listed l.listed l.k
+    ListedTo l.found.full.now l.found.rows.now l.order l.found.count (length l.order) l.initial.listed l.listed l.k

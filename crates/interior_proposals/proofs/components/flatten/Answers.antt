@@ -1,26 +1,34 @@
--- `components::flatten` meets its contract. The invariant: the parents of the regions up to k are their names, and the others still lead to theirs. Assumes nothing.
+-- `components::flatten` meets its contract. The invariant: in place of the parents of the regions up to k stand their names, and the others are as they were. Assumes nothing.
 use Prim.Native.Nat.{◌+◌, ◌<◌}
 use native.Mathlib.Omega.{arith}
 use lib.ListN.{length}
-use Rattle.laws.specs.ListLaws.Beyond.{beyond-set, beyond-then}
-use Rattle.interior_proposals.proofs.Forests.{Flat, flat-parent, flat_more, flat-end}
+use mathlib.Core.Path.{◌∙◌}
+use Rattle.laws.specs.ListLaws.Beyond.{beyond_same, beyond-set, beyond-then}
+use Rattle.interior_proposals.proofs.Forests.{flat-start, own_name, parents_name, flat_more, flat-end}
 use Rattle.interior_proposals.proofs.components.flatten.Goals as goal
+use Rattle.interior_proposals.proofs.components.flatten.Goals.{then-p-k, else-p-k}
 
-pub parent_of-q-requires : goal.parent_of-q-requires
-parent_of-q-requires c =
-    let within : c.loop-k.k + 1 < length c.requires.0 = omega (arith, c.requires.1.1, c.loop-k-test.true) in
-    let flat : Flat c.requires.0 c.loop-k.parents c.loop-k.k = c.loop-k.invariant.2 c.requires.0 c.requires.1.0 c.requires.1.1 in
-    flat-parent flat within
+pub loop-k-init : goal.loop-k-init
+loop-k-init c = (omega arith, beyond_same _ _, λ cs P e. flat-start cs _)
 
 pub loop-k-preserved : goal.loop-k-preserved
-loop-k-preserved c = (
-  omega (arith, c.loop-k-test.true),
-  beyond-then c.loop-k.invariant.1 (beyond-set _ _ _ _ c.loop-k-test.true),
-  λ cs P e. flat_more (c.loop-k.invariant.2 cs P e) (omega (arith, e, c.loop-k-test.true)) c.parent_of-q.result c.parent_of-q.ensures,
-)
+loop-k-preserved c =
+    let k = c.loop-k.k in
+    let inv = c.loop-k.invariant in (
+      omega (arith, c.loop-k-test.true),
+      beyond-then inv.1 (beyond-set _ _ _ _ c.loop-k-test.true),
+      λ cs P e.
+          let F = inv.2 cs P e in
+          let l : k + 1 < length cs = omega (arith, e, c.loop-k-test.true) in
+          flat_more P F l c.if-p-k.name
+          (elim c.if-p-k.branch [
+            | then-p-k w ↦ w.name-is ∙ own_name P F l w.if-p-k.true
+            | else-p-k w ↦ w.name-is ∙ parents_name P F l w.if-p-k.false
+          ]),
+    )
 
 pub returns : goal.returns
 returns c = record {
-  named = λ cs P e. flat-end (c.loop-k.invariant.2 cs P e) c.loop-k-test.false e;
+  named = λ cs P e. flat-end P (c.loop-k.invariant.2 cs P e) c.loop-k-test.false e;
   beyond = c.loop-k.invariant.1;
 }

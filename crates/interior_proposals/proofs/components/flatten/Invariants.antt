@@ -9,4 +9,4 @@ use Rattle.interior_proposals.proofs.Forests.{Flat}
 use Rattle.interior_proposals.proofs.components.flatten.Given as goal
 
 abbrev pub invariant-loop-k : goal.invariant-loop-k
-invariant-loop-k l = (l.k ≤ l.regions) × Beyond l.regions l.initial.parents l.parents × ((cs : List ℕ) → Parented cs l.initial.parents → length cs ≡ suc l.regions → Flat cs l.parents l.k)
+invariant-loop-k l = (l.k ≤ l.regions) × Beyond l.regions l.initial.parents l.parents × ((cs : List ℕ) → Parented cs l.initial.parents → length cs ≡ suc l.regions → Flat cs l.initial.parents l.parents l.k)

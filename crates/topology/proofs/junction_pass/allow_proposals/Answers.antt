@@ -3,7 +3,7 @@ use Rattle.std.proofs.Common.{◌≡◌, ℕ, ◌+◌, ◌-◌, ◌≤◌, ◌<�
 use Rattle.definitions.specs.Context.{Context}
 use Rattle.context.specs.declared.Region.{Region}
 use Rattle.junction_proposals.specs.declared.proposals.Candidate.{Candidate}
-use Rattle.junction_proposals.specs.Rows.{max_proposals, row_at, is_allowed}
+use Rattle.junction_proposals.specs.Rows.{max_proposals, nothing, row_at, is_allowed}
 use Rattle.junction_regions.specs.Asked.{Asked}
 use Rattle.topology.specs.Held.{place_in}
 use Rattle.topology.specs.Proposals.{Allows, Allowed}
@@ -25,9 +25,6 @@ module _ {records : List Region} {boundaries marks : List ℕ} {rows : List Cand
   done f C h = let a = inv.2 C h in record { long = a.long; at = λ j l. a.at j (omega (arith, l, f)) }
 
   module _ (below : k < n) where
-    in_row : k < length rows
-    in_row = omega (arith, below, pre.1.whole)
-
     first_in_lem : {i : ℕ} → i ≡ (row_at rows k).first - 1 → i < length records
     first_in_lem e = let f = pre.1.fits k below in place_in pre.1.held e f.first_from f.first_to
 
@@ -36,11 +33,11 @@ module _ {records : List Region} {boundaries marks : List ℕ} {rows : List Cand
 
     module _ {i j : ℕ} {first second : Region} (p : i ≡ (row_at rows k).first - 1) (a : (d : Region) → first ≡ get_or records i d)
         (q : j ≡ (row_at rows k).second - 1) (b : (d : Region) → second ≡ get_or records j d) where
-      judged : (C : Context) × Asked C boundaries marks rows k first second
+      judged : (C : Context) × Asked C boundaries marks (get_or rows k nothing) first second
       judged = (_, asked pre.1 below p a q b)
 
       again : {allowed' : List Bool} {r : Bool}
-          → ((C : Context) → Asked C boundaries marks rows k first second → r ≡ is_allowed C (row_at rows k)) → allowed' ≡ set allowed k r
+          → ((C : Context) → Asked C boundaries marks (get_or rows k nothing) first second → r ≡ is_allowed C (row_at rows k)) → allowed' ≡ set allowed k r
           → Inv records boundaries marks rows n allowed' (k + 1)
       again {r = r} e stored = (
         omega (arith, below),
@@ -53,20 +50,14 @@ module _ {records : List Region} {boundaries marks : List ℕ} {rows : List Cand
 pub loop-k-init : goal.loop-k-init
 loop-k-init c = start c.requires.allowed_long
 
-pub first_place-requires-clause-rows_room : goal.first_place-requires-clause-rows_room
-first_place-requires-clause-rows_room c = in_row c.requires.rows_fit c.loop-k.invariant c.loop-k-test.true
-
-pub first_place-requires-clause-first_named : goal.first_place-requires-clause-first_named
-first_place-requires-clause-first_named c = (c.requires.rows_fit.1.fits c.loop-k.k c.loop-k-test.true).first_from
+pub first_place-requires : goal.first_place-requires
+first_place-requires c = (c.requires.rows_fit.1.fits c.loop-k.k c.loop-k-test.true).first_from
 
 pub record_at-first-requires : goal.record_at-first-requires
 record_at-first-requires c = first_in_lem c.requires.rows_fit c.loop-k.invariant c.loop-k-test.true c.first_place.ensures
 
-pub second_place-requires-clause-rows_room : goal.second_place-requires-clause-rows_room
-second_place-requires-clause-rows_room c = in_row c.requires.rows_fit c.loop-k.invariant c.loop-k-test.true
-
-pub second_place-requires-clause-second_named : goal.second_place-requires-clause-second_named
-second_place-requires-clause-second_named c = (c.requires.rows_fit.1.fits c.loop-k.k c.loop-k-test.true).second_from
+pub second_place-requires : goal.second_place-requires
+second_place-requires c = (c.requires.rows_fit.1.fits c.loop-k.k c.loop-k-test.true).second_from
 
 pub record_at-second-requires : goal.record_at-second-requires
 record_at-second-requires c = second_in_lem c.requires.rows_fit c.loop-k.invariant c.loop-k-test.true c.second_place.ensures

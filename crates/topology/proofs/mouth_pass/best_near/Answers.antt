@@ -1,40 +1,86 @@
--- `mouth_pass::best_near` meets its contract. The invariant: of every context that is shown, `best` is the least of the entries before `k` that are left and near, and it is
+-- `mouth_pass::best_near` meets its contract. What the fold keeps: of every context that is shown, `best` is the least of the entries before `k` that are left and near, and it is
 -- not stale. Assumes nothing.
-use mathlib.Core.Path.{refl, sym, ap, ◌∙◌}
-use Rattle.laws.specs.ListLaws.Options.{absent}
-use Rattle.mouth_proposals.specs.Listed.{entry_at}
-use Rattle.mouth_selection.specs.Rounds.{better_near}
-use Rattle.mouth_selection.proofs.NearLeast.{near_none, near_next}
+use native.Mathlib.Omega.{arith}
+use Prim.Native.Nat.{ℕ, ◌+◌, ◌<◌}
+use mathlib.Core.Path.{◌≡◌, refl, sym, ap, ◌∙◌}
+use mathlib.Core.Bool.{Bool, false}
+use mathlib.Core.List.{List}
+use lib.ListN.{get_or}
 use borrow.Author.Rules.{rules}
+use Rattle.std.specs.Prelude.{Option, None}
+use Rattle.definitions.specs.Context.{Context}
+use Rattle.definitions.specs.RampMouths.{MouthProposal}
+use Rattle.laws.specs.ListLaws.Options.{OnO, absent}
+use Rattle.context.specs.declared.PartitionContext.{PartitionContext}
+use Rattle.context.specs.declared.Region.{Region}
+use Rattle.mouth_proposals.specs.Listed.{blank, entry_at}
+use Rattle.mouth_proposals.specs.declared.candidates.Candidate.{Candidate}
+use Rattle.mouth_selection.specs.Entries.{Known}
+use Rattle.mouth_selection.specs.Held.{TakenState}
+use Rattle.mouth_selection.specs.Rounds.{better_near}
+use Rattle.mouth_selection.specs.Selecting.{is_stale}
+use Rattle.mouth_selection.proofs.Folds.{callable_in_fold, kept_by_fold}
+use Rattle.mouth_selection.proofs.NearLeast.{near_none, near_next}
+use Rattle.topology.specs.Mouths.{BetterNear, NearBest, PassEntryAsked, PassNearAsked}
 use Rattle.topology.proofs.mouth_pass.best_near.Goals as goal
 
-pub loop-k-init : goal.loop-k-init
-loop-k-init c = (search rules, (refl, λ C T A S. record { known = absent; least = near_none C T c.args.entries.now }))
+module _ (records : List Region) (given : PartitionContext) (marks : List ℕ) (removed ends : List Bool) (entries : List Candidate) (n : ℕ) where
+  abbrev Kept : ℕ → Option Candidate → Type 0
+  Kept k best =
+      (is_stale given.pairs.now given.starts.now marks removed ends best ≡ false)
+      × ((C : Context) (chosen : List MouthProposal) → PassNearAsked C records given marks entries n → TakenState C chosen removed ends marks → NearBest C chosen entries k best)
 
-pub better_near-best-requires : goal.better_near-best-requires
-better_near-best-requires c =
+  start : Kept 0 None
+  start = (refl, λ C T A S. record { known = absent; least = near_none C T entries })
+
+  -- what a turn gives, of the entry at k
+  abbrev Better : ℕ → Option Candidate → Option Candidate → Type 0
+  Better k best r = (C : Context) (chosen : List MouthProposal) → PassEntryAsked C records given marks (get_or entries k blank) → OnO (Known C) best → TakenState C chosen removed ends marks
+      → BetterNear C chosen best (get_or entries k blank) r
+
+  abbrev Left : Option Candidate → Option Candidate → Type 0
+  Left best r = is_stale given.pairs.now given.starts.now marks removed ends best ≡ false → is_stale given.pairs.now given.starts.now marks removed ends r ≡ false
+
+  more : {k : ℕ} {best r : Option Candidate} → k < n → Kept k best → Better k best r → Left best r → Kept (k + 1) r
+  more {k} below inv better left = (
+    left inv.0,
+    λ C T A S.
+        let W = inv.1 C T A S in
+        let B = better C T (A.entry k below) W.known S in
+        record {
+          known = B.known;
+          least = B.least ∙ ap (λ o. better_near C T o (entry_at C entries k)) W.least ∙ sym (near_next C T entries k);
+        },
+  )
+
+pub fold-requires-clause-callable : goal.fold-requires-clause-callable
+fold-requires-clause-callable c =
+    let s = c.args in
+    let t = s.taken.now in
+    callable_in_fold _ _ (Kept s.records.now s.context t.marks.now t.removed t.ramp_ends s.entries.now s.n) s.n _ None
+    (λ b x q r l u i w.
+    let better : Better s.records.now s.context t.marks.now t.removed t.ramp_ends s.entries.now s.n x b r = search rules in
+    let left : Left s.records.now s.context t.marks.now t.removed t.ramp_ends s.entries.now s.n b r = search rules in
+    let m = more s.records.now s.context t.marks.now t.removed t.ramp_ends s.entries.now s.n u i better left in
+    (search rules, m))
+    refl (omega arith) (start s.records.now s.context t.marks.now t.removed t.ramp_ends s.entries.now s.n)
+    (λ b x l u i.
     let C = c.requires.0 in
-    let A = c.requires.1.1.0 in (
-      C,
-      (
-        A.entry c.loop-k.k c.loop-k-test.true,
-        (c.loop-k.invariant.1.1 C c.requires.1.0 A c.requires.1.1.1).known,
-      ),
-    )
+    let A = c.requires.1.1.0 in
+    let pre : (C : Context) × (PassEntryAsked C s.records.now s.context t.marks.now (get_or s.entries.now x blank) × OnO (Known C) b) = (C, (A.entry x u, (i.1 C c.requires.1.0 A c.requires.1.1.1).known)) in
+    let few : x < 256 = omega (arith, u, A.few) in
+    search rules)
 
-pub loop-k-preserved : goal.loop-k-preserved
-loop-k-preserved c =
-    let inv = c.loop-k.invariant in
-    let k = c.loop-k.k in (
-      search rules,
-      (
-        c.better_near-best.ensures.left inv.1.0,
-        λ C T A S.
-            let W = inv.1.1 C T A S in
-            let B = c.better_near-best.ensures.better C T (A.entry k c.loop-k-test.true) W.known S in
-            record {
-              known = B.known;
-              least = B.least ∙ ap (λ o. better_near C T o (entry_at C c.args.entries.now k)) W.least ∙ sym (near_next C T c.args.entries.now k);
-            },
-      ),
-    )
+pub returns : goal.returns
+returns c =
+    let s = c.args in
+    let t = s.taken.now in
+    let end = kept_by_fold _ _ (Kept s.records.now s.context t.marks.now t.removed t.ramp_ends s.entries.now s.n) s.n _ None
+        (λ b x q r l u i w.
+        let better : Better s.records.now s.context t.marks.now t.removed t.ramp_ends s.entries.now s.n x b r = search rules in
+        let left : Left s.records.now s.context t.marks.now t.removed t.ramp_ends s.entries.now s.n b r = search rules in
+        let m = more s.records.now s.context t.marks.now t.removed t.ramp_ends s.entries.now s.n u i better left in
+        (search rules, m))
+        refl (omega arith) (start s.records.now s.context t.marks.now t.removed t.ramp_ends s.entries.now s.n) _ c.fold.ensures.ran
+    in
+    record { least = end.1; left = end.0 }
