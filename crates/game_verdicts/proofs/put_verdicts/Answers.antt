@@ -12,20 +12,10 @@ overflow_mul-count-2 c = record { fits = omega (arith, square-few _ c.requires.s
 pub loop-c-init : goal.loop-c-init
 loop-c-init c = putting-starts _ _ _ _ _
 
-pub nonzero_div-c-in-loop-c : goal.nonzero_div-c-in-loop-c
-nonzero_div-c-in-loop-c c = omega (arith, c.requires.sized.inside)
-
-pub nonzero_rem-c : goal.nonzero_rem-c
-nonzero_rem-c c = omega (arith, c.requires.sized.inside)
-
 pub verdict_at-v-requires : goal.verdict_at-v-requires
 verdict_at-v-requires c =
     let parts = place-parts _ _ c.loop-c-test.true in
     record { few = c.requires.sized.few; runner = parts.0; guard = parts.1 }
-
-pub overflow_mul-c : goal.overflow_mul-c
-overflow_mul-c c =
-    record { fits = omega (arith, c.loop-c-test.true, places-few _ c.requires.sized.few) }
 
 pub put_verdict-requires : goal.put_verdict-requires
 put_verdict-requires c =
@@ -35,9 +25,6 @@ put_verdict-requires c =
 pub loop-c-preserved : goal.loop-c-preserved
 loop-c-preserved c =
     putting_more _ _ _ _ _ _ _ _ _ c.loop-c.invariant c.loop-c-test.true c.verdict_at-v.ensures c.put_verdict.ensures c.put_verdict.auto.verdicts
-
-pub shape_of-verdicts : goal.shape_of-verdicts
-shape_of-verdicts c = c.loop-c.invariant.long
 
 pub returns : goal.returns
 returns c = putting-ends _ _ _ _ _ _ _ c.loop-c.invariant c.loop-c-test.false

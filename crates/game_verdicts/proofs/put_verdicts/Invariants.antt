@@ -3,4 +3,4 @@ use Rattle.game_verdicts.proofs.Reading.{Putting}
 use Rattle.game_verdicts.proofs.put_verdicts.Given as goal
 
 abbrev pub invariant-loop-c : goal.invariant-loop-c
-invariant-loop-c l = Putting l.near l.regions l.goal l.ranks l.initial.verdicts l.c l.verdicts
+invariant-loop-c l = Putting l.board.near l.board.regions l.board.goal l.ranks l.initial.verdicts l.c l.verdicts

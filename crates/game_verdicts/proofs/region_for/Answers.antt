@@ -9,11 +9,11 @@ use Rattle.game_verdicts.proofs.region_for.Goals as goal
 pub returns : goal.returns
 returns c =
     let a = c.args in
-    let No : ℕ → Type 0 = λ d. Served a.near.now a.ranks.now a.r a.g a.runners_turn (d - 1) false in
-    let Yes : ℕ → Type 0 = λ d. Served a.near.now a.ranks.now a.r a.g a.runners_turn (d - 1) true in
-    let found : MatchOption c.find.result ((k : ℕ) → 1 ≤ k → k < a.regions → No k) (λ i. (1 ≤ i) × (i < a.regions) × Yes i × ((k : ℕ) → 1 ≤ k → k < i → No k)) =
+    let No : ℕ → Type 0 = λ d. Served a.board.now.near a.ranks.now a.r a.g a.runners_turn (d - 1) false in
+    let Yes : ℕ → Type 0 = λ d. Served a.board.now.near a.ranks.now a.r a.g a.runners_turn (d - 1) true in
+    let found : MatchOption c.find.result ((k : ℕ) → 1 ≤ k → k < a.board.now.regions → No k) (λ i. (1 ≤ i) × (i < a.board.now.regions) × Yes i × ((k : ℕ) → 1 ≤ k → k < i → No k)) =
     first_from_Range _ _ _ c.find.result Yes No c.find.ensures.ran (λ x q k. search (rules, tests)) (λ x q k. (search (rules, tests), search (rules, tests))) in
     record {
-      answer = λ G goal P. rw c.unwrap_or.ensures (least_found a.near.now a.ranks.now a.regions a.r a.g a.runners_turn (omega (arith, c.requires.runner)) G goal P c.find.result found);
-      bound = rw c.unwrap_or.ensures (found-few a.near.now a.ranks.now a.regions a.r a.g a.runners_turn c.find.result c.requires.few found);
+      answer = λ G goal P. rw c.unwrap_or.ensures (least_found a.board.now.near a.ranks.now a.board.now.regions a.r a.g a.runners_turn (omega (arith, c.requires.runner)) G goal P c.find.result found);
+      bound = rw c.unwrap_or.ensures (found-few a.board.now.near a.ranks.now a.board.now.regions a.r a.g a.runners_turn c.find.result c.requires.few found);
     }

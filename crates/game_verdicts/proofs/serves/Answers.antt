@@ -10,9 +10,6 @@ use Rattle.game_search.specs.Words.{rank_place, rank_at, at}
 use Rattle.game_verdicts.proofs.Reading.{runner-served, guard-served}
 use Rattle.game_verdicts.proofs.serves.Goals as goal
 
-pub has-requires : goal.has-requires
-has-requires c = c.requires.2
-
 pub returns-then-not-has : goal.returns-then-not-has
 returns-then-not-has c =
     let a = c.args in
@@ -22,23 +19,9 @@ returns-then-not-has c =
     record {
       is = λ G regions goal P.
           sym (ap (λ b. (b && ltb 0 there) && ltb there here) (sym c.has.ensures ∙ not-true _ c.if-not-has.true-raw))
-          ∙ runner-served a.near.now regions goal G P ranks a.r a.g a.d c.requires.0 c.requires.2
+          ∙ runner-served a.board.now.near regions goal G P ranks a.r a.g a.d c.requires.0 c.requires.2
           ∙ ap (λ t. serves_by G (rank_at ranks) (at a.r a.g t) (suc a.d)) (sym c.if-runners_turn.true);
     }
-
-pub rank_place-requires : goal.rank_place-requires
-rank_place-requires c =
-    (c.requires.2, c.requires.1)
-
-pub bounds-ranks-rank_place : goal.bounds-ranks-rank_place
-bounds-ranks-rank_place c = c.rank_place.ensures.1
-
-pub rank_place-requires-then-runners_turn : goal.rank_place-requires-then-runners_turn
-rank_place-requires-then-runners_turn c =
-    (c.requires.0, c.requires.1)
-
-pub bounds-ranks-rank_place-then-runners_turn : goal.bounds-ranks-rank_place-then-runners_turn
-bounds-ranks-rank_place-then-runners_turn c = c.rank_place-then-runners_turn.ensures.1
 
 pub returns-then-runners_turn : goal.returns-then-runners_turn
 returns-then-runners_turn c =
@@ -50,12 +33,9 @@ returns-then-runners_turn c =
       is = λ G regions goal P.
           (λ i. ltb 0 (get_or ranks (c.rank_place.ensures.0 i) 0) && ltb (get_or ranks (c.rank_place.ensures.0 i) 0) (get_or ranks (c.rank_place-then-runners_turn.ensures.0 i) 0))
           ∙ sym (ap (λ b. (b && ltb 0 there) && ltb there here) (sym c.has.ensures ∙ not-false _ c.if-not-has.false-raw))
-          ∙ runner-served a.near.now regions goal G P ranks a.r a.g a.d c.requires.0 c.requires.2
+          ∙ runner-served a.board.now.near regions goal G P ranks a.r a.g a.d c.requires.0 c.requires.2
           ∙ ap (λ t. serves_by G (rank_at ranks) (at a.r a.g t) (suc a.d)) (sym c.if-runners_turn.true);
     }
-
-pub has-requires-2 : goal.has-requires-2
-has-requires-2 c = c.requires.2
 
 pub returns-then-not-has-2 : goal.returns-then-not-has-2
 returns-then-not-has-2 c =
@@ -64,16 +44,9 @@ returns-then-not-has-2 c =
     record {
       is = λ G regions goal P.
           sym (ap (λ b. b && eqb (get_or ranks (rank_place a.r a.d true) 0) 0) (sym c.has-2.ensures ∙ not-true _ c.if-not-has-2.true-raw))
-          ∙ guard-served a.near.now regions goal G P ranks a.r a.g a.d c.requires.1 c.requires.2
+          ∙ guard-served a.board.now.near regions goal G P ranks a.r a.g a.d c.requires.1 c.requires.2
           ∙ ap (λ t. serves_by G (rank_at ranks) (at a.r a.g t) (suc a.d)) (sym c.if-runners_turn.false);
     }
-
-pub rank_place-requires-2 : goal.rank_place-requires-2
-rank_place-requires-2 c =
-    (c.requires.0, c.requires.2)
-
-pub bounds-ranks-rank_place-2 : goal.bounds-ranks-rank_place-2
-bounds-ranks-rank_place-2 c = c.rank_place-2.ensures.1
 
 pub returns : goal.returns
 returns c =
@@ -83,6 +56,6 @@ returns c =
       is = λ G regions goal P.
           ap (λ n. eqb (get_or ranks n 0) 0) c.rank_place-2.ensures.0
           ∙ sym (ap (λ b. b && eqb (get_or ranks (rank_place a.r a.d true) 0) 0) (sym c.has-2.ensures ∙ not-false _ c.if-not-has-2.false-raw))
-          ∙ guard-served a.near.now regions goal G P ranks a.r a.g a.d c.requires.1 c.requires.2
+          ∙ guard-served a.board.now.near regions goal G P ranks a.r a.g a.d c.requires.1 c.requires.2
           ∙ ap (λ t. serves_by G (rank_at ranks) (at a.r a.g t) (suc a.d)) (sym c.if-runners_turn.false);
     }
