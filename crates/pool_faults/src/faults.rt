@@ -53,6 +53,7 @@ fn passing_terms(terms: &[u64], count: usize) -> usize
     ensures { (result ≤ count) × Faultless terms.now result }
 {
     let mut ends = [0u64; SLOTS];
+    // Kept: each term passes by the ends of those before it, so that a closure of `find` would change what it asks.
     for i in 0..count {
         if !passes(terms, i, &ends) {
             return i;
@@ -94,7 +95,7 @@ fn faultless_terms(terms: &[u64], count: usize) -> usize
     if sound == passing {
         return passing;
     }
-    apart_terms(terms, sound)
+    apart_terms(&terms[..NUMBERS_PER_TERM * sound])
 }
 
 // Refuses the first term that breaks a rule.
