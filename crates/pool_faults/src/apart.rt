@@ -38,7 +38,7 @@ impl Part {
     fn has(self, map: u64) -> bool
         ensures { result ≡ false → Between self.low self.high map → ⊥ }
     {
-        self.low <= map && map <= self.high
+        (self.low..=self.high).contains(&map)
     }
 
     // Its lower half.
@@ -59,13 +59,11 @@ impl Part {
         ensures { (result.low ≡ self.high + 1) × (result.low ≤ result.high) × (result.high ≤ 18446744073709551615) }
     {
         let low = self.high + 1;
-        let before = self.high - self.low;
-        let high = if (LAST_MAP - low) / 2 <= before {
-            LAST_MAP
-        } else {
-            low + 2 * before + 1
-        };
-        Part { low, high }
+        let twice = (low - self.low).saturating_mul(2);
+        Part {
+            low,
+            high: low.saturating_add(twice - 1),
+        }
     }
 }
 
