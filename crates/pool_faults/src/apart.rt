@@ -152,11 +152,17 @@ fn take_term(
 }
 
 // Takes the terms whose maps are in the part.
-fn take_terms(terms: &[u64], part: Part, maps: &mut [u64], keys: &mut [u64]) -> Result<usize, NoRoom>
+fn take_terms(
+    terms: &[u64],
+    part: Part,
+    maps: &mut [u64],
+    keys: &mut [u64],
+) -> Result<usize, NoRoom>
     requires { (term_count terms.now ≤ 4294967296) × (length maps.old ≡ length keys.old) }
     ensures { Keyed terms.now (term_count terms.now) part.low part.high keys.new result }
 {
     let mut taken = 0;
+    // Kept: what is taken is the term's position, and the chunks of `terms` with `enumerate` would give no more than the range.
     for i in 0..terms.len() / NUMBERS_PER_TERM {
         if taken == keys.len() {
             return Err(NoRoom { at: i });

@@ -68,10 +68,7 @@ fn is_sound(terms: &[u64], i: usize) -> bool
     requires { numbers_per_term * (i + 1) ≤ length terms.now }
     ensures { result ≡ ltb (first_in (days_of (term_at terms.now i))) (end_in (days_of (term_at terms.now i))) }
 {
-    match term_days(terms, i) {
-        None => false,
-        Some(days) => days.from < days.to,
-    }
+    term_days(terms, i).is_some_and(|days| days.from < days.to)
 }
 
 // How many of the first terms are sound, where those below `known` are known to be.
