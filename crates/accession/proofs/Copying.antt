@@ -1,12 +1,13 @@
--- A record copied from the list to the output: four numbers in the place of as many (`record_copied`). Assumes nothing.
+-- A record copied from the list to the output (`record_copied`). Assumes nothing.
 use Prim.Native.Nat.{ℕ, suc, ◌+◌, ◌-◌, ◌*◌, ◌≤◌, ◌<◌}
 use native.Mathlib.Omega.{arith}
-use mathlib.Core.Path.{◌≡◌, sym, ap, ap₂, ◌∙◌}
-use mathlib.Core.List.{List, [], ◌∷◌, ◌++◌, append_assoc}
+use mathlib.Core.Path.{◌≡◌, ap, ◌∙◌}
+use mathlib.Core.List.{List, [], ◌∷◌}
 use lib.ListN.{length, get_or, take, drop}
-use lib.Seq.{sets, sets-eq, drop-cons, drop-drop}
+use lib.Seq.{sets, drop-cons}
 use borrow.Rule.Slice.PartMut.{put_mid}
 use Rattle.catalogue.specs.Accession.{flat_accession, accession_at, accession_count}
+use Rattle.catalogue.proofs.Copying.{put_four}
 
 -- the four numbers from k on
 four_from : (l : List ℕ) (k : ℕ) → k + 4 ≤ length l → take 4 (drop k l) ≡ get_or l k 0 ∷ get_or l (k + 1) 0 ∷ get_or l (k + 2) 0 ∷ get_or l (k + 3) 0 ∷ []
@@ -22,13 +23,6 @@ four_from l k h =
     (drop-cons l (suc (suc k)) 0 (omega arith)
     ∙ ap (λ t. get_or l (suc (suc k)) 0 ∷ t) (drop-cons l (suc (suc (suc k))) 0 (omega arith)))))
     ∙ (λ t. get_or l k 0 ∷ get_or l (one t) 0 ∷ get_or l (two t) 0 ∷ get_or l (three t) 0 ∷ [])
-
-pub put_four : (old : List ℕ) (k v w x y : ℕ) {part : List ℕ} → k + 4 ≤ length old → part ≡ v ∷ w ∷ x ∷ y ∷ []
-    → put_mid k (k + 4 - k) old part ≡ sets old k (v ∷ w ∷ x ∷ y ∷ [])
-put_four old k v w x y h e =
-    let four : List ℕ = v ∷ w ∷ x ∷ y ∷ [] in
-    let behind : drop (k + 4 - k) (drop k old) ≡ drop (k + 4) old = drop-drop _ k old ∙ ap (λ n. drop n old) (omega arith) in
-    ap₂ (λ l r. take k old ++ (l ++ r)) e behind ∙ sym (sets-eq four old k h ∙ append_assoc (take k old) four (drop (k + 4) old))
 
 pub record_copied : (l : List ℕ) (i : ℕ) (old : List ℕ) (k : ℕ) {part : List ℕ} → i < accession_count l → k + 4 ≤ length old
     → part ≡ take (4 * i + 4 - 4 * i) (drop (4 * i) l) → put_mid k (k + 4 - k) old part ≡ sets old k (flat_accession (accession_at l i))

@@ -58,6 +58,7 @@ fn put_line(records: &[u64], number: u64, output: &mut [u64])
     ensures { output.new ≡ overwrite (flat_line (map_line records.now number)) output.old }
 {
     let mut k = 0;
+    // Kept: the output's chunks beside the records, by `zip`, are an adapter of `iter_mut`, of which std says nothing once it wrote.
     for i in (0..record_count(records)).rev() {
         k = put_of_map(records, number, i, output, k);
     }

@@ -49,6 +49,7 @@ fn first_broken_with<const SLOTS: usize, const ROOM: usize>(records: &[u64]) -> 
     ensures { result ≡ accessions_fault records.now }
 {
     let mut held = Held::<SLOTS, ROOM>::new();
+    // Kept: each record is asked about by the table of those before it, which a closure of `find` would have to change as it asks.
     for i in 0..record_count(records) {
         let before = held.last_of_map(records, i);
         if !(own_ascends(records, i) & goes_on(records, i, before)) {

@@ -1,3 +1,4 @@
+pub mod Copying
 pub mod AccessionLaws
 pub mod DateLaws
 pub mod TermLaws

@@ -1,4 +1,5 @@
--- The place that a search by halves finds among entries of rising maps, of which each chunk has its map in front (`placed`). Assumes nothing.
+-- Lists in chunks of four: a record is a chunk (`record-at`), and an entry, so that a search by halves finds a place among entries of rising maps (`placed`). Assumes
+-- nothing.
 use Prim.Native.Nat.{ℕ, zero, suc, ◌+◌, ◌*◌, ◌/◌, ◌≤◌, ◌<◌}
 use native.Mathlib.Omega.{arith}
 use mathlib.Core.Path.{◌≡◌, refl, sym, ap, ◌∙◌}
@@ -12,23 +13,48 @@ use Rattle.std.specs.Prelude.{Option}
 use Rattle.std.specs.Simd.{first_chunks}
 use Rattle.std.specs.List.Sorted.{IsPartitionPoint, IsPartitionedBy}
 use Rattle.std.proofs.lemmas.List.{get_or-drop}
-use Rattle.catalogue.specs.Accession.{Accession}
+use Rattle.catalogue.specs.Accession.{Accession, accession_at, accession_count}
 use Rattle.catalogue.specs.PoolLaws.{Rising}
-use Rattle.pool_entries.specs.Steps.{entries_by, Behind}
+use Rattle.pool_entries.specs.Steps.{record_in, entries_by, Behind}
 use Rattle.pool_entries.proofs.Spreading.{entries-length}
 use Rattle.pool_entries.proofs.Showing.{map_in_entry}
 
--- the number in front of chunk i
+-- number j of chunk i
+number_at : (n : ℕ) (l : List ℕ) (i j : ℕ) (d : List ℕ) → i < n → j < 4 → 4 * n ≤ length l → get_or (get_or (first_chunks 4 n l) i d) j 0 ≡ get_or l (4 * i + j) 0
+number_at zero l i j d h b k = absurd (omega arith)
+number_at (suc n) l zero j d h b k =
+    let first : j ≡ 4 * 0 + j = omega arith in
+    get_or-take 4 l j 0 b ∙ ap (λ k. get_or l k 0) first
+number_at (suc n) l (suc i) j d h b k =
+    let next : 4 + (4 * i + j) ≡ 4 * suc i + j = omega arith in
+    number_at n (drop 4 l) i j d (omega arith) b (omega (arith, length-drop 4 l)) ∙ get_or-drop 4 l (4 * i + j) 0 ∙ ap (λ k. get_or l k 0) next
+
 head_at : (n : ℕ) (l : List ℕ) (i : ℕ) (d : List ℕ) → i < n → 4 * n ≤ length l → get_or (get_or (first_chunks 4 n l) i d) 0 0 ≡ get_or l (4 * i) 0
-head_at zero l i d h k = absurd (omega arith)
-head_at (suc n) l zero d h k = get_or-take 4 l 0 0 (omega arith)
-head_at (suc n) l (suc i) d h k =
-    let next : 4 + 4 * i ≡ 4 * suc i = omega arith in
-    head_at n (drop 4 l) i d (omega arith) (omega (arith, length-drop 4 l)) ∙ get_or-drop 4 l (4 * i) 0 ∙ ap (λ j. get_or l j 0) next
+head_at n l i d h k =
+    let front : 4 * i + 0 ≡ 4 * i = omega arith in
+    number_at n l i 0 d h (omega arith) k ∙ ap (λ j. get_or l j 0) front
 
 chunk-count : (n : ℕ) (l : List ℕ) → length (first_chunks 4 n l) ≡ n
 chunk-count zero l = refl
 chunk-count (suc n) l = ap suc (chunk-count n (drop 4 l))
+
+-- as many chunks as records
+module _ (l : List ℕ) {chunks : List (List ℕ)} (E : chunks ≡ first_chunks 4 (length l / 4) l) where
+  pub record-inside : {i : ℕ} → i < length chunks → i < accession_count l
+  record-inside h = omega (arith, h, ap length E, chunk-count (length l / 4) l)
+
+  pub records-end : {i : ℕ} → length chunks ≤ i → accession_count l ≤ i
+  records-end h = omega (arith, h, ap length E, chunk-count (length l / 4) l)
+
+-- chunk i is record i
+pub record-at : (l : List ℕ) (i : ℕ) {chunks : List (List ℕ)} → chunks ≡ first_chunks 4 (length l / 4) l → i < accession_count l → record_in (get_or chunks i []) ≡ accession_at l i
+unfolding accession_at
+record-at l i {chunks} E h =
+    let at : (j : ℕ) → j < 4 → get_or (get_or chunks i []) j 0 ≡ get_or l (4 * i + j) 0 =
+    λ j b. ap (λ t. get_or (get_or t i []) j 0) E ∙ number_at (length l / 4) l i j [] h b (omega arith) in
+    let front : 4 * i + 0 ≡ 4 * i = omega arith in
+    let own = at 0 (omega arith) ∙ ap (λ j. get_or l j 0) front in
+    λ t. record { own = own t; on_map = at 1 (omega arith) t; day = at 2 (omega arith) t; superseded = at 3 (omega arith) t }
 
 -- an entry's map is at most this one
 abbrev pub is_front : ℕ → List ℕ → Bool

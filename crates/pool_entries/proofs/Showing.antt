@@ -16,7 +16,7 @@ use Rattle.definitions.specs.Scan.{concat_map}
 use Rattle.catalogue.specs.Accession.{Accession, accession_at, accession_count}
 use Rattle.catalogue.specs.Pool.{entry_of, newest, entries_of}
 use Rattle.catalogue.specs.PoolLaws.{Rising}
-use Rattle.pool_entries.specs.Steps.{entries_by, blank, Behind, Found, Shown, RecordShown, RecordsShown}
+use Rattle.pool_entries.specs.Steps.{entries_by, blank, Behind, Found, Shown, RecordsShown}
 use Rattle.pool_entries.proofs.Spreading.{entries-length}
 
 -- ---- entries, one by one
@@ -160,8 +160,12 @@ and_not true false x y e = refl
 and_not false b x y e = refl
 and_not true true x y e = absurd (false≢true (sym e))
 
+-- record i is shown, and becomes what is shown of one record more
+abbrev RecordShown : List ℕ → List ℕ → ℕ → ℕ → List ℕ → Type 0
+RecordShown old records i day new = (M : List ℕ) → Rising M → old ≡ entries_of records day i M → new ≡ entries_of records day (i + 1) M
+
 module _ {old new : List ℕ} (records : List ℕ) (i day : ℕ) where
-  pub record_shown : Shown old (accession_at records i) new → (accession_at records i).day ≤ day → RecordShown old records i day new
+  record_shown : Shown old (accession_at records i) new → (accession_at records i).day ≤ day → RecordShown old records i day new
   unfolding entries_of entries_by
   record_shown S h M R B =
       S M (λ m. newest records m day i) R B
@@ -172,7 +176,7 @@ module _ {old new : List ℕ} (records : List ℕ) (i day : ℕ) where
       ∙ and_known (eqb (accession_at records i).on_map (get_or M k 0)) (leb (accession_at records i).day day) (Some (accession_at records i)) (newest records (get_or M k 0) day i) (le-leb (accession_at records i).day day h)))
 
 module _ {old : List ℕ} (records : List ℕ) (i day : ℕ) where
-  pub record_late : day < (accession_at records i).day → RecordShown old records i day old
+  record_late : day < (accession_at records i).day → RecordShown old records i day old
   unfolding entries_of entries_by
   record_late h M R B =
       B
@@ -199,8 +203,17 @@ module _ {old records : List ℕ} {day : ℕ} where
   showing_starts = record { within = omega arith; so_far = λ M R B. B }
 
   module _ {new : List ℕ} {i : ℕ} (S : Showing old records day new i) where
-    pub showing_goes_on : {next : List ℕ} → i < accession_count records → RecordShown new records i day next → Showing old records day next (i + 1)
-    showing_goes_on h N = record { within = omega arith; so_far = λ M R B. N M R (S.so_far M R B) }
+    goes_on : {next : List ℕ} → i < accession_count records → RecordShown new records i day next → Showing old records day next (i + 1)
+    goes_on h N = record { within = omega arith; so_far = λ M R B. N M R (S.so_far M R B) }
+
+    -- record i is shown, or is of a later day
+    pub showing_shown : {next : List ℕ} (r : Accession) → r ≡ accession_at records i → i < accession_count records → r.day ≤ day → Shown new r next
+        → Showing old records day next (i + 1)
+    showing_shown {next} r e h d N =
+        goes_on h (record_shown records i day (subst (λ x. Shown new x next) e N) (omega (arith, d, ap (λ x. x.day) e)))
+
+    pub showing_late : (r : Accession) → r ≡ accession_at records i → i < accession_count records → day < r.day → Showing old records day new (i + 1)
+    showing_late r e h d = goes_on h (record_late records i day (omega (arith, d, ap (λ x. x.day) e)))
 
     pub showing_ends : accession_count records ≤ i → RecordsShown old records day new
     showing_ends h M R B = S.so_far M R B ∙ ap (λ k. entries_of records day k M) (le_antisymm S.within h)

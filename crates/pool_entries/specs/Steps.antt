@@ -10,6 +10,10 @@ use Rattle.catalogue.specs.PoolLaws.{Rising}
 abbrev pub map_at_lem : List ℕ → ℕ → ℕ → Option ℕ
 map_at_lem terms day i = only_if (contains day (days_of (term_at terms i))) (term_at terms i).on_map
 
+-- a record as its four numbers stand in a list
+abbrev pub record_in : List ℕ → Accession
+record_in l = record { own = get_or l 0 0; on_map = get_or l 1 0; day = get_or l 2 0; superseded = get_or l 3 0 }
+
 -- the entries of maps, showing what f gives
 unfoldable pub entries_by : (ℕ → Option Accession) → List ℕ → List ℕ
 unfolding concat_map
@@ -32,10 +36,6 @@ Found entries map place = (M : List ℕ) (f : ℕ → Option Accession) → Risi
 abbrev pub Shown : List ℕ → Accession → List ℕ → Type 0
 Shown old r new = (M : List ℕ) (f : ℕ → Option Accession) → Rising M → old ≡ entries_by f M → new ≡ entries_by (λ m. cond (eqb r.on_map m) (Some r) (f m)) M
 
--- the same of record i of the list and a day: what was shown of the records before it becomes what is shown with it
-abbrev pub RecordShown : List ℕ → List ℕ → ℕ → ℕ → List ℕ → Type 0
-RecordShown old records i day new = (M : List ℕ) → Rising M → old ≡ entries_of records day i M → new ≡ entries_of records day (i + 1) M
-
--- and of all records
+-- of all records each is shown that is of this day or earlier, over what stood there
 abbrev pub RecordsShown : List ℕ → List ℕ → ℕ → List ℕ → Type 0
 RecordsShown old records day new = (M : List ℕ) → Rising M → old ≡ blank M → new ≡ entries_of records day (accession_count records) M

@@ -1,12 +1,10 @@
 // The records that entries show: the records are gone through once, in their order, and each one of the day or earlier is shown in its map's entry, over what
 // stood there.
-ghost use Rattle.std.specs.Prelude.{◌≡◌, ◌*◌, ◌≤◌, ◌<◌, length};
-ghost use Rattle.catalogue.specs.Accession.{accession_at, accession_count};
+ghost use Rattle.std.specs.Prelude.{◌*◌, ◌≤◌, length};
 ghost use Rattle.catalogue.specs.Pool.{numbers_per_entry};
-ghost use Rattle.pool_entries.specs.Steps.{Found, Shown, RecordShown, RecordsShown};
+ghost use Rattle.pool_entries.specs.Steps.{record_in, Found, Shown, RecordsShown};
 
-use accession::fields::{day_of, map_of, own_of, record_count, superseded_of};
-use catalogue::sizes::NUMBERS_PER_ENTRY;
+use catalogue::sizes::{NUMBERS_PER_ACCESSION, NUMBERS_PER_ENTRY};
 
 // The place behind the entries whose map is at most this one.
 fn place_of(entries: &[u64], map: u64) -> usize
@@ -17,12 +15,11 @@ fn place_of(entries: &[u64], map: u64) -> usize
     entries.partition_point(|entry| entry[0] <= map)
 }
 
-// Shows record i in the entry of its map, if there is one.
-fn show(entries: &mut [u64], records: &[u64], i: usize)
-    requires { i < accession_count records.now }
-    ensures { Shown entries.old (accession_at records.now i) entries.new }
+// Shows a record in the entry of its map, if there is one.
+fn show(entries: &mut [u64], accession: &[u64; NUMBERS_PER_ACCESSION])
+    ensures { Shown entries.old (record_in accession.now) entries.new }
 {
-    let map = map_of(records, i);
+    let [own, map, day, superseded] = *accession;
     let place = place_of(entries, map);
     if place == 0 {
         return;
@@ -31,27 +28,20 @@ fn show(entries: &mut [u64], records: &[u64], i: usize)
     if entries[at] != map {
         return;
     }
-    entries[at + 1] = own_of(records, i);
-    entries[at + 2] = day_of(records, i);
-    entries[at + 3] = superseded_of(records, i);
-}
-
-// Shows record i, if it is of this day or earlier.
-fn show_record(entries: &mut [u64], records: &[u64], i: usize, day: u64)
-    requires { i < accession_count records.now }
-    ensures { RecordShown entries.old records.now i day entries.new }
-{
-    if day < day_of(records, i) {
-        return;
-    }
-    show(entries, records, i);
+    entries[at + 1] = own;
+    entries[at + 2] = day;
+    entries[at + 3] = superseded;
 }
 
 // Shows each map's newest record of this day or earlier, in entries that show none.
 pub fn show_records(entries: &mut [u64], records: &[u64], day: u64)
     ensures { RecordsShown entries.old records.now day entries.new }
 {
-    for i in 0..record_count(records) {
-        show_record(&mut *entries, records, i, day);
+    let (records, _) = records.as_chunks::<NUMBERS_PER_ACCESSION>();
+    for accession in records {
+        if day < accession[2] {
+            continue;
+        }
+        show(&mut *entries, accession);
     }
 }

@@ -39,6 +39,7 @@ fn put_maps(terms: &[u64], day: u64, output: &mut [u64])
 {
     let count = terms.len() / NUMBERS_PER_TERM;
     let mut maps = 0;
+    // Kept: the output's places beside the maps, by `zip`, are an adapter of `iter_mut`, of which std says nothing once it wrote.
     for i in 0..count {
         maps = put_map(terms, i, day, &mut *output, maps);
     }
@@ -57,7 +58,7 @@ fn put_entry(entries: &mut [u64], k: usize, map: u64)
 fn spread_maps(entries: &mut [u64])
     ensures { entries.new ≡ overwrite (blank (take (length entries.old / numbers_per_entry) entries.old)) entries.old }
 {
-    // Kept: a map is read from the list that its entry is written to, which no iterator lends twice.
+    // Kept: each map is read from the list that its entry is written to, so that no iterator can lend both.
     for k in (0..entries.len() / NUMBERS_PER_ENTRY).rev() {
         let map = entries[k];
         put_entry(&mut *entries, k, map);

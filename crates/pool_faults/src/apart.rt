@@ -1,7 +1,7 @@
 // Terms of one map that have no day in common, told in n log n steps: the terms' positions are sorted by map and first day, and then it is enough to compare
 // neighbours. What the positions are sorted by is a hint, of which nothing is proved: neighbours in a wrong order are found as those that overlap are.
 ghost use Rattle.std.specs.Prelude.{◌≡◌, true, false, ℕ, ◌+◌, ◌*◌, ◌≤◌, ◌<◌, length};
-ghost use Rattle.catalogue.specs.Terms.{numbers_per_term};
+ghost use Rattle.catalogue.specs.Terms.{numbers_per_term, term_count};
 ghost use Rattle.pool_faults.specs.Apart.{Precedes, position_in, Positions, SamePositions, Following, AllApart, Keys, Keyed, Between, ApartBetween, ApartTo};
 
 use catalogue::sizes::NUMBERS_PER_TERM;
@@ -9,11 +9,11 @@ use number_sort::sort_numbers;
 use pool_terms::terms::term_days;
 
 // A key has the place of the term's map among the sorted maps, its first day and its position, which has the lower half.
-const POSITIONS: u64 = 4_294_967_296;
+const POSITIONS: u64 = 1 << 32;
 
-const DAY_NUMBERS: u64 = 65_536;
+const DAY_NUMBERS: u64 = 1 << 16;
 
-const LAST_MAP: u64 = 18_446_744_073_709_551_615;
+const LAST_MAP: u64 = u64::MAX;
 
 // How many terms are sorted at once. A map has at most 36,525 terms that are not empty and do not overlap. A short list has small tables, which are cleared
 // sooner.
@@ -27,13 +27,6 @@ pub struct NoRoom {
     pub at: usize,
 }
 
-// The first `count` terms of a list.
-#[derive(Clone, Copy)]
-struct Terms<'a> {
-    numbers: &'a [u64],
-    count: usize,
-}
-
 // The maps whose numbers are from `low` to `high`.
 #[derive(Clone, Copy)]
 struct Part {
@@ -45,7 +38,7 @@ impl Part {
     fn has(self, map: u64) -> bool
         ensures { result ≡ false → Between self.low self.high map → ⊥ }
     {
-        self.low <= map && map <= self.high
+        (self.low..=self.high).contains(&map)
     }
 
     // Its lower half.
@@ -66,13 +59,11 @@ impl Part {
         ensures { (result.low ≡ self.high + 1) × (result.low ≤ result.high) × (result.high ≤ 18446744073709551615) }
     {
         let low = self.high + 1;
-        let before = self.high - self.low;
-        let high = if (LAST_MAP - low) / 2 <= before {
-            LAST_MAP
-        } else {
-            low + 2 * before + 1
-        };
-        Part { low, high }
+        let twice = (low - self.low).saturating_mul(2);
+        Part {
+            low,
+            high: low.saturating_add(twice - 1),
+        }
     }
 }
 
@@ -116,24 +107,22 @@ fn least_astray_of(terms: &[u64], found: usize, i: usize, j: usize) -> usize
     found.min(i.max(j))
 }
 
-// The least later position of two neighbours of which the first does not precede the second; their count where there are none.
-fn least_astray(terms: Terms, keys: &[u64]) -> usize
-    requires { (numbers_per_term * terms.count ≤ length terms.numbers.now) × Positions keys.now terms.count }
-    ensures { (result ≤ terms.entry.count) × (result ≡ terms.entry.count → Following terms.entry.numbers.now keys.now (length keys.now)) }
+// The least later position of two neighbours of which the first does not precede the second; the count of terms where there are none.
+fn least_astray(terms: &[u64], keys: &[u64]) -> usize
+    requires { Positions keys.now (term_count terms.now) }
+    ensures { (result ≤ term_count terms.now) × (result ≡ term_count terms.now → Following terms.now keys.now (length keys.now)) }
 {
-    let mut found = terms.count;
-    for k in 1..keys.len() {
-        let i = position_in(keys[k - 1]);
-        let j = position_in(keys[k]);
-        found = least_astray_of(terms.numbers, found, i, j);
+    let mut found = terms.len() / NUMBERS_PER_TERM;
+    for pair in keys.windows(2) {
+        found = least_astray_of(terms, found, position_in(pair[0]), position_in(pair[1]));
     }
     found
 }
 
 // The same of keys in any order, which are sorted.
-fn least_doubtful(terms: Terms, keys: &mut [u64]) -> usize
-    requires { (numbers_per_term * terms.count ≤ length terms.numbers.now) × Positions keys.old terms.count }
-    ensures { (result ≤ terms.entry.count) × (result ≡ terms.entry.count → AllApart terms.entry.numbers.now keys.old) }
+fn least_doubtful(terms: &[u64], keys: &mut [u64]) -> usize
+    requires { Positions keys.old (term_count terms.now) }
+    ensures { (result ≤ term_count terms.now) × (result ≡ term_count terms.now → AllApart terms.now keys.old) }
 {
     sort_numbers(&mut *keys);
     least_astray(terms, keys)
@@ -162,18 +151,23 @@ fn take_term(
     taken
 }
 
-// Takes the first terms whose maps are in the part.
-fn take_terms(terms: Terms, part: Part, maps: &mut [u64], keys: &mut [u64]) -> Result<usize, NoRoom>
-    requires room { numbers_per_term * terms.count ≤ length terms.numbers.now }
-    requires sizes { (terms.count ≤ 4294967296) × (length maps.old ≡ length keys.old) }
-    ensures { Keyed terms.entry.numbers.now terms.entry.count part.low part.high keys.new result }
+// Takes the terms whose maps are in the part.
+fn take_terms(
+    terms: &[u64],
+    part: Part,
+    maps: &mut [u64],
+    keys: &mut [u64],
+) -> Result<usize, NoRoom>
+    requires { (term_count terms.now ≤ 4294967296) × (length maps.old ≡ length keys.old) }
+    ensures { Keyed terms.now (term_count terms.now) part.low part.high keys.new result }
 {
     let mut taken = 0;
-    for i in 0..terms.count {
+    // Kept: what is taken is the term's position, and the chunks of `terms` with `enumerate` would give no more than the range.
+    for i in 0..terms.len() / NUMBERS_PER_TERM {
         if taken == keys.len() {
             return Err(NoRoom { at: i });
         }
-        taken = take_term(terms.numbers, i, part, &mut *maps, &mut *keys, taken);
+        taken = take_term(terms, i, part, &mut *maps, &mut *keys, taken);
     }
     Ok(taken)
 }
@@ -196,22 +190,20 @@ fn key_of(terms: &[u64], i: usize, maps: &[u64]) -> u64
 }
 
 // Puts the places of the maps and the first days in front of the positions.
-fn complete_keys(terms: Terms, maps: &[u64], keys: &mut [u64])
-    requires room { (numbers_per_term * terms.count ≤ length terms.numbers.now) × Positions keys.old terms.count }
-    requires sizes { length maps.now < 65536 }
+fn complete_keys(terms: &[u64], maps: &[u64], keys: &mut [u64])
+    requires { Positions keys.old (term_count terms.now) × (length maps.now < 65536) }
     ensures { SamePositions keys.old keys.new }
 {
     for key in keys.iter_mut() {
-        *key = key_of(terms.numbers, position_in(*key), maps);
+        *key = key_of(terms, position_in(*key), maps);
     }
 }
 
-// A position up to which nothing is known of the terms of the part's maps, which are these; their count where no two of one map overlap.
-fn doubt_between(terms: Terms, part: Part, maps: &mut [u64], keys: &mut [u64]) -> usize
-    requires room { numbers_per_term * terms.count ≤ length terms.numbers.now }
+// A position up to which nothing is known of the terms of the part's maps, which are these; the count of terms where no two of one map overlap.
+fn doubt_between(terms: &[u64], part: Part, maps: &mut [u64], keys: &mut [u64]) -> usize
     requires sizes { length maps.old < 65536 }
-    requires keys { Keys terms.numbers.now terms.count part.low part.high keys.old (length keys.old) }
-    ensures { (result ≤ terms.entry.count) × (result ≡ terms.entry.count → ApartBetween terms.entry.numbers.now part.low part.high terms.entry.count) }
+    requires keys { Keys terms.now (term_count terms.now) part.low part.high keys.old (length keys.old) }
+    ensures { (result ≤ term_count terms.now) × (result ≡ term_count terms.now → ApartBetween terms.now part.low part.high (term_count terms.now)) }
 {
     sort_numbers(&mut *maps);
     complete_keys(terms, maps, &mut *keys);
@@ -219,17 +211,17 @@ fn doubt_between(terms: Terms, part: Part, maps: &mut [u64], keys: &mut [u64]) -
 }
 
 // The same of the terms of all maps. They are taken in parts, each of as many maps as there is room for the terms of.
-fn doubt_of_all(terms: Terms, maps: &mut [u64], keys: &mut [u64]) -> usize
-    requires sizes { (numbers_per_term * terms.count ≤ length terms.numbers.now) × (terms.count ≤ 4294967296) }
+fn doubt_of_all(terms: &[u64], maps: &mut [u64], keys: &mut [u64]) -> usize
+    requires sizes { term_count terms.now ≤ 4294967296 }
     requires tables { (length maps.old < 65536) × (length maps.old ≡ length keys.old) }
-    ensures { (result ≤ terms.entry.count) × (result ≡ terms.entry.count → ApartTo terms.entry.numbers.now terms.entry.count) }
+    ensures { (result ≤ term_count terms.now) × (result ≡ term_count terms.now → ApartTo terms.now (term_count terms.now)) }
 {
-    let mut doubt = terms.count;
+    let mut doubt = terms.len() / NUMBERS_PER_TERM;
     let mut part = Part {
         low: 0,
         high: LAST_MAP,
     };
-    // Kept: where a part starts and ends depends on what the last one had room for, so that no range gives the parts.
+    // Kept: where a part starts and ends depends on what the last one had room for; `iter::from_fn` would hold the same state and be no plainer.
     'parts: loop {
         match take_terms(terms, part, &mut *maps, &mut *keys) {
             Err(no_room) => {
@@ -262,21 +254,18 @@ fn next_part(apart: usize, high: usize, whole: bool) -> usize
 }
 
 // How many of the first terms do not overlap, with tables to work in.
-fn apart_terms_by(terms: &[u64], sound: usize, maps: &mut [u64], keys: &mut [u64]) -> usize
-    requires sizes { (numbers_per_term * sound ≤ length terms.now) × (sound ≤ 4294967296) }
+fn apart_terms_by(terms: &[u64], maps: &mut [u64], keys: &mut [u64]) -> usize
+    requires sizes { term_count terms.now ≤ 4294967296 }
     requires tables { (length maps.old < 65536) × (length maps.old ≡ length keys.old) }
-    ensures { (result ≤ sound) × ApartTo terms.now result }
+    ensures { (result ≤ term_count terms.now) × ApartTo terms.now result }
 {
     let mut apart = 0;
-    let mut high = sound;
+    let mut high = terms.len() / NUMBERS_PER_TERM;
     let mut whole = true;
-    // Kept: how many terms are asked about next depends on what was found of the last.
+    // Kept: how many terms are asked about next depends on what was found of the last; `iter::from_fn` would hold the same state and be no plainer.
     while apart < high {
         let part = next_part(apart, high, whole);
-        let first = Terms {
-            numbers: terms,
-            count: part,
-        };
+        let first = &terms[..NUMBERS_PER_TERM * part];
         let doubt = doubt_of_all(first, &mut *maps, &mut *keys);
         whole = !whole;
         if doubt < part {
@@ -290,23 +279,23 @@ fn apart_terms_by(terms: &[u64], sound: usize, maps: &mut [u64], keys: &mut [u64
 
 // Never put into its caller, as the check of records is not (`first_broken_with` of `accession`): each has its arrays on the stack alone.
 #[inline(never)]
-fn apart_terms_with<const TERMS: usize>(terms: &[u64], sound: usize) -> usize
-    requires sizes { (numbers_per_term * sound ≤ length terms.now) × (sound ≤ 4294967296) }
-    requires maps_room { TERMS < 65536 }
-    ensures { (result ≤ sound) × ApartTo terms.now result }
+fn apart_terms_with<const TERMS: usize>(terms: &[u64]) -> usize
+    requires { (term_count terms.now ≤ 4294967296) × (TERMS < 65536) }
+    ensures { (result ≤ term_count terms.now) × ApartTo terms.now result }
 {
     let mut maps = [0u64; TERMS];
     let mut keys = [0u64; TERMS];
-    apart_terms_by(terms, sound, &mut maps, &mut keys)
+    apart_terms_by(terms, &mut maps, &mut keys)
 }
 
 // How many of the first terms do not overlap another of them: up to the first that overlaps an earlier one, if they are sound and less than 2^32.
-pub fn apart_terms(terms: &[u64], sound: usize) -> usize
-    requires { numbers_per_term * sound ≤ length terms.now }
-    ensures { (result ≤ sound) × ApartTo terms.now result }
+pub fn apart_terms(terms: &[u64]) -> usize
+    ensures { (result ≤ term_count terms.now) × ApartTo terms.now result }
 {
-    if sound <= FEW_TERMS {
-        return apart_terms_with::<FEW_TERMS>(terms, sound);
+    let count = terms.len() / NUMBERS_PER_TERM;
+    if count <= FEW_TERMS {
+        return apart_terms_with::<FEW_TERMS>(terms);
     }
-    apart_terms_with::<MANY_TERMS>(terms, sound.min(POSITIONS as usize))
+    let most = NUMBERS_PER_TERM * count.min(POSITIONS as usize);
+    apart_terms_with::<MANY_TERMS>(&terms[..most])
 }

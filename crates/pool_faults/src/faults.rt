@@ -1,6 +1,6 @@
 // The first term that breaks a rule, 18 or 19.
 ghost use Rattle.std.specs.Prelude.{◌≡◌, true, ◌+◌, ◌*◌, ◌%◌, ◌≤◌, ◌<◌, length, ltb, None};
-ghost use Rattle.catalogue.specs.Terms.{numbers_per_term, term_at, days_of, term_fault, terms_refusal};
+ghost use Rattle.catalogue.specs.Terms.{numbers_per_term, term_at, term_count, days_of, term_fault, terms_refusal};
 ghost use Rattle.refusals.specs.Refusals.{refusal_in};
 ghost use Rattle.pool_terms.specs.Contract.{first_in, end_in};
 ghost use Rattle.pool_faults.specs.Ends.{Latest};
@@ -48,11 +48,12 @@ fn passes(terms: &[u64], i: usize, ends: &[u64; SLOTS]) -> bool
 }
 
 // How many of the first terms pass, one after the other: all that come in the order of their days.
-fn passing_terms(terms: &[u64], count: usize) -> usize
-    requires { numbers_per_term * count ≤ length terms.now }
-    ensures { (result ≤ count) × Faultless terms.now result }
+fn passing_terms(terms: &[u64]) -> usize
+    ensures { (result ≤ term_count terms.now) × Faultless terms.now result }
 {
+    let count = terms.len() / NUMBERS_PER_TERM;
     let mut ends = [0u64; SLOTS];
+    // Kept: each term passes by the ends of those before it, so that a closure of `find` would change what it asks.
     for i in 0..count {
         if !passes(terms, i, &ends) {
             return i;
@@ -67,42 +68,38 @@ fn is_sound(terms: &[u64], i: usize) -> bool
     requires { numbers_per_term * (i + 1) ≤ length terms.now }
     ensures { result ≡ ltb (first_in (days_of (term_at terms.now i))) (end_in (days_of (term_at terms.now i))) }
 {
-    match term_days(terms, i) {
-        None => false,
-        Some(days) => days.from < days.to,
-    }
+    term_days(terms, i).is_some_and(|days| days.from < days.to)
 }
 
 // How many of the first terms are sound, where those below `known` are known to be.
-fn sound_terms(terms: &[u64], known: usize, count: usize) -> usize
-    requires sizes { (known ≤ count) × (numbers_per_term * count ≤ length terms.now) }
-    requires sound { Sound terms.now known }
-    ensures { (known ≤ result) × (result ≤ count) × Sound terms.now result }
+fn sound_terms(terms: &[u64], known: usize) -> usize
+    requires { (known ≤ term_count terms.now) × Sound terms.now known }
+    ensures { (known ≤ result) × (result ≤ term_count terms.now) × Sound terms.now result }
 {
+    let count = terms.len() / NUMBERS_PER_TERM;
     (known..count)
         .find(|&i| !is_sound(terms, i))
         .unwrap_or(count)
 }
 
 // How many of the first terms are known to break no rule: all, or up to the first that does. Terms that do not come in the order of their days are sorted.
-fn faultless_terms(terms: &[u64], count: usize) -> usize
-    requires { numbers_per_term * count ≤ length terms.now }
-    ensures { (result ≤ count) × Faultless terms.now result }
+fn faultless_terms(terms: &[u64]) -> usize
+    ensures { (result ≤ term_count terms.now) × Faultless terms.now result }
 {
-    let passing = passing_terms(terms, count);
-    let sound = sound_terms(terms, passing, count);
+    let passing = passing_terms(terms);
+    let sound = sound_terms(terms, passing);
     if sound == passing {
         return passing;
     }
-    apart_terms(terms, sound)
+    apart_terms(&terms[..NUMBERS_PER_TERM * sound])
 }
 
 // Refuses the first term that breaks a rule.
 pub fn terms_fault(terms: &[u64]) -> Result<(), Refusal>
     ensures { refusal_in result ≡ terms_refusal terms.now }
 {
-    let count = terms.len() / NUMBERS_PER_TERM;
-    for i in faultless_terms(terms, count)..count {
+    // Kept: `try_for_each` with the same call is no plainer.
+    for i in faultless_terms(terms)..terms.len() / NUMBERS_PER_TERM {
         term_fault(terms, i)?;
     }
     Ok(())

@@ -43,10 +43,7 @@ pub fn has_day(terms: &[u64], i: usize, day: u64) -> bool
     requires { numbers_per_term * (i + 1) ≤ length terms.now }
     ensures { result ≡ contains day (days_of (term_at terms.now i)) }
 {
-    match term_days(terms, i) {
-        None => false,
-        Some(days) => days.from <= day && day < days.to,
-    }
+    term_days(terms, i).is_some_and(|days| days.from <= day && day < days.to)
 }
 
 // Whether term j is of the map and has a day in common with these.

@@ -1,13 +1,26 @@
 -- `entries::show_records` meets its contract. The invariant is `Showing`. Assumes nothing.
-use Rattle.pool_entries.proofs.Showing.{showing_starts, showing_goes_on, showing_ends}
-use borrow.Author.Rules.{rules}
+use Rattle.std.proofs.Common.{arith, [], get_or}
+use Rattle.pool_entries.specs.Steps.{record_in}
+use Rattle.pool_entries.proofs.Showing.{showing_starts, showing_shown, showing_late, showing_ends}
+use Rattle.pool_entries.proofs.Placing.{record-at, record-inside, records-end}
 use Rattle.pool_entries.proofs.entries.show_records.Goals as goal
 
-pub loop-i-init : goal.loop-i-init
-loop-i-init c = showing_starts
+pub loop-accession-init : goal.loop-accession-init
+loop-accession-init c = showing_starts
 
-pub loop-i-preserved : goal.loop-i-preserved
-loop-i-preserved c = showing_goes_on c.loop-i.invariant (search rules) c.show_record.ensures
+pub loop-accession-preserved-then-day-accession : goal.loop-accession-preserved-then-day-accession
+loop-accession-preserved-then-day-accession c =
+    let l = c.args.records.now in
+    let i = c.loop-accession.accession-index in
+    let inside = record-inside l c.as_chunks.ensures.front c.loop-accession-test.true in
+    showing_late c.loop-accession.invariant _ (record-at l i c.as_chunks.ensures.front inside) inside c.if-day-accession.true
+
+pub loop-accession-preserved : goal.loop-accession-preserved
+loop-accession-preserved c =
+    let l = c.args.records.now in
+    let i = c.loop-accession.accession-index in
+    let inside = record-inside l c.as_chunks.ensures.front c.loop-accession-test.true in
+    showing_shown c.loop-accession.invariant _ (record-at l i c.as_chunks.ensures.front inside) inside c.if-day-accession.false c.show.ensures
 
 pub returns : goal.returns
-returns c = showing_ends c.loop-i.invariant (search rules)
+returns c = showing_ends c.loop-accession.invariant (records-end c.args.records.now c.as_chunks.ensures.front c.loop-accession-test.false)

@@ -2,5 +2,5 @@
 use Rattle.pool_entries.proofs.Showing.{Showing}
 use Rattle.pool_entries.proofs.entries.show_records.Given as goal
 
-abbrev pub invariant-loop-i : goal.invariant-loop-i
-invariant-loop-i l = Showing l.initial.entries l.records l.day l.entries l.i
+abbrev pub invariant-loop-accession : goal.invariant-loop-accession
+invariant-loop-accession l = Showing l.initial.entries l.fn.records l.day l.entries l.accession-index

@@ -1,6 +1,6 @@
 -- `maps::put_entry` meets its contract: four numbers are copied. Assumes nothing.
 use Rattle.std.proofs.Common.{arith, ◌*◌}
-use Rattle.accession.proofs.Copying.{put_four}
+use Rattle.catalogue.proofs.Copying.{put_four}
 use Rattle.pool_entries.proofs.maps.put_entry.Goals as goal
 
 pub returns : goal.returns

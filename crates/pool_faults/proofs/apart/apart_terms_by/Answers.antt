@@ -1,7 +1,11 @@
 -- `apart::apart_terms_by` meets its contract. The invariant: the first `apart` terms are apart. The measure: more are known to be apart, or fewer are left to ask about. Assumes
 -- nothing.
 use native.Mathlib.Omega.{arith}
-use mathlib.Core.Path.{refl}
+use mathlib.Core.Path.{refl, subst}
+use Prim.Native.Nat.{◌*◌}
+use lib.ListN.{take}
+use Rattle.pool_faults.specs.Apart.{ApartTo}
+use Rattle.pool_faults.proofs.Taking.{front-count, apart-front}
 use borrow.Author.Rules.{rules}
 use Rattle.pool_faults.proofs.apart.apart_terms_by.Goals as goal
 
@@ -15,7 +19,11 @@ loop-apart-preserved-then-doubt-part c =
 pub loop-apart-preserved : goal.loop-apart-preserved
 loop-apart-preserved c =
     let D = c.doubt_of_all-doubt.ensures in
-    (search rules, search rules, search rules, search rules, D.1 (omega (arith, D.0, c.if-doubt-part.false)))
+    let l = c.args.terms.now in
+    let part = c.next_part-part.result in
+    let counted = front-count l part (search rules) in
+    let first = subst (ApartTo (take (7 * part) l)) counted (D.1 (omega (arith, counted, D.0, c.if-doubt-part.false))) in
+    (search rules, search rules, search rules, search rules, apart-front l part part (omega arith) first)
 
 pub returns : goal.returns
 returns c = (c.loop-apart.invariant.0, c.loop-apart.invariant.4)

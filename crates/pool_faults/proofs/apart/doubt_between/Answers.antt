@@ -5,12 +5,12 @@ use Rattle.pool_faults.proofs.Taking.{keys-same, keys_positions, keys-apart}
 use Rattle.pool_faults.proofs.apart.doubt_between.Goals as goal
 
 pub complete_keys-requires : goal.complete_keys-requires
-complete_keys-requires c = record { room = (c.requires.room, keys_positions _ _ _ c.requires.keys refl); sizes = search rules }
+complete_keys-requires c = (keys_positions _ _ _ c.requires.keys refl, search rules)
 
 pub least_doubtful-requires : goal.least_doubtful-requires
 least_doubtful-requires c =
     let S = c.complete_keys.ensures in
-    (c.requires.room, keys_positions _ _ _ (keys-same _ _ _ c.requires.keys S) (sym S.as_long))
+    keys_positions _ _ _ (keys-same _ _ _ c.requires.keys S) (sym S.as_long)
 
 pub returns : goal.returns
 returns c =

@@ -40,7 +40,6 @@ pub doubt_between-found-requires : goal.doubt_between-found-requires
 doubt_between-found-requires c =
     let K = keys-known _ _ _ _ _ c.take_terms.ensures c.in-Ok.is in
     record {
-      room = search rules;
       sizes = omega (arith, length-take-le c.in-Ok.count c.take_terms.new.maps (still-fits K.within (search rules)), K.within, c.parts.invariant.3, c.requires.tables);
       keys = keys-front _ _ _ K;
     }

@@ -3,12 +3,13 @@
 use Prim.Native.Nat.{◌+◌, ◌*◌, ◌-◌, ◌≤◌}
 use mathlib.Core.Path.{◌≡◌}
 use lib.ListN.{length}
+use Rattle.catalogue.specs.Terms.{term_count}
 use Rattle.pool_faults.proofs.Taking.{ApartBelow}
 use Rattle.pool_faults.proofs.apart.doubt_of_all.Given as goal
 
 abbrev pub invariant-parts : goal.invariant-parts
 invariant-parts l =
-    (l.part.low ≤ l.part.high) × (l.part.high ≤ 18446744073709551615) × (l.doubt ≤ l.terms.count) × (length l.maps ≡ length l.initial.maps) × (length l.keys ≡ length l.initial.keys) × (l.doubt ≡ l.terms.count → ApartBelow l.terms.numbers.now l.part.low l.terms.count)
+    (l.part.low ≤ l.part.high) × (l.part.high ≤ 18446744073709551615) × (l.doubt ≤ term_count l.terms) × (length l.maps ≡ length l.initial.maps) × (length l.keys ≡ length l.initial.keys) × (l.doubt ≡ term_count l.terms → ApartBelow l.terms l.part.low (term_count l.terms))
 
 abbrev pub decreases-parts : goal.decreases-parts
 decreases-parts l = 18446744073709551616 * (18446744073709551616 - l.part.low) + (l.part.high - l.part.low)

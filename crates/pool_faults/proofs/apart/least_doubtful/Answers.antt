@@ -5,7 +5,7 @@ use Rattle.pool_faults.proofs.apart.least_doubtful.Goals as goal
 
 pub least_astray-requires : goal.least_astray-requires
 least_astray-requires c =
-    (search rules, positions_kept _ _ c.sort_numbers.ensures c.requires.1)
+    positions_kept _ _ c.sort_numbers.ensures c.requires
 
 pub returns : goal.returns
 returns c =

@@ -1,5 +1,4 @@
--- `faults::passing_terms` meets its contract. The invariant: the terms below i break no rule, and the ends are the latest of theirs. The measure is what is left of the terms.
--- Assumes nothing.
+-- `faults::passing_terms` meets its contract. The invariant: the terms below i break no rule, and the ends are the latest of theirs. Assumes nothing.
 use mathlib.Core.Path.{refl}
 use Rattle.laws.specs.ListLaws.FirstBelow.{none_below-zero, none_below_more, none_below-end}
 use Rattle.pool_faults.proofs.TermScan.{latest-starts}
@@ -30,7 +29,7 @@ keep_end-requires c =
 
 pub loop-i-preserved : goal.loop-i-preserved
 loop-i-preserved c =
-    (search rules, none_below_more _ c.loop-i.i c.loop-i.invariant.1 (c.passes.ensures (not-false _ c.if-not-passes.false-raw)), c.keep_end.ensures)
+    (search rules, none_below_more _ c.loop-i.i c.loop-i.invariant.1 (c.passes.ensures (search rules)), c.keep_end.ensures)
 
 pub returns : goal.returns
 returns c =

@@ -1,4 +1,4 @@
--- `faults::terms_fault` meets its contract. The invariant: the terms below i break no rule. The measure is what is left of the terms. Assumes nothing.
+-- `faults::terms_fault` meets its contract. The invariant: the terms below i break no rule. Assumes nothing.
 use mathlib.Core.Path.{◌≡◌, sym, ap, ◌∙◌}
 use Rattle.laws.specs.ListLaws.FirstBelow.{none_below_more, none_below-end, first_found}
 use Rattle.catalogue.specs.Terms.{terms_refusal}
