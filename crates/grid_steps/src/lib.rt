@@ -10,9 +10,8 @@ ghost use Rattle.grid_steps.specs.Walk.{direction_at};
 ghost use Rattle.grid_steps.specs.Inner.{placed};
 
 // The eight directions, in the order of `neighbors` of lib.rs, the first in the lowest byte: 1, 3, 5, 7, 0, 2, 6, 8. Each is its place in the three by three
-// square around the cell, row by row from 0, which is also its bit in a mask of cut steps. One word, and not an array: a loop over it is unrolled, and its
-// turns have the places as constants.
-// Kept: one word, since a promise (`directions_as_bytes` of promises) speaks of its bytes.
+// square around the cell, row by row from 0, which is also its bit in a mask of cut steps.
+// Kept: one word, as the promise `directions_as_bytes` has it: `place_at` is promised, though no other code reads it now.
 const DIRECTIONS: u64 = 0x08_06_02_00_07_05_03_01;
 
 // The place of direction d.

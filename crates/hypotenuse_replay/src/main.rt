@@ -9,6 +9,7 @@ ghost use Rattle.std.specs.Float.Ieee.{of_bits};
 ghost use Rattle.definitions.specs.Scan.{bit};
 ghost use Rattle.hypotenuse_replay.specs.Lines.{digit_of, digits_after, number_of_bits, root_of_bits, is_answer_line, lines_in, answers_in};
 
+use refusals::Cause;
 use std::io;
 use std::io::{Read, Write};
 use streams::read_full;
@@ -40,6 +41,7 @@ fn digit(b: u8) -> u64
 }
 
 // The number that up to sixteen digits stand for.
+// Kept: by hand: `from_str_radix` takes capitals and a sign, and refuses other bytes, which `digit_of` takes for 0.
 fn number(s: &[u8], base: u64) -> u64
     requires { (length s.now ≤ 16) × (base ≤ 16) }
     ensures { result ≡ digits_after base 0 s.now }
@@ -78,7 +80,7 @@ fn answer_of(x: u64, y: u64) -> Stored
             root: f64::to_bits(value),
         },
         None => Stored {
-            number: 13,
+            number: Cause::Range.number(),
             root: 0,
         },
     }
@@ -137,8 +139,8 @@ fn replay<W: Write>(output: &mut W, s: &[u8], before: Tally) -> io::Result<(Tall
     let mut lines = before.lines;
     let mut answers = before.answers;
     let mut start = 0;
-    for i in 0..s.len() {
-        if s[i] == NEWLINE {
+    for (i, &b) in s.iter().enumerate() {
+        if b == NEWLINE {
             lines += 1;
             answers += replay_line(output, &s[start..i], lines, answers)?;
             start = i + 1;

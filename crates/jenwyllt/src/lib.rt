@@ -2,44 +2,35 @@
 
 #![tactic(auto)]
 
-ghost use Rattle.std.specs.Prelude.{◌≡◌, length, Ok, Err};
+ghost use Rattle.std.specs.Prelude.{◌≡◌, length};
 ghost use Rattle.definitions.specs.Hypotenuse.{hypot_number, hypot_value};
 ghost use Rattle.definitions.specs.Sheet.{read_verdict};
 ghost use Rattle.areas.specs.Contract.{given};
-ghost use Rattle.refusals.specs.Refusals.{refusal_of};
+ghost use Rattle.areas.specs.Lists.{SameLists};
+ghost use Rattle.hypotenuse.specs.Contract.{number_of, value_of};
+ghost use Rattle.sheet.specs.Contract.{by_number};
 ghost use Rattle.jenwyllt.specs.Contract.{Partitions, sheet_in, Reads};
 
 use areas::lists::PartitionLists;
 use areas::partition;
 use hypotenuse::hypotenuse;
-use refusals::Refusal;
 use refusals::answers::Answer;
+use refusals::{Cause, Refusal};
 use sheet::{Header, read_sheet};
 
-// Kept: flat lists, which the C interface needs.
 pub fn jenwyllt_partition(
     width: u64,
     height: u64,
     cells: &[u8],
     spans: &[u64],
-    labels: &mut [u32],
-    masks: &mut [u16],
-    queue: &mut [u32],
-    tallies: &mut [u32],
-    pairs: &mut [u32],
+    lists: &mut PartitionLists,
 ) -> Answer
-    ensures { Partitions (given width height cells.now spans.now labels.old masks.old
-        queue.old tallies.old pairs.old) result
-        labels.new masks.new queue.new tallies.new pairs.new }
+    ensures ran { Partitions (given width height cells.now spans.now lists.old.labels.now lists.old.masks.now
+        lists.old.queue.now lists.old.tallies.now lists.old.pairs.now) result
+        lists.new.labels.now lists.new.masks.now lists.new.queue.now lists.new.tallies.now lists.new.pairs.now }
+    ensures same { SameLists lists.old lists.new }
 {
-    let mut lists = PartitionLists {
-        labels,
-        masks,
-        queue,
-        tallies,
-        pairs,
-    };
-    Answer::from(partition(width, height, cells, spans, &mut lists))
+    Answer::from(partition(width, height, cells, spans, lists))
 }
 
 // Number 0, place 0 and what the sheet opens with; or a refusal's number and place, and 0 for the rest. The last three are counts of entries.
@@ -56,37 +47,35 @@ pub struct JenwylltSheet {
     pub anchors: u64,
 }
 
-fn opened(header: Header) -> JenwylltSheet
-    ensures { result ≡ sheet_in (Ok header) }
-{
-    JenwylltSheet {
-        number: 0,
-        place: 0,
-        pass: header.pass,
-        width: header.width as u64,
-        height: header.height as u64,
-        spans: header.spans as u64,
-        boundaries: header.boundaries as u64,
-        anchors: header.anchors as u64,
+impl From<Result<Header, Refusal>> for JenwylltSheet {
+    ghost from_gives = { λ given answer. answer ≡ sheet_in (by_number given) };
+
+    fn from(given: Result<Header, Refusal>) -> JenwylltSheet {
+        match given {
+            Ok(header) => JenwylltSheet {
+                number: 0,
+                place: 0,
+                pass: header.pass,
+                width: header.width as u64,
+                height: header.height as u64,
+                spans: header.spans as u64,
+                boundaries: header.boundaries as u64,
+                anchors: header.anchors as u64,
+            },
+            Err(refusal) => JenwylltSheet {
+                number: refusal.cause.number(),
+                place: refusal.place as u64,
+                pass: 0,
+                width: 0,
+                height: 0,
+                spans: 0,
+                boundaries: 0,
+                anchors: 0,
+            },
+        }
     }
 }
 
-fn refused(refusal: Refusal) -> JenwylltSheet
-    ensures { result ≡ sheet_in (Err (refusal_of refusal)) }
-{
-    JenwylltSheet {
-        number: refusal.cause.number(),
-        place: refusal.place as u64,
-        pass: 0,
-        width: 0,
-        height: 0,
-        spans: 0,
-        boundaries: 0,
-        anchors: 0,
-    }
-}
-
-// Kept: flat lists, which the C interface needs.
 pub fn jenwyllt_read_sheet(
     bytes: &[u8],
     cells: &mut [u8],
@@ -98,10 +87,7 @@ pub fn jenwyllt_read_sheet(
         (length boundaries.old) (length anchors.old)) cells.old spans.old boundaries.old
         anchors.old result cells.new spans.new boundaries.new anchors.new }
 {
-    match read_sheet(bytes, cells, spans, boundaries, anchors) {
-        Ok(header) => opened(header),
-        Err(refusal) => refused(refusal),
-    }
+    JenwylltSheet::from(read_sheet(bytes, cells, spans, boundaries, anchors))
 }
 
 // Number 0 and the root, or number 13, the refusal, and 0.
@@ -112,16 +98,24 @@ pub struct Outcome {
     pub value: f64,
 }
 
+impl From<Option<f64>> for Outcome {
+    ghost from_gives = { λ root outcome. (outcome.number ≡ number_of root) × (outcome.value ≡ value_of root) };
+
+    fn from(root: Option<f64>) -> Outcome {
+        match root {
+            Some(value) => Outcome { number: 0, value },
+            None => Outcome {
+                number: Cause::Range.number(),
+                value: 0.0,
+            },
+        }
+    }
+}
+
 pub fn jenwyllt_hypotenuse(x: f64, y: f64) -> Outcome
     ensures { (result.number ≡ hypot_number x y) × (result.value ≡ hypot_value x y) }
 {
-    match hypotenuse(x, y) {
-        Some(value) => Outcome { number: 0, value },
-        None => Outcome {
-            number: 13,
-            value: 0.0,
-        },
-    }
+    Outcome::from(hypotenuse(x, y))
 }
 
 // The value alone, for a caller whose arguments are in range.

@@ -6,6 +6,7 @@ ghost use Rattle.std.specs.Prelude.{length, ◌≡◌};
 ghost use Rattle.definitions.specs.Sheet.{read_verdict};
 ghost use Rattle.definitions.specs.Hypotenuse.{hypot_number, hypot_value};
 
+use areas::lists::PartitionLists;
 use jenwyllt::{JenwylltSheet, Outcome};
 use refusals::answers::Answer;
 
@@ -25,9 +26,14 @@ pub extern "C" fn jenwyllt_partition(
         queue.old tallies.old pairs.old) result
         labels.new masks.new queue.new tallies.new pairs.new }
 {
-    jenwyllt::jenwyllt_partition(
-        width, height, cells, spans, labels, masks, queue, tallies, pairs,
-    )
+    let mut lists = PartitionLists {
+        labels,
+        masks,
+        queue,
+        tallies,
+        pairs,
+    };
+    jenwyllt::jenwyllt_partition(width, height, cells, spans, &mut lists)
 }
 
 #[unsafe(no_mangle)]

@@ -10,6 +10,7 @@ ghost use Rattle.report_figures.specs.Forms.{report_form};
 ghost use Rattle.topology.specs.Reports.{ReportedOver};
 ghost use Rattle.topology.specs.Rest.{rest_answer, RestRanOver};
 ghost use Rattle.topology.specs.Desks.{desk_of, RanBothOver};
+ghost use Rattle.jenwyllt_c.specs.Lending.{lends, leaves};
 
 use areas::lists::PartitionLists;
 use call_partition::asked::Asked;
@@ -43,31 +44,10 @@ pub extern "C" fn jenwyllt_runner_and_guard(
     verdicts: &mut [u32],
 ) -> GameAnswer
     ensures { PlayedOver pass
-        (record {
-          width = width;
-          height = height;
-          cells = cells.now;
-          spans = spans.now;
-          boundaries = boundaries.now;
-          anchors = anchors.now;
-          labels = labels.old;
-          masks = masks.old;
-          queue = queue.old;
-          tallies = tallies.old;
-          pairs = pairs.old;
-          records = records.old;
-          output = output.old;
-        })
+        (lends width height cells.now spans.now boundaries.now anchors.now labels.old masks.old queue.old
+        tallies.old pairs.old records.old output.old)
         goal verdicts.old (game_answer result)
-        (record {
-          labels = labels.new;
-          masks = masks.new;
-          queue = queue.new;
-          tallies = tallies.new;
-          pairs = pairs.new;
-          records = records.new;
-          output = output.new;
-        })
+        (leaves labels.new masks.new queue.new tallies.new pairs.new records.new output.new)
         verdicts.new }
 {
     let asked = Asked {
@@ -109,31 +89,10 @@ pub extern "C" fn jenwyllt_kept_boundaries(
     output: &mut [u64],
 ) -> Answer
     ensures { RanOver pass
-        (record {
-          width = width;
-          height = height;
-          cells = cells.now;
-          spans = spans.now;
-          boundaries = boundaries.now;
-          anchors = anchors.now;
-          labels = labels.old;
-          masks = masks.old;
-          queue = queue.old;
-          tallies = tallies.old;
-          pairs = pairs.old;
-          records = records.old;
-          output = output.old;
-        })
+        (lends width height cells.now spans.now boundaries.now anchors.now labels.old masks.old queue.old
+        tallies.old pairs.old records.old output.old)
         (answer_in result)
-        (record {
-          labels = labels.new;
-          masks = masks.new;
-          queue = queue.new;
-          tallies = tallies.new;
-          pairs = pairs.new;
-          records = records.new;
-          output = output.new;
-        }) }
+        (leaves labels.new masks.new queue.new tallies.new pairs.new records.new output.new) }
 {
     let asked = Asked {
         width,
@@ -173,31 +132,10 @@ pub extern "C" fn jenwyllt_ranked_junctions(
     ranked: &mut [u32],
 ) -> RankedAnswer
     ensures { RankedOver
-        (record {
-          width = width;
-          height = height;
-          cells = cells.now;
-          spans = spans.now;
-          boundaries = boundaries.now;
-          anchors = anchors.now;
-          labels = labels.old;
-          masks = masks.old;
-          queue = queue.old;
-          tallies = tallies.old;
-          pairs = pairs.old;
-          records = records.old;
-          output = output.old;
-        })
+        (lends width height cells.now spans.now boundaries.now anchors.now labels.old masks.old queue.old
+        tallies.old pairs.old records.old output.old)
         ranked.old (ranked_form result)
-        (record {
-          labels = labels.new;
-          masks = masks.new;
-          queue = queue.new;
-          tallies = tallies.new;
-          pairs = pairs.new;
-          records = records.new;
-          output = output.new;
-        })
+        (leaves labels.new masks.new queue.new tallies.new pairs.new records.new output.new)
         ranked.new }
 {
     let asked = Asked {
@@ -238,31 +176,10 @@ pub extern "C" fn jenwyllt_report_run(
     output: &mut [u64],
 ) -> Reported
     ensures { ReportedOver (report_form report) pass
-        (record {
-          width = width;
-          height = height;
-          cells = cells.now;
-          spans = spans.now;
-          boundaries = boundaries.now;
-          anchors = anchors.now;
-          labels = labels.old;
-          masks = masks.old;
-          queue = queue.old;
-          tallies = tallies.old;
-          pairs = pairs.old;
-          records = records.old;
-          output = output.old;
-        })
+        (lends width height cells.now spans.now boundaries.now anchors.now labels.old masks.old queue.old
+        tallies.old pairs.old records.old output.old)
         result
-        (record {
-          labels = labels.new;
-          masks = masks.new;
-          queue = queue.new;
-          tallies = tallies.new;
-          pairs = pairs.new;
-          records = records.new;
-          output = output.new;
-        }) }
+        (leaves labels.new masks.new queue.new tallies.new pairs.new records.new output.new) }
 {
     let asked = Asked {
         width,
@@ -300,31 +217,10 @@ pub extern "C" fn jenwyllt_run_to_rest(
     output: &mut [u64],
 ) -> RestAnswer
     ensures { RestRanOver
-        (record {
-          width = width;
-          height = height;
-          cells = cells.now;
-          spans = spans.now;
-          boundaries = boundaries.now;
-          anchors = anchors.now;
-          labels = labels.old;
-          masks = masks.old;
-          queue = queue.old;
-          tallies = tallies.old;
-          pairs = pairs.old;
-          records = records.old;
-          output = output.old;
-        })
+        (lends width height cells.now spans.now boundaries.now anchors.now labels.old masks.old queue.old
+        tallies.old pairs.old records.old output.old)
         (rest_answer result)
-        (record {
-          labels = labels.new;
-          masks = masks.new;
-          queue = queue.new;
-          tallies = tallies.new;
-          pairs = pairs.new;
-          records = records.new;
-          output = output.new;
-        }) }
+        (leaves labels.new masks.new queue.new tallies.new pairs.new records.new output.new) }
 {
     let asked = Asked {
         width,

@@ -19,10 +19,8 @@ const BYTES: usize = 65537;
 fn length_of(opening: &[u8; 3]) -> usize
     ensures { result ≤ 65537 }
 {
-    let length = usize::from(opening[0])
-        + 256 * usize::from(opening[1])
-        + 65536 * usize::from(opening[2]);
-    length.min(BYTES)
+    let [low, middle, high] = *opening;
+    (u32::from_le_bytes([low, middle, high, 0]) as usize).min(BYTES)
 }
 
 // Reads a sheet as long as the list, and writes what is printed for it.

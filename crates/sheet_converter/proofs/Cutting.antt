@@ -15,9 +15,8 @@ use Rattle.definitions.specs.Sheet.{give, kind, has_spans, plain_cell_limit}
 use Rattle.laws.specs.ListLaws.Lists.{done, more, all_split}
 use Rattle.results.specs.Shortest.{shortest_within, shortest, list_bytes}
 use Rattle.sheet.specs.declared.Plan.{Plan}
-use Rattle.sheet.specs.declared.Heading.{Heading}
 use Rattle.sheet.specs.declared.Extent.{Extent}
-use Rattle.sheet.specs.Parts.{opening, sides, part_of, cells_in, sheet_of, SheetHeld}
+use Rattle.sheet.specs.Parts.{kind_number, Opening, opening, sides, part_of, cells_in, sheet_of, SheetHeld}
 use Rattle.map_sheets.specs.SheetBytes.{spans_bytes, sheet_bytes}
 use Rattle.sheets_equal.specs.NumberBytes.{Bytes}
 use Rattle.sheets_equal.proofs.ReaderBytes.{Reads, reads-number, reads-give, reads_then, reads-check-then, reads_times}
@@ -35,9 +34,9 @@ bytes-known (x ∷ l) h = more (h 0) (bytes-known l (λ i. h (suc i)))
 reads-opening : Reads [] opening (λ o. shortest o.kind ++ shortest o.pass)
 unfolding opening
 reads-opening =
-    reads_then [] kind _ shortest (λ (o : Heading). shortest o.kind ++ shortest o.pass) reads-kind
-    (λ written. reads_then _ number _ shortest (λ (o : Heading). shortest o.kind ++ shortest o.pass) reads-number
-    (λ pass. reads-give _ (λ (o : Heading). shortest o.kind ++ shortest o.pass) (record { kind = written; pass = pass }) refl))
+    reads_then [] kind _ shortest (λ (o : Opening). shortest o.kind ++ shortest o.pass) reads-kind
+    (λ written. reads_then _ number _ shortest (λ (o : Opening). shortest o.kind ++ shortest o.pass) reads-number
+    (λ pass. reads-give _ (λ (o : Opening). shortest o.kind ++ shortest o.pass) (record { kind = written; pass = pass }) refl))
 
 reads-sides : (limit : ℕ) → Reads [] (sides limit) (λ e. shortest e.width ++ shortest e.height)
 unfolding sides
@@ -59,7 +58,7 @@ as_sheet k p w h c s n z = simp append_assoc refl
 as_new : (k p w h c n z : List ℕ) → k ++ (p ++ (w ++ (h ++ c))) ++ (n ++ z) ≡ k ++ p ++ w ++ h ++ c ++ [] ++ n ++ z
 as_new k p w h c n z = simp append_assoc refl
 
-module _ {bytes : List ℕ} {plan : Plan} (B : Bytes bytes) (S : SheetHeld plain_cell_limit bytes plan) (k : plan.kind ≡ 1) where
+module _ {bytes : List ℕ} {plan : Plan} (B : Bytes bytes) (S : SheetHeld plain_cell_limit bytes plan) (k : kind_number plan.kind ≡ 1) where
   front : ℕ
   front = plan.parts.front
 
@@ -71,14 +70,14 @@ module _ {bytes : List ℕ} {plan : Plan} (B : Bytes bytes) (S : SheetHeld plain
   middle = shortest plan.pass ++ (shortest plan.width ++ (shortest plan.height ++ concat_map shortest (cells_in bytes plan.parts)))
 
   spans : List ℕ
-  spans = spans_bytes (has_spans plan.kind) (part_of bytes plan.parts.spans)
+  spans = spans_bytes (has_spans (kind_number plan.kind)) (part_of bytes plan.parts.spans)
 
   -- behind them
   lists : List ℕ
   lists = list_bytes numbers_per_boundary (part_of bytes plan.parts.boundaries) ++ list_bytes numbers_per_anchor (part_of bytes plan.parts.anchors)
 
   record Split : Type 0 where
-    pub whole : bytes ≡ shortest plan.kind ++ (middle ++ drop front bytes)
+    pub whole : bytes ≡ shortest (kind_number plan.kind) ++ (middle ++ drop front bytes)
     pub cut : drop front bytes ≡ spans ++ drop back bytes
 
   split : Split
@@ -87,25 +86,25 @@ module _ {bytes : List ℕ} {plan : Plan} (B : Bytes bytes) (S : SheetHeld plain
       let T = S.stands in
       let o₁ = T.behind-pass in
       let o₂ = T.cells_first in
-      let e₁ : bytes ≡ shortest plan.kind ++ shortest plan.pass ++ drop o₁ bytes = reads-opening.whole 0 bytes B T.opened in
-      let B₁ = (all_split (shortest plan.kind ++ shortest plan.pass) (subst Bytes e₁ B)).1 in
+      let e₁ : bytes ≡ shortest (kind_number plan.kind) ++ shortest plan.pass ++ drop o₁ bytes = reads-opening.whole 0 bytes B T.opened in
+      let B₁ = (all_split (shortest (kind_number plan.kind) ++ shortest plan.pass) (subst Bytes e₁ B)).1 in
       let e₂ : drop o₁ bytes ≡ shortest plan.width ++ shortest plan.height ++ drop o₂ bytes = (reads-sides plain_cell_limit).whole o₁ (drop o₁ bytes) B₁ T.sided in
       let B₂ = (all_split (shortest plan.width ++ shortest plan.height) (subst Bytes e₂ B₁)).1 in
       let cells = cells_in bytes plan.parts in
       let e₃ : drop o₂ bytes ≡ concat_map shortest cells ++ drop front bytes =
       (reads_times _ shortest reads-cell (plan.width * plan.height)).whole o₂ (drop o₂ bytes) B₂ T.spans_stand.cells-end in
       let B₃ = (all_split (concat_map shortest cells) (subst Bytes e₃ B₂)).1 in
-      let e₄ = (reads-spans (has_spans plan.kind)).whole front (drop front bytes) B₃ T.spans_stand.spans-end in
+      let e₄ = (reads-spans (has_spans (kind_number plan.kind))).whole front (drop front bytes) B₃ T.spans_stand.spans-end in
       record {
         whole =
             e₁
-            ∙ ap (λ l. shortest plan.kind ++ shortest plan.pass ++ l) (e₂ ∙ ap (λ l. shortest plan.width ++ shortest plan.height ++ l) e₃)
-            ∙ as_parts (shortest plan.kind) (shortest plan.pass) (shortest plan.width) (shortest plan.height) (concat_map shortest cells) (drop front bytes);
+            ∙ ap (λ l. shortest (kind_number plan.kind) ++ shortest plan.pass ++ l) (e₂ ∙ ap (λ l. shortest plan.width ++ shortest plan.height ++ l) e₃)
+            ∙ as_parts (shortest (kind_number plan.kind)) (shortest plan.pass) (shortest plan.width) (shortest plan.height) (concat_map shortest cells) (drop front bytes);
         cut = e₄;
       }
 
   -- kind 1 is one byte
-  one_byte : shortest plan.kind ≡ 1 ∷ []
+  one_byte : shortest (kind_number plan.kind) ≡ 1 ∷ []
   unfolding shortest shortest_within
   one_byte = ap shortest k
 
@@ -123,23 +122,23 @@ module _ {bytes : List ℕ} {plan : Plan} (B : Bytes bytes) (S : SheetHeld plain
       omega (arith, S.stands.spans_stand.cells-inside, S.stands.spans_stand.spans-inside, ap length split.cut, length-append spans (drop back bytes), length-drop front bytes, length-drop back bytes)
 
   -- what the sheet states, written, is the bytes
-  stated : bytes ≡ shortest plan.kind ++ (middle ++ (spans ++ lists))
+  stated : bytes ≡ shortest (kind_number plan.kind) ++ (middle ++ (spans ++ lists))
   unfolding middle spans lists sheet_bytes kind_of
   stated =
       read-written plain_cell_limit bytes B S.same
       ∙ ap (λ n. sheet_bytes n (sheet_of bytes plan)) (opening-number bytes S.stands.opened)
-      ∙ as_sheet (shortest plan.kind) (shortest plan.pass) (shortest plan.width) (shortest plan.height) (concat_map shortest (cells_in bytes plan.parts))
-      (spans_bytes (has_spans plan.kind) (sheet_of bytes plan).spans) (list_bytes numbers_per_boundary (part_of bytes plan.parts.boundaries))
+      ∙ as_sheet (shortest (kind_number plan.kind)) (shortest plan.pass) (shortest plan.width) (shortest plan.height) (concat_map shortest (cells_in bytes plan.parts))
+      (spans_bytes (has_spans (kind_number plan.kind)) (sheet_of bytes plan).spans) (list_bytes numbers_per_boundary (part_of bytes plan.parts.boundaries))
       (list_bytes numbers_per_anchor (part_of bytes plan.parts.anchors))
-      ∙ ap (λ l. shortest plan.kind ++ (middle ++ (l ++ lists))) same_spans
+      ∙ ap (λ l. shortest (kind_number plan.kind) ++ (middle ++ (l ++ lists))) same_spans
     where
-      same_spans : spans_bytes (has_spans plan.kind) (sheet_of bytes plan).spans ≡ spans
+      same_spans : spans_bytes (has_spans (kind_number plan.kind)) (sheet_of bytes plan).spans ≡ spans
       same_spans = rw k refl
 
   -- so behind the spans stand the other lists
   behind : drop back bytes ≡ lists
   behind =
-      let x = shortest plan.kind in
+      let x = shortest (kind_number plan.kind) in
       let both : x ++ (middle ++ (spans ++ drop back bytes)) ≡ x ++ (middle ++ (spans ++ lists)) =
       ap (λ l. x ++ (middle ++ l)) (sym split.cut) ∙ sym split.whole ∙ stated in
       let one = sym (drop-append_seam x (middle ++ (spans ++ drop back bytes))) ∙ ap (drop (length x)) both ∙ drop-append_seam x (middle ++ (spans ++ lists)) in

@@ -8,8 +8,7 @@ use borrow.Author.Tests.{eqb-true, not-false}
 use Rattle.definitions.specs.SheetNumber.{Read, found, failed, number}
 use Rattle.definitions.specs.Sheet.{give, and_then, judged, is_map_kind, kind, Reading, refused, read_sheet, plain_cell_limit}
 use Rattle.laws.specs.SheetReading.SheetLaws.{not_found}
-use Rattle.sheet.specs.Parts.{opening}
-use Rattle.sheet.specs.declared.Heading.{Heading}
+use Rattle.sheet.specs.Parts.{Opening, opening}
 use Rattle.map_sheets.specs.Converting.{of_kind1, read_kind1}
 use Rattle.sheets_equal.proofs.ReaderBytes.{judged_is}
 use Rattle.sheets_equal.proofs.SheetsEqual.{kind_in}
@@ -43,14 +42,14 @@ read_same bytes h = by_kind (number 0 bytes) (read_sheet plain_cell_limit bytes)
 
 -- ---- the kind that was found
 
-pub opening-number : (bytes : List ℕ) {o : Heading} {at : ℕ} {rest : List ℕ} → opening 0 bytes ≡ found o at rest → kind_in (number 0 bytes) ≡ o.kind
+pub opening-number : (bytes : List ℕ) {o : Opening} {at : ℕ} {rest : List ℕ} → opening 0 bytes ≡ found o at rest → kind_in (number 0 bytes) ≡ o.kind
 unfolding opening kind
 opening-number bytes {o} {at} {rest} h = outer (kind 0 bytes) refl h
   where
     inner : (written : ℕ) (r : Read ℕ) → and_then r (λ pass. give (record { kind = written; pass = pass })) ≡ found o at rest → written ≡ o.kind
     inner written (found pass next more) q =
         let same : record { kind = written; pass = pass } ≡ o = cc in
-        ap (λ (p : Heading). p.kind) same
+        ap (λ (p : Opening). p.kind) same
     inner written (failed refusal place) q = absurd (not_found q)
 
     outer : (r : Read ℕ) → kind 0 bytes ≡ r
@@ -58,7 +57,7 @@ opening-number bytes {o} {at} {rest} h = outer (kind 0 bytes) refl h
     outer (found written next more) e q = ap kind_in (judged_is is_map_kind 0 bytes e).0 ∙ inner written (number next more) q
     outer (failed refusal place) e q = absurd (not_found q)
 
-pub opened_1 : (bytes : List ℕ) {o : Heading} {at : ℕ} {rest : List ℕ} → opening 0 bytes ≡ found o at rest → is_other (number 0 bytes) ≡ false → o.kind ≡ 1
+pub opened_1 : (bytes : List ℕ) {o : Opening} {at : ℕ} {rest : List ℕ} → opening 0 bytes ≡ found o at rest → is_other (number 0 bytes) ≡ false → o.kind ≡ 1
 unfolding opening kind judged
 opened_1 bytes {o} {at} {rest} h n = go (number 0 bytes) refl
   where

@@ -16,7 +16,7 @@ use Rattle.laws.specs.SheetReading.Endpoints.{endpoints-long}
 use Rattle.sheet.specs.declared.Part.{Part}
 use Rattle.sheet.specs.declared.Plan.{Plan}
 use Rattle.sheet.specs.Numbers.{Held}
-use Rattle.sheet.specs.Parts.{part_of, cells_in, sheet_of, SheetHeld}
+use Rattle.sheet.specs.Parts.{kind_number, part_of, cells_in, sheet_of, SheetHeld}
 use Rattle.sheet.proofs.Filling.{held-length}
 use Rattle.sheet_converter.specs.Contract.{map_refusal, refusal_for}
 
@@ -31,7 +31,7 @@ pub record PlanFits (plan : Plan) : Type 0 where
   pub boundaries : plan.parts.boundaries.count ≤ 2304
   pub anchors : plan.parts.anchors.count ≤ 512
 
-pub plan-fits : {bytes : List ℕ} {plan : Plan} → SheetHeld plain_cell_limit bytes plan → plan.kind ≡ 1 → PlanFits plan
+pub plan-fits : {bytes : List ℕ} {plan : Plan} → SheetHeld plain_cell_limit bytes plan → kind_number plan.kind ≡ 1 → PlanFits plan
 plan-fits {bytes} {plan} S k =
     let Z = sized plain_cell_limit bytes S.same in
     let parts = plan.parts in
@@ -52,7 +52,7 @@ part-taken bytes part {filled} old H e =
     ap (λ n. take n filled) (sym (held-length H)) ∙ ap (take (length l)) e ∙ take-append_seam l (drop (length l) old)
 
 -- so the checks are of what the sheet states
-pub checks_same : (bytes : List ℕ) (plan : Plan) → plan.kind ≡ 1 → {spans boundaries anchors : List ℕ} {o : Option Refusal}
+pub checks_same : (bytes : List ℕ) (plan : Plan) → kind_number plan.kind ≡ 1 → {spans boundaries anchors : List ℕ} {o : Option Refusal}
     → spans ≡ part_of bytes plan.parts.spans → boundaries ≡ part_of bytes plan.parts.boundaries → anchors ≡ part_of bytes plan.parts.anchors
     → o ≡ map_refusal plan.pass plan.width plan.height (cells_in bytes plan.parts) spans boundaries anchors → o ≡ refusal_for (sheet_of bytes plan)
 checks_same bytes plan k {spans} {boundaries} {anchors} a b c e =

@@ -10,9 +10,9 @@ ghost use Rattle.definitions.specs.Refusals.{elevations_fault};
 ghost use Rattle.definitions.specs.Sheet.{cell, endpoints_of, plain_cell_limit};
 ghost use Rattle.refusals.specs.Refusals.{refusal_in};
 ghost use Rattle.sheet.specs.Numbers.{Held, values_at};
-ghost use Rattle.sheet.specs.Parts.{cells_in, sheet_of, SheetHeld};
+ghost use Rattle.sheet.specs.Parts.{kind_number, cells_in, sheet_of, SheetHeld};
 ghost use Rattle.byte_writer.specs.Contract.{Put};
-ghost use Rattle.refusals.specs.Answers.{answer_in};
+ghost use Rattle.refusals.specs.Answers.{answer_in, answer_of};
 ghost use Rattle.map_sheets.specs.Converting.{same_numbers, Converts};
 ghost use Rattle.sheet_converter.specs.Contract.{is_other, lists_refusal, map_refusal, refusal_for, Cut, cut_out, ConvertsPlan};
 
@@ -36,10 +36,7 @@ use sheet::{
 fn is_other_kind(bytes: &[u8]) -> bool
     ensures { result ≡ is_other (grammar.number 0 bytes.now) }
 {
-    match number_at(bytes, 0) {
-        Ok(kind) => kind.value != 1,
-        Err(_) => false,
-    }
+    number_at(bytes, 0).is_ok_and(|kind| kind.value != 1)
 }
 
 // ---- the checks
@@ -66,7 +63,7 @@ fn cells_fault(bytes: &[u8], at: usize, count: usize) -> Option<usize>
     ensures { result ≡ elevations_fault (values_at cell bytes.now at count) }
 {
     let mut next = at;
-    // Kept: where a cell stands shows only once the one before it is read, so that a chain would carry the place beside the count.
+    // Kept: where a cell stands shows only once the one before it is read: a chain would carry the place in a closure, of which nothing is known behind it.
     for i in 0..count {
         let Ok(read) = item(bytes, next, CELL_MOST) else {
             return None;
@@ -110,8 +107,7 @@ fn map_check(
     let width = plan.width as u64;
     let height = plan.height as u64;
     lists_check(width, height, spans, boundaries, anchors)?;
-    let parts = plan.parts;
-    let cells = parts.cells;
+    let cells = plan.parts.cells;
     no_fault(
         cells_fault(bytes, cells.first, cells.count),
         Cause::Elevation,
@@ -122,28 +118,24 @@ fn map_check(
 // The same, with the lists stored in arrays of their own.
 fn plan_check(bytes: &[u8], plan: Plan) -> Result<(), Refusal>
     requires held { SheetHeld plain_cell_limit bytes.now plan }
-    requires old { plan.kind ≡ 1 }
+    requires old { kind_number plan.kind ≡ 1 }
     ensures { refusal_in result ≡ refusal_for (sheet_of bytes.now plan) }
 {
     let mut spans = [0u64; 1024];
     let mut boundaries = [0u64; 2304];
     let mut anchors = [0u64; 512];
-    let parts = plan.parts;
-    let b = parts.spans;
-    let c = parts.boundaries;
-    let d = parts.anchors;
+    let b = plan.parts.spans;
+    let c = plan.parts.boundaries;
+    let d = plan.parts.anchors;
     fill_numbers(bytes, b.first, b.count, &mut spans);
     fill_numbers(bytes, c.first, c.count, &mut boundaries);
     fill_numbers(bytes, d.first, d.count, &mut anchors);
-    let spans_end = b.count;
-    let boundaries_end = c.count;
-    let anchors_end = d.count;
     map_check(
         bytes,
         plan,
-        &spans[..spans_end],
-        &boundaries[..boundaries_end],
-        &anchors[..anchors_end],
+        &spans[..b.count],
+        &boundaries[..c.count],
+        &anchors[..d.count],
     )
 }
 
@@ -163,37 +155,41 @@ fn put_converted(bytes: &[u8], front: usize, back: usize, out: &mut [u8]) -> usi
     writer.at
 }
 
-// Converts a sheet that was judged before.
-fn convert_plan(bytes: &[u8], plan: Plan, out: &mut [u8]) -> Answer
+// Converts a sheet that was judged before, and gives how many bytes the new one has.
+fn convert_plan(bytes: &[u8], plan: Plan, out: &mut [u8]) -> Result<usize, Refusal>
     requires held { SheetHeld plain_cell_limit bytes.now plan }
-    requires old { plan.kind ≡ 1 }
-    ensures { ConvertsPlan bytes.now plan out.old (answer_in result) out.new }
+    requires old { kind_number plan.kind ≡ 1 }
+    ensures { ConvertsPlan bytes.now plan out.old (answer_of result) out.new }
 {
-    if let Err(refusal) = plan_check(bytes, plan) {
-        return Answer::from(refusal);
-    }
-    let parts = plan.parts;
-    let front = parts.front;
-    let back = parts.back;
+    plan_check(bytes, plan)?;
+    let front = plan.parts.front;
+    let back = plan.parts.back;
     if out.len() < front + (bytes.len() - back) {
-        return Answer::from(Cause::Room);
+        return Err(Refusal {
+            cause: Cause::Room,
+            place: 0,
+        });
     }
-    let size = put_converted(bytes, front, back, out);
-    Answer {
-        number: 0,
-        value: size as u64,
-    }
+    Ok(put_converted(bytes, front, back, out))
 }
 
-// Converts a sheet of kind 1 to kind 3. For other languages too: include/jenwyllt.h declares it as jenwyllt_convert_sheet.
+// Converts a sheet of kind 1 to kind 3, and gives how many bytes it has then.
+fn convert(bytes: &[u8], out: &mut [u8]) -> Result<usize, Refusal>
+    ensures { Converts bytes.now out.old (answer_of result) out.new }
+{
+    if is_other_kind(bytes) {
+        return Err(Refusal {
+            cause: Cause::Sheet,
+            place: 0,
+        });
+    }
+    let plan = judge_sheet(bytes, PLAIN_CELL_LIMIT)?;
+    convert_plan(bytes, plan, out)
+}
+
+// For other languages too: include/jenwyllt.h declares it as jenwyllt_convert_sheet.
 pub fn sheet_converter_convert_sheet(bytes: &[u8], out: &mut [u8]) -> Answer
     ensures { Converts bytes.now out.old (answer_in result) out.new }
 {
-    if is_other_kind(bytes) {
-        return Answer::from(Cause::Sheet);
-    }
-    match judge_sheet(bytes, PLAIN_CELL_LIMIT) {
-        Ok(plan) => convert_plan(bytes, plan, out),
-        Err(refusal) => Answer::from(refusal),
-    }
+    Answer::from(convert(bytes, out))
 }

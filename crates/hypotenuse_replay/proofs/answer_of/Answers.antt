@@ -27,6 +27,6 @@ returns-in-Some c = (
 pub returns-in-None : goal.returns-in-None
 unfolding to_bits number_of_bits root_of_bits
 returns-in-None c = (
-  c.in-None.ensures.0 ∙ (λ i. hypot_number (c.double.ensures i) (c.double-2.ensures i)),
+  c.number.ensures ∙ c.in-None.ensures.0 ∙ (λ i. hypot_number (c.double.ensures i) (c.double-2.ensures i)),
   ap (to_bits binary64) (c.in-None.ensures.1 ∙ (λ i. hypot_value (c.double.ensures i) (c.double-2.ensures i))),
 )

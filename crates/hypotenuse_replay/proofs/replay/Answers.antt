@@ -8,7 +8,7 @@ use lib.Seq.{drop-length}
 use Rattle.hypotenuse_replay.specs.Lines.{part, lines_in, answers_in}
 use Rattle.hypotenuse_replay.proofs.Replayed.{at_end, within}
 use Rattle.hypotenuse_replay.proofs.replay.Goals as goal
-use Rattle.hypotenuse_replay.proofs.replay.Goals.{then-s-i-eq-NEWLINE+in_ok-answers, else-s-i-eq-NEWLINE}
+use Rattle.hypotenuse_replay.proofs.replay.Goals.{then-b-eq-NEWLINE+in_ok-answers, else-b-eq-NEWLINE}
 
 sum_is : (b a n t : ℕ) → b ≡ a + n → n ≡ t → b ≡ a + t
 sum_is b a n t e f = omega arith
@@ -18,11 +18,11 @@ loop-i-preserved g c =
     let l = c.loop-i in
     let s = c.args.s.now in
     let h = c.loop-i-test.true in
-    let r = c.if-s-i-eq-NEWLINE in
-    elim c.if-s-i-eq-NEWLINE.branch [
-      | then-s-i-eq-NEWLINE+in_ok-answers w ↦
-          at_end s _ _ l.lines l.answers l.start l.i l.invariant h w.if-s-i-eq-NEWLINE.true r.lines r.answers r.start w.lines-is (sum_is _ _ _ _ w.answers-is w.in_ok-answers.ensures) w.start-is
-      | else-s-i-eq-NEWLINE w ↦ within s _ _ l.lines l.answers l.start l.i l.invariant h w.if-s-i-eq-NEWLINE.false r.lines r.answers r.start w.lines-is w.answers-is w.start-is
+    let r = c.if-b-eq-NEWLINE in
+    elim c.if-b-eq-NEWLINE.branch [
+      | then-b-eq-NEWLINE+in_ok-answers w ↦
+          at_end s _ _ l.lines l.answers l.start l.i l.invariant h w.if-b-eq-NEWLINE.true r.lines r.answers r.start w.lines-is (sum_is _ _ _ _ w.answers-is w.in_ok-answers.ensures) w.start-is
+      | else-b-eq-NEWLINE w ↦ within s _ _ l.lines l.answers l.start l.i l.invariant h w.if-b-eq-NEWLINE.false r.lines r.answers r.start w.lines-is w.answers-is w.start-is
     ]
 
 pub returns : goal.returns

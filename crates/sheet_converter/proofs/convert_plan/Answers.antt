@@ -1,5 +1,6 @@
 -- `sheet_converter::convert_plan` meets its contract: nothing is put before all checks and the room are known. Assumes nothing.
 use native.Mathlib.Omega.{arith}
+use Rattle.sheet.proofs.Passed.{passed}
 use Rattle.sheet_converter.proofs.Cutting.{bytes-known, cut_is, cut-long, cut-ordered, cut-known}
 use Rattle.sheet_converter.proofs.Answering.{plan-refused, plan-short, plan-put}
 use Rattle.sheet_converter.proofs.convert_plan.Goals as goal
@@ -8,9 +9,9 @@ pub plan_check-requires : goal.plan_check-requires
 plan_check-requires c =
     c.requires
 
-pub returns-in-Err : goal.returns-in-Err
-returns-in-Err c =
-    rw c.from.ensures (plan-refused c.args.bytes.now c.args.plan c.args.out.now c.in-Err.ensures)
+pub returns-in_err-plan_check : goal.returns-in_err-plan_check
+returns-in_err-plan_check c =
+    rw (passed _ c.from_residual.ensures.1) (plan-refused c.args.bytes.now c.args.plan c.args.out.now c.in_err-plan_check.ensures)
 
 pub overflow_sub-bytes : goal.overflow_sub-bytes
 overflow_sub-bytes c =
@@ -22,13 +23,13 @@ overflow_add-front c =
 
 pub returns-then-out-front : goal.returns-then-out-front
 returns-then-out-front c =
-    rw c.from-then-out-front.ensures (plan-short c.args.bytes.now c.args.plan c.args.out.now c.in_default.ensures (omega (arith, c.if-out-front.true, cut-long (bytes-known c.args.bytes.now (λ i. omega (arith, c.shared_slice_known-1.given i))) c.requires.held c.requires.old)))
+    (plan-short c.args.bytes.now c.args.plan c.args.out.now c.in_ok-plan_check.ensures (omega (arith, c.if-out-front.true, cut-long (bytes-known c.args.bytes.now (λ i. omega (arith, c.shared_slice_known-1.given i))) c.requires.held c.requires.old)))
 
-pub put_converted-size-requires : goal.put_converted-size-requires
-put_converted-size-requires c =
+pub put_converted-requires : goal.put_converted-requires
+put_converted-requires c =
     cut-known (bytes-known c.args.bytes.now (λ i. omega (arith, c.shared_slice_known-1.given i))) c.requires.held c.requires.old c.if-out-front.false
 
 pub returns : goal.returns
 returns c =
-    plan-put c.args.bytes.now c.args.plan c.args.out.now c.in_default.ensures
-    (omega (arith, c.if-out-front.false, cut-long (bytes-known c.args.bytes.now (λ i. omega (arith, c.shared_slice_known-1.given i))) c.requires.held c.requires.old)) (cut_is (bytes-known c.args.bytes.now (λ i. omega (arith, c.shared_slice_known-1.given i))) c.requires.held c.requires.old) c.put_converted-size.ensures
+    plan-put c.args.bytes.now c.args.plan c.args.out.now c.in_ok-plan_check.ensures
+    (omega (arith, c.if-out-front.false, cut-long (bytes-known c.args.bytes.now (λ i. omega (arith, c.shared_slice_known-1.given i))) c.requires.held c.requires.old)) (cut_is (bytes-known c.args.bytes.now (λ i. omega (arith, c.shared_slice_known-1.given i))) c.requires.held c.requires.old) c.put_converted.ensures
