@@ -76,11 +76,11 @@ returns c =
     let s = c.args in
     let t = s.taken.now in
     let end = kept_by_fold _ _ (Kept s.records.now s.context t.marks.now t.removed t.ramp_ends s.entries.now s.n) s.n _ None
-        (λ b x q r l u i w.
-        let better : Better s.records.now s.context t.marks.now t.removed t.ramp_ends s.entries.now s.n x b r = search rules in
-        let left : Left s.records.now s.context t.marks.now t.removed t.ramp_ends s.entries.now s.n b r = search rules in
-        let m = more s.records.now s.context t.marks.now t.removed t.ramp_ends s.entries.now s.n u i better left in
-        (search rules, m))
-        refl (omega arith) (start s.records.now s.context t.marks.now t.removed t.ramp_ends s.entries.now s.n) _ c.fold.ensures.ran
+    (λ b x q r l u i w.
+    let better : Better s.records.now s.context t.marks.now t.removed t.ramp_ends s.entries.now s.n x b r = search rules in
+    let left : Left s.records.now s.context t.marks.now t.removed t.ramp_ends s.entries.now s.n b r = search rules in
+    let m = more s.records.now s.context t.marks.now t.removed t.ramp_ends s.entries.now s.n u i better left in
+    (search rules, m))
+    refl (omega arith) (start s.records.now s.context t.marks.now t.removed t.ramp_ends s.entries.now s.n) _ c.fold.ensures.ran
     in
     record { least = end.1; left = end.0 }
