@@ -1,14 +1,14 @@
--- Steps joined one by one: what becomes of the bits when a step is added, when a pair is, and that all pairs give the steps of their graph. A pair whose numbers
--- are both regions joins regions only, so that asking the pair's numbers or the two regions comes to the same. Assumes nothing.
-use Prim.Native.Nat.{ℕ, zero, suc, ◌+◌, ◌*◌, ◌-◌, ◌%◌, ◌^◌, ◌≤◌, ◌<◌}
+-- Edges joined one by one give the steps of their graph. A pair whose numbers are both regions joins regions only, so that asking the pair's numbers or the two
+-- regions comes to the same. Assumes nothing.
+use Prim.Native.Nat.{ℕ, zero, suc, ◌+◌, ◌*◌, ◌%◌, ◌^◌, ◌≤◌, ◌<◌}
 use native.Mathlib.Omega.{arith}
 use mathlib.Core.Path.{◌≡◌, refl, sym, ap, ◌∙◌}
-use mathlib.Core.Bool.{Bool, true, false, ◌&&◌, ◌||◌, false≢true, or-false}
+use mathlib.Core.Bool.{Bool, true, false, ◌&&◌, ◌||◌, or-false}
 use mathlib.Core.List.{List}
 use lib.ListN.{length, set, length-set}
 use lib.Seq.{get_or-set_same, get_or-set_other}
 use lib.Dec.{eqb, leb}
-use borrow.Author.Tests.{eqb-true, eqb-false, eq-eqb, ne_eqb, leb-true}
+use borrow.Author.Tests.{eqb-true, eqb-false, leb-true}
 use Rattle.definitions.specs.Scan.{any_below_lem}
 use Rattle.definitions.specs.RegionRecord.{has_bit}
 use Rattle.laws.specs.ListLaws.Tests.{both, eqb_same}
@@ -19,36 +19,6 @@ use Rattle.game_search.specs.Edges.{graph_by}
 use Rattle.game_sets.specs.Words.{bit_at, Near}
 use Rattle.game_sets.proofs.Bits.{one_bit_is, shifted_one}
 
--- ---- one step
-
--- a number of the list is replaced: the bits of that number are the new one's, the others stay
-pub set-bit : (l : List ℕ) (a v : ℕ) → a < length l → (i j : ℕ) (p : Bool → Bool)
-    → (i ≡ a → has_bit v j ≡ p (bit_at l a j)) → ((i ≡ a → ⊥) → bit_at l i j ≡ p (bit_at l i j)) → bit_at (set l a v) i j ≡ p (bit_at l i j)
-set-bit l a v h i j p here there = go (eqb i a) refl
-  where
-    go : (b : Bool) → eqb i a ≡ b → bit_at (set l a v) i j ≡ p (bit_at l i j)
-    go true e =
-        let q = eqb-true i a e in
-        ap (λ k. bit_at (set l a v) k j) q ∙ ap (λ n. has_bit n j) (get_or-set_same l a v 0 h) ∙ here q ∙ ap (λ k. p (bit_at l k j)) (sym q)
-    go false e = ap (λ n. has_bit n j) (get_or-set_other l a i v 0 (eqb-false i a e)) ∙ there (eqb-false i a e)
-
-pub joined : (near : List ℕ) (a b v : ℕ) → a < length near → ((j : ℕ) → j < 32 → has_bit v j ≡ (bit_at near a j || eqb j b))
-    → (i j : ℕ) → j < 32 → bit_at (set near a v) i j ≡ (bit_at near i j || (eqb i a && eqb j b))
-joined near a b v h e i j l =
-    set-bit near a v h i j (λ t. t || (eqb i a && eqb j b)) (λ q. e j l ∙ ap (λ t. bit_at near a j || (t && eqb j b)) (sym (eq-eqb i a q)))
-    (λ q. sym (ap (λ t. bit_at near i j || (t && eqb j b)) (ne_eqb i a q) ∙ or-false (bit_at near i j)))
-
--- ---- a pair
-
-one_less : (p i : ℕ) → 1 ≤ p → eqb i (p - 1) ≡ eqb p (suc i)
-one_less p i h = eqb_same i (p - 1) p (suc i) ((λ e. omega arith), (λ e. omega arith))
-
-and_swap : (a b : Bool) → (a && b) ≡ (b && a)
-and_swap true true = refl
-and_swap true false = refl
-and_swap false true = refl
-and_swap false false = refl
-
 or_assoc : (a b c : Bool) → ((a || b) || c) ≡ (a || (b || c))
 or_assoc true b c = refl
 or_assoc false b c = refl
@@ -56,35 +26,9 @@ or_assoc false b c = refl
 pub region-parts : (regions d : ℕ) → is_region regions d ≡ true → (1 ≤ d) × (d ≤ regions)
 region-parts regions d h = (leb-true 1 d (both (leb 1 d) (leb d regions) h).0, leb-true d regions (both (leb 1 d) (leb d regions) h).1)
 
-pub both-regions : (regions p q : ℕ) → (is_region regions p && is_region regions q) ≡ true → ((1 ≤ p) × (p ≤ regions)) × ((1 ≤ q) × (q ≤ regions))
-both-regions regions p q h =
-    let k = both (is_region regions p) (is_region regions q) h in
-    (region-parts regions p k.0, region-parts regions q k.1)
+-- ---- all edges
 
--- steps both ways, where both are regions
-pub pair-joined : (regions p q : ℕ) (x : Bool) (i j : ℕ) → (is_region regions p && is_region regions q) ≡ true
-    → ((x || (eqb i (p - 1) && eqb j (q - 1))) || (eqb i (q - 1) && eqb j (p - 1))) ≡ (x || (is_region regions p && is_region regions q && joins p q (suc i) (suc j)))
-pair-joined regions p q x i j h =
-    let k = both (is_region regions p) (is_region regions q) h in
-    let one = (region-parts regions p k.0).0 in
-    let two = (region-parts regions q k.1).0 in
-    or_assoc x (eqb i (p - 1) && eqb j (q - 1)) (eqb i (q - 1) && eqb j (p - 1))
-    ∙ (λ m. x || ((one_less p i one m && one_less q j two m) || (one_less q i two m && one_less p j one m)))
-    ∙ ap (λ t. x || ((eqb p (suc i) && eqb q (suc j)) || t)) (and_swap (eqb q (suc i)) (eqb p (suc j)))
-    ∙ (λ m. x || (sym k.0 m && sym k.1 m && joins p q (suc i) (suc j)))
-
-pub pair_none : (regions p q : ℕ) (x : Bool) (i j : ℕ) → (is_region regions p && is_region regions q) ≡ false
-    → x ≡ (x || (is_region regions p && is_region regions q && joins p q (suc i) (suc j)))
-pair_none regions p q x i j h = sym (go (is_region regions p) (is_region regions q) h)
-  where
-    go : (a b : Bool) → (a && b) ≡ false → (x || (a && b && joins p q (suc i) (suc j))) ≡ x
-    go true true k = absurd (false≢true (sym k))
-    go true false k = or-false x
-    go false b k = or-false x
-
--- ---- all pairs
-
--- the step that pair k adds
+-- the step that edge k adds
 abbrev pub added : ℕ → (ℕ → ℕ) → (ℕ → ℕ) → ℕ → ℕ → ℕ → Bool
 added regions p q i j k = is_region regions (p k) && is_region regions (q k) && joins (p k) (q k) (suc i) (suc j)
 

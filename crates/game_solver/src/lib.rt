@@ -6,20 +6,21 @@ ghost use Rattle.std.specs.Prelude.{◌≡◌, List, ℕ, ◌*◌, ◌≤◌, le
 ghost use Rattle.definitions.specs.Limits.{numbers_per_pair};
 ghost use Rattle.definitions.specs.Lists.{overwrite};
 ghost use Rattle.game.specs.Graph.{graph_of, edges_in, max_game_regions, verdicts_room, place_count, solve_answer, verdict_numbers, Solves};
-ghost use Rattle.game_sets.specs.Words.{Near};
+ghost use Rattle.game_search.specs.Edges.{last_two};
 ghost use Rattle.refusals.specs.Answers.{answer_in, answer_of};
 
-use game_search::neighbours::{find_neighbours, find_row_neighbours};
+use definitions::limits::NUMBERS_PER_PAIR;
+use game_search::neighbours::find_neighbours;
 use game_search::search;
+use game_sets::board::{Board, MAX_REGIONS};
 use game_verdicts::put_verdicts;
 use refusals::answers::Answer;
 use refusals::{Cause, Refusal, ensure};
 
-const MAX_REGIONS: u64 = 32;
-
 const NUMBERS_PER_EDGE: usize = 2;
 
-const VERDICTS_ROOM: usize = 6144;
+// Room for the verdicts of the largest graph.
+pub const VERDICTS_ROOM: usize = 6144;
 
 // How many verdicts there are, or why the operation refuses.
 fn verdict(regions: u64, pairs: usize, goal: u64, room: usize) -> Result<usize, Refusal>
@@ -27,31 +28,40 @@ fn verdict(regions: u64, pairs: usize, goal: u64, room: usize) -> Result<usize, 
 {
     ensure(pairs % NUMBERS_PER_EDGE == 0, Cause::Entries)?;
     ensure(VERDICTS_ROOM <= room, Cause::Room)?;
-    ensure(regions <= MAX_REGIONS, Cause::Graph)?;
+    ensure(regions <= MAX_REGIONS as u64, Cause::Graph)?;
     ensure((1 <= goal) & (goal <= regions), Cause::Goal)?;
     Ok((2 * (regions * regions)) as usize)
 }
 
-// The verdicts of a graph of up to 32 regions, whose goal is one of them, by the steps from each region.
-fn judge(near: &[u32; 32], regions: usize, goal: usize, verdicts: &mut [u32])
-    requires { (regions ≤ max_game_regions) × (1 ≤ goal) × (goal ≤ regions) × (verdicts_room ≤ length verdicts.old) }
-    ensures { (pairs : List ℕ) → Near (graph_of regions pairs goal) near.now → verdicts.new
-        ≡ overwrite (verdict_numbers (graph_of regions pairs goal) (place_count regions)) verdicts.old }
+// The verdicts of a graph of up to 32 regions, whose edges are the last two numbers of each list and whose goal is one of its regions.
+fn solve_edges<const N: usize>(
+    regions: usize,
+    edges: &[[u32; N]],
+    goal: usize,
+    verdicts: &mut [u32],
+)
+    requires sizes { (regions ≤ max_game_regions) × (1 ≤ goal) × (goal ≤ regions) × (verdicts_room ≤ length verdicts.old) }
+    requires two { 2 ≤ N }
+    ensures { verdicts.new ≡ overwrite (verdict_numbers (last_two N regions edges.now goal) (place_count regions)) verdicts.old }
 {
+    let board = Board {
+        near: find_neighbours(regions, edges),
+        regions,
+        goal: goal - 1,
+    };
     let mut ranks = [0u32; 2048];
-    search(near, regions, goal - 1, &mut ranks);
-    put_verdicts(near, &ranks, regions, goal - 1, verdicts);
+    search(&board, &mut ranks);
+    put_verdicts(&board, &ranks, verdicts);
 }
 
-// The same of a graph of these pairs.
+// Those of a graph of these pairs.
 pub fn solve(regions: usize, pairs: &[u32], goal: usize, verdicts: &mut [u32])
     requires { (regions ≤ max_game_regions) × (1 ≤ goal) × (goal ≤ regions) × (verdicts_room ≤ length verdicts.old) }
     ensures { verdicts.new
         ≡ overwrite (verdict_numbers (graph_of regions pairs.now goal) (place_count regions)) verdicts.old }
 {
-    let mut near = [0u32; 32];
-    find_neighbours(regions, pairs, &mut near);
-    judge(&near, regions, goal, verdicts);
+    let (edges, _) = pairs.as_chunks::<NUMBERS_PER_EDGE>();
+    solve_edges(regions, edges, goal, verdicts);
 }
 
 // And of the graph of a map, whose first `count` rows of span, smaller and larger region are its pairs.
@@ -61,9 +71,8 @@ pub fn solve_rows(regions: usize, rows: &[u32], count: usize, goal: usize, verdi
     ensures { verdicts.new
         ≡ overwrite (verdict_numbers (graph_of regions (edges_in rows.now count) goal) (place_count regions)) verdicts.old }
 {
-    let mut near = [0u32; 32];
-    find_row_neighbours(regions, rows, count, &mut near);
-    judge(&near, regions, goal, verdicts);
+    let (edges, _) = rows.as_chunks::<NUMBERS_PER_PAIR>();
+    solve_edges(regions, &edges[..count], goal, verdicts);
 }
 
 // The verdicts, or why the operation refuses. Gives how many verdicts there are.

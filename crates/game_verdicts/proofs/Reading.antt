@@ -2,7 +2,7 @@
 use Prim.Native.Nat.{ℕ, zero, suc, ◌+◌, ◌-◌, ◌*◌, ◌/◌, ◌%◌, ◌≤◌, ◌<◌}
 use native.Mathlib.Omega.{arith}
 use native.Mathlib.Nat.{le_refl, mul-le-mul, div-lt_iff_lt-mul, mod-lt}
-use mathlib.Core.Path.{◌≡◌, refl, sym, ap, ap₂, ◌∙◌}
+use mathlib.Core.Path.{◌≡◌, refl, sym, ap, ap₂, subst, ◌∙◌}
 use mathlib.Core.Bool.{Bool, true, false, not, ◌&&◌, ◌||◌, cond, false≢true, beq}
 use mathlib.Core.List.{List, [], ◌∷◌, ◌++◌}
 use lib.ListN.{length, get_or, set, length-append}
@@ -19,7 +19,7 @@ use Rattle.game.specs.Search.{least_below}
 use Rattle.game.proofs.Sweeps.{Least, least_is}
 use Rattle.game.specs.Ranks.{is_found, serves_by, verdict_by}
 use Rattle.game.proofs.RankLaws.{verdict_by_lem}
-use Rattle.game.specs.Graph.{place_at, numbers_of, place_count, graph_of, verdict_numbers}
+use Rattle.game.specs.Graph.{place_at, numbers_of, place_count, verdict_numbers}
 use Rattle.game.proofs.EntryLaws.{numbers-length}
 use Rattle.game_sets.specs.Words.{bit_at, Near, Plays}
 use Rattle.game_search.specs.Words.{rank_place, rank_at, Ranked, at}
@@ -256,14 +256,6 @@ places-few regions h = omega (arith, square-few regions h)
 
 -- ---- a graph's verdicts
 
--- the graph of the pairs is a game of its steps
-pub graph_plays : (regions : ℕ) (pairs near : List ℕ) (goal : ℕ) → 1 ≤ goal → Near (graph_of regions pairs goal) near → Plays near regions (goal - 1) (graph_of regions pairs goal)
-unfolding graph_of
-graph_plays regions pairs near goal h n = record { regions_are = refl; goal_is = back-up; steps = n }
-  where
-    back-up : goal ≡ suc (goal - 1)
-    back-up = omega arith
-
 -- from ranks that are the game's, the verdicts are
 pub verdicts-are : (G : Game) (ranks : List ℕ) → Ranked G ranks → 1 ≤ G.regions → (n : ℕ) → n ≤ place_count G.regions → verdicts_by G ranks n ≡ verdict_numbers G n
 unfolding verdicts_by verdict_numbers gather place_at
@@ -278,13 +270,11 @@ verdicts-are G ranks R some (suc n) h = ap₂ ◌++◌ (verdicts-are G ranks R s
         region : (d : ℕ) → d < G.regions → is_region G.regions (suc d) ≡ true
         region d l = ap₂ ◌&&◌ (le-leb 1 (suc d) (omega arith)) (le-leb (suc d) G.regions (omega arith))
 
-pub solved : (regions : ℕ) (pairs near ranks old v : List ℕ) (goal : ℕ) → regions ≤ 32 → 1 ≤ goal → goal ≤ regions → 6144 ≤ length old
-    → Near (graph_of regions pairs goal) near → ((G : Game) → Plays near regions (goal - 1) G → Ranked G ranks)
-    → ((G : Game) → Plays near regions (goal - 1) G → v ≡ sets old 0 (verdicts_by G ranks (place_count regions)))
-    → v ≡ overwrite (verdict_numbers (graph_of regions pairs goal) (place_count regions)) old
-unfolding graph_of
-solved regions pairs near ranks old v goal few h k room n r e =
-    let P = graph_plays regions pairs near goal h n in
-    let G = graph_of regions pairs goal in
-    e G P ∙ ap (λ l. sets old 0 l) (verdicts-are G ranks (r G P) (omega arith) (place_count regions) (le_refl (place_count regions)))
+pub solved : (G : Game) (near ranks old v : List ℕ) (regions goal : ℕ) → regions ≤ 32 → goal < regions → 6144 ≤ length old → Plays near regions goal G
+    → ((G : Game) → Plays near regions goal G → Ranked G ranks)
+    → ((G : Game) → Plays near regions goal G → v ≡ sets old 0 (verdicts_by G ranks (place_count regions)))
+    → v ≡ overwrite (verdict_numbers G (place_count regions)) old
+solved G near ranks old v regions goal few h room P r e =
+    e G P
+    ∙ ap (λ l. sets old 0 l) (verdicts-are G ranks (r G P) (omega (arith, P.regions_are, h)) (place_count regions) (subst (λ n. place_count regions ≤ place_count n) (sym P.regions_are) (le_refl (place_count regions))))
     ∙ sets_overwrite old (verdict_numbers G (place_count regions)) (omega (arith, numbers-length G (place_count regions), places-few regions few))

@@ -58,13 +58,7 @@ fn serves(
 }
 
 // The least region that serves.
-fn region_for(
-    board: &Board,
-    ranks: &[u32; 2048],
-    r: usize,
-    g: usize,
-    runners_turn: bool,
-) -> usize
+fn region_for(board: &Board, ranks: &[u32; 2048], r: usize, g: usize, runners_turn: bool) -> usize
     requires { AtPlace board.now.regions r g }
     ensures answer { (G : Game) (goal : ℕ) → Plays board.now.near board.now.regions goal G →
         result ≡ least_below (suc board.now.regions) (serves_by G (rank_at ranks.now) (at r g runners_turn)) }

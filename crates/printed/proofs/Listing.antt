@@ -5,7 +5,7 @@ use native.Mathlib.Nat.{add-zero}
 use mathlib.Core.Path.{◌≡◌, refl, sym, ap, subst, ◌∙◌}
 use mathlib.Core.List.{List, [], ◌∷◌, ◌++◌, append-nil}
 use lib.ListN.{length, take, get_or}
-use lib.Seq.{take-suc, take-length}
+use lib.Seq.{take-suc}
 use Rattle.definitions.specs.Scan.{concat_map}
 use Rattle.definitions.specs.Printed.{row_line}
 use Rattle.laws.specs.ListLaws.FlatRows.{row_at}
@@ -42,8 +42,3 @@ module _ {old now : Writer} {rows : List (List ℕ)} {k : ℕ} (L : Listing old 
         next_few = omega (arith, L.next_few, n);
         put = subst (λ l. Appends old l now') (sym (lines_next rows k none h)) (appends_then L.put A);
       }
-
-  pub listing_all : length rows ≤ k → k ≤ length rows → Appends old (row_lines rows) now × (now.at ≤ old.at + row_room * length rows)
-  listing_all h m =
-      let e : k ≡ length rows = omega (arith, h, m) in
-      (subst (λ l. Appends old (row_lines l) now) (ap (λ n. take n rows) e ∙ take-length rows) L.put, omega (arith, L.next_few, e))

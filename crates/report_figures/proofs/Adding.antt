@@ -1,17 +1,15 @@
 -- A report with a run more, from its parts. Assumes nothing.
-use Rattle.std.proofs.Common.{◌≡◌, ℕ, zero, suc, ◌/◌, ◌%◌, ◌<◌, true, List, [], ◌∷◌, length, get_or, set, replicate, refl, ap, ap₂, arith}
-use Rattle.std.specs.Prelude.{None}
+use Rattle.std.proofs.Common.{◌≡◌, ℕ, zero, suc, ◌<◌, List, [], ◌∷◌, length, get_or, set, replicate, refl, ap, ap₂, arith}
 use Rattle.report.specs.Runs as def
 use Rattle.report.specs.Runs.{refused_run, accepted_run, squared_lengths}
 use Rattle.report.specs.Report as def'
 use Rattle.report.specs.Report.{sum64, pass_count, count_at, with_figures, figures_at, added_by, mean_of, mean_kept}
 use Rattle.report_figures.specs.declared.Figures.{Figures}
 use Rattle.report_figures.specs.declared.Report.{Report}
-use Rattle.report_figures.specs.declared.Mean.{Mean}
 use Rattle.checks.specs.Passes.{pass_number}
 use Rattle.checks.specs.declared.passes.Pass.{Pass}
 use Rattle.checks.specs.declared.passes.Pass.TheVariants as pass
-use Rattle.report_figures.specs.Forms.{figures_form, report_form, mean_form}
+use Rattle.report_figures.specs.Forms.{figures_form, report_form}
 
 pub counted : (l : List ℕ) (i : ℕ) → i < length l → set l i (sum64 (get_or l i 0) 1) ≡ count_at sum64 i l
 unfolding count_at
@@ -27,13 +25,6 @@ zeros (k ∷ l) zero e h = absurd (omega arith)
 zeros (k ∷ l) (suc n) e h = ap₂ {C = List ℕ} (λ m t. m ∷ t) (h 0 0 (omega arith)) (zeros l n (omega (arith, e)) (λ i d m. h (suc i) d (omega arith)))
 
 -- ---- means
-
-pub some_mean : (runs kept : ℕ) → (runs ≡ 0 → ⊥) → record { has_mean = true; quotient = kept / runs; remainder = kept % runs } ≡ mean_form (mean_of runs kept)
-some_mean zero kept h = absurd (h refl)
-some_mean (suc n) kept h = refl
-
-pub mean_none : (runs kept : ℕ) {m : Mean} → runs ≡ 0 → m ≡ mean_form None → m ≡ mean_form (mean_of runs kept)
-mean_none runs kept e h = rw e h
 
 -- ---- figures
 

@@ -4,15 +4,12 @@ use native.Mathlib.Omega.{arith}
 use mathlib.Core.Path.{◌≡◌, refl, sym, ap, ◌∙◌}
 use mathlib.Core.Bool.{Bool, true, false}
 use mathlib.Core.List.{List}
-use lib.ListN.{length}
 use lib.Dec.{ltb}
-use borrow.Author.Tests.{ltb-true, ltb-false, lt-ltb, le-ltb}
-use Rattle.definitions.specs.Sheet.{Reading, well_formed, refused, keptlist_cell_limit}
-use Rattle.definitions.specs.Printed.{max_sheet_bytes}
-use Rattle.std.specs.Prelude.{Result, Err}
+use borrow.Author.Tests.{ltb-true, ltb-false}
+use Rattle.definitions.specs.Sheet.{Reading, well_formed, refused}
+use Rattle.std.specs.Prelude.{Result}
 use Rattle.refusals.specs.declared.Refusal.{Refusal}
-use Rattle.refusals.specs.declared.Cause.TheVariants as cause
-use Rattle.sheet.specs.Contract.{answer_of, reading_within, Answered}
+use Rattle.sheet.specs.Contract.{answer_of, Answered}
 use Rattle.sheet.specs.declared.Header.{Header}
 use Rattle.report.specs.Runs.{refused_run}
 use Rattle.report.specs.Report.{max_runs}
@@ -20,7 +17,7 @@ use Rattle.report.proofs.ReportLaws.Order as order
 use Rattle.report_figures.specs.declared.Report.{Report}
 use Rattle.report_figures.specs.Forms.{report_form}
 use Rattle.report_reading.specs.declared.Opened.{Opened}
-use Rattle.report_reading.specs.Contract.{refused_as_lem, opened_with, added_answer, added_reading, limited_reading, OpenedFor, ReadFor}
+use Rattle.report_reading.specs.Contract.{refused_as_lem, opened_with, added_answer, added_reading, OpenedFor, ReadFor}
 
 module _ (report : Report) (reading : Reading) {cells spans boundaries anchors : List ℕ} {b : Bool} (t : b ≡ ltb report.runs max_runs) {r : Opened} where
   pub read-within : b ≡ true → {answer : Result Header Refusal} {cells' spans' boundaries' anchors' : List ℕ} → Answered reading cells spans boundaries anchors answer cells' spans' boundaries' anchors'
@@ -49,17 +46,3 @@ module _ (report : Report) (reading : Reading) {cells spans boundaries anchors :
       go : max_runs ≤ report.runs → (x : Reading) → report_form report ≡ added_reading (report_form report) x
       go l (well_formed s) = refl
       go l (refused number place) = sym (order.beyond (report_form report) (refused_run number) l)
-
--- ---- with the limits of `keptlist`, by how many bytes there are
-
-module _ (bytes cells spans boundaries anchors : List ℕ) where
-  pub limited_long : max_sheet_bytes < length bytes
-      → Answered (limited_reading bytes cells spans boundaries anchors) cells spans boundaries anchors (Err (record { cause = cause.Sheet; place = max_sheet_bytes })) cells spans boundaries anchors
-  limited_long h =
-      rw (lt-ltb max_sheet_bytes (length bytes) h)
-      (record { said = refl; cells_left = refl; spans-left = refl; boundaries-left = refl; anchors-left = refl })
-
-  pub limited_few : length bytes ≤ max_sheet_bytes → {answer : Result Header Refusal} {cells' spans' boundaries' anchors' : List ℕ}
-      → Answered (reading_within keptlist_cell_limit bytes cells spans boundaries anchors) cells spans boundaries anchors answer cells' spans' boundaries' anchors'
-      → Answered (limited_reading bytes cells spans boundaries anchors) cells spans boundaries anchors answer cells' spans' boundaries' anchors'
-  limited_few h A = rw (le-ltb max_sheet_bytes (length bytes) h) A

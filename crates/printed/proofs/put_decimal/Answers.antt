@@ -1,10 +1,7 @@
 -- `printed::put_decimal` meets its contract. The loop's invariant is `Written`: the digits of the places from this one on are written. Assumes nothing.
 use Rattle.std.proofs.Common.{◌≡◌, ◌+◌, ◌-◌, ◌/◌, ◌%◌, ◌<◌, ap, sym, ◌∙◌, subst, rules}
-use Rattle.printed.proofs.Digits.{some_power, Written, written_none, written_room, written_more, written_all}
+use Rattle.printed.proofs.Digits.{some_power, Written, written_room, written_more, written_all}
 use Rattle.printed.proofs.put_decimal.Goals as goal
-
-pub loop-place-init : goal.loop-place-init
-loop-place-init c = (c.digit_count-count.ensures, written_none _ _ _)
 
 pub nonzero_div-n : goal.nonzero_div-n
 nonzero_div-n c = subst (λ n. 0 < n) (sym c.pow.ensures) (some_power (c.loop-place.place - 1))

@@ -1,20 +1,11 @@
 -- `row_lengths::squared_lengths` meets its contract: the lines lie on a map, so that the sum of their squares fits. Assumes nothing.
-use Rattle.std.proofs.Common.{List, ℕ, rules, refl, sym, subst, ◌∙◌}
+use Rattle.std.proofs.Common.{rules, ◌∙◌}
 use Rattle.std.proofs.lemmas.Iterator.{YieldsList-from_slice, YieldsList-from_map}
-use Rattle.std.proofs.lemmas.Iterator.Adapters.{serves_from_places}
 use Rattle.std.proofs.lemmas.Iterator.Consumers.{sum_from_yields_List}
-use Rattle.laws.specs.FloatLaws.Pixels.{PixelSegment}
 use Rattle.laws.specs.ListLaws.FlatRows.{row_at}
 use Rattle.report.specs.Runs.{squared_length}
 use Rattle.report_figures.proofs.Lengths.{lengths_held}
 use Rattle.report_figures.proofs.row_lengths.squared_lengths.Goals as goal
-
-pub sum-requires-clause-can : goal.sum-requires-clause-can
-sum-requires-clause-can c = (
-  tt,
-  serves_from_places (YieldsList-from_slice c.args.rows.now (search rules)) (λ x q r. refl)
-      (λ x k l e _ _ _ _ _ _ _. subst (λ (row : List ℕ). PixelSegment (row_at row 0).line) (sym e) (c.requires.lines k x.now l)),
-)
 
 pub returns : goal.returns
 returns c =
