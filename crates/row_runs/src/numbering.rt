@@ -3,14 +3,14 @@ ghost use Rattle.std.specs.Prelude.{◌≡◌, ℕ, ◌≤◌, length};
 ghost use Rattle.row_runs.specs.Numbered.{label_at, LabelAsked, Named, NumberAsked, Numbered};
 
 use crate::run::put_alike;
-use crate::tests::is_walkable;
+use grid_steps::is_walkable;
 
 // The label of the stretch whose first cell is c, where `id` labels are given before it. Who is his own parent gets the next.
 fn label_at(cells: &[u8], labels: &[u32], c: usize, id: u32) -> u32
     requires { LabelAsked cells.now labels.now c id }
     ensures { result ≡ label_at cells.now labels.now c id }
 {
-    if !is_walkable(cells, c) {
+    if !is_walkable(cells[c]) {
         return 0;
     }
     let p = labels[c] as usize;
@@ -29,7 +29,7 @@ pub fn number(cells: &[u8], labels: &mut [u32], queue: &[u32], n: usize) -> usiz
 {
     let mut id: u32 = 0;
     let mut c = 0;
-    // Kept: each stretch begins where the one before it ends, and no range or chain has these places.
+    // Kept: `iter::successors` could give these places, and is no plainer: each would be read from the queue once for the way and once as the end of its stretch.
     while c < n {
         let e = queue[c] as usize;
         let label = label_at(cells, labels, c, id);

@@ -36,11 +36,7 @@ fn put_row(output: &mut [u64], k: usize, i: u64, j: u64, bits: u64, num: u64, de
     requires { k + 4 < length output.old }
     ensures { output.new ≡ sets output.old k (i ∷ j ∷ bits ∷ num ∷ den ∷ []) }
 {
-    output[k] = i;
-    output[k + 1] = j;
-    output[k + 2] = bits;
-    output[k + 3] = num;
-    output[k + 4] = den;
+    output[k..k + NUMBERS_PER_SEPARATION].copy_from_slice(&[i, j, bits, num, den]);
 }
 
 // The row of boundaries i and j. That they share a point need not be found out twice: the separation is zero just then, by the theorem of the bound.
@@ -72,10 +68,8 @@ fn put_rows(boundaries: &[u64], output: &mut [u64], n: usize)
     requires { RowsFit boundaries.now output.old n }
     ensures { output.new ≡ sets output.old 0 (separation_rows boundaries.now n) }
 {
-    let mut k = 0;
     for j in 0..n {
-        put_column(boundaries, output, k, j);
-        k += j * NUMBERS_PER_SEPARATION;
+        put_column(boundaries, output, NUMBERS_PER_SEPARATION * pair_count(j), j);
     }
 }
 
@@ -84,7 +78,7 @@ fn pair_count(n: usize) -> usize
     requires { n ≤ max_entries }
     ensures { (result ≡ pair_count n) × (result ≤ max_pairs) }
 {
-    if n == 0 { 0 } else { n * (n - 1) / 2 }
+    n * n.saturating_sub(1) / 2
 }
 
 // The count of rows, unless a check refuses the call: 1, 3, 7, or 10 for an output of so few numbers.
