@@ -60,7 +60,7 @@ module _ (L : Lent) {a : Answer} {o : List ℕ} (A : a ≡ verdict L) (O : o ≡
     unfolding call_exit exit_with stage_of
     output_is = O ∙ ap (λ n. (call_exit L n).output) h
 
-    rows_are : rows_in_lem a.value o ≡ rows
+    pub rows_are : rows_in_lem a.value o ≡ rows
     rows_are = ap (λ n. rows_in_lem n o) counted ∙ ap (rows_in_lem (length rows)) output_is ∙ rows_of-flat rows (drop (length (flat_rows rows)) L.output)
 
     boundaries-few : length L.boundaries / numbers_per_boundary ≤ max_entries

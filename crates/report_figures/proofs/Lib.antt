@@ -1,4 +1,4 @@
-mod Held
+pub mod Held
 mod Counting
 mod Lengths
 mod Adding

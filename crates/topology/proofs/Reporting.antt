@@ -18,20 +18,14 @@ use Rattle.report_figures.proofs.Called.{call-left, call-added}
 use Rattle.topology.specs.Lent.{LentLists, LeftLists, lent_call, leaves}
 use Rattle.topology.specs.Contract.{RanOver}
 use Rattle.topology.specs.Reports.{ReportedOver}
-use Rattle.definitions.specs.Verdict as verdict
-use Rattle.refusals.specs.Answers.{answer_in}
-use Rattle.refusals.specs.declared.answers.Answer.{Answer}
+use Rattle.definitions.specs.Verdict.{Answer}
 
 -- the lists that are lent to be filled, as they were
 abbrev pub untouched : LentLists → LeftLists
 untouched L = leaves L.labels L.masks L.queue L.tallies L.pairs L.records L.output
 
 module _ {pass : ℕ} {L : LentLists} where
-  -- the call's own answer, as it is given
-  pub as_answered : {a : Answer} {v : verdict.Answer} {E : LeftLists} → answer_in a ≡ v → RanOver pass L v E → RanOver pass L (answer_in a) E
-  as_answered e ran = rw e ran
-
-  module _ {a : Answer} {E : LeftLists} (ran : RanOver pass L (answer_in a) E) where
+  module _ {a : Answer} {E : LeftLists} (ran : RanOver pass L a E) where
     -- what adding it asks
     pub ran-left : CallLeft pass a.number a.value E.output
     ran-left = call-left (lent_call pass L) ran.ran.answer ran.ran.output
@@ -41,7 +35,7 @@ module _ {pass : ℕ} {L : LentLists} where
         → ReportedOver (report_form report) pass L r E
     ran-reported report e k {r} K =
         let room : report.runs < max_runs = ltb-true report.runs max_runs (sym e ∙ k) in
-        let same : answer_in a ≡ record { number = r.number; value = r.value } = λ i. record { number = sym K.same_number i; value = sym K.same_value i } in
+        let same : a ≡ record { number = r.number; value = r.value } = λ i. record { number = sym K.same_number i; value = sym K.same_value i } in
         record {
           report =
               K.added

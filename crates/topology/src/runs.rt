@@ -1,8 +1,5 @@
 // The call that runs a pass, made and added to a report (document 02, request 13).
-ghost use Rattle.std.specs.Prelude.{◌/◌, length};
-ghost use Rattle.definitions.specs.Limits.{numbers_per_boundary};
 ghost use Rattle.report_figures.specs.Forms.{report_form};
-ghost use Rattle.report_figures.specs.Calls.{CallLeft, ReportedCall};
 ghost use Rattle.areas.specs.Lists.{of_lists, SameLists};
 ghost use Rattle.call_partition.specs.Asking.{of_asked};
 ghost use Rattle.topology.specs.Lent.{lends, leaves};
@@ -13,25 +10,8 @@ use areas::lists::PartitionLists;
 use call_partition::asked::Asked;
 use context::Region;
 use definitions::limits::NUMBERS_PER_BOUNDARY;
-use refusals::answers::Answer;
 use report_figures::call_figures::{answered, beyond, has_room};
 use report_figures::{Report, Reported};
-
-// What the call answered, and the report with it.
-fn added(report: Report, pass: u64, answer: Answer, boundaries: &[u64], output: &[u64]) -> Reported
-    requires { CallLeft pass answer.number answer.value output.now }
-    ensures { ReportedCall (report_form report) pass answer.number answer.value
-        (length boundaries.now / numbers_per_boundary) output.now result }
-{
-    answered(
-        report,
-        pass,
-        answer.number,
-        answer.value,
-        boundaries.len() / NUMBERS_PER_BOUNDARY,
-        output,
-    )
-}
 
 // Makes the call and adds what it answered. A run beyond the last is refused before anything else, and every list is then as it was.
 pub fn topology_report_run(
@@ -48,7 +28,8 @@ pub fn topology_report_run(
 {
     if has_room(report) {
         let kept = topology_kept_boundaries(pass, asked, lists, records, output);
-        added(report, pass, Answer::from(kept), asked.boundaries, output)
+        let count = asked.boundaries.len() / NUMBERS_PER_BOUNDARY;
+        answered(report, pass, kept, count, output)
     } else {
         beyond(report)
     }
