@@ -1,7 +1,7 @@
 -- What the steps of this crate promise. Definitions only; assumes nothing.
 use Rattle.std.specs.Prelude.{ℕ, zero, suc, ◌/◌, ◌≡◌, ◌&&◌, List, [], ◌∷◌, length, leb, Option, Some, Result}
 use Rattle.definitions.specs.Refusals.{Refusal, or_else, unless}
-use Rattle.definitions.specs.Verdict.{Answer, refusal, first_refusal}
+use Rattle.definitions.specs.Verdict.{refusal, first_refusal}
 use Rattle.catalogue.specs.Terms.{is_finished, terms_refusal}
 use Rattle.catalogue.specs.Accession.{accessions_fault}
 use Rattle.catalogue.specs.Accession as accession

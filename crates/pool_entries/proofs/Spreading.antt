@@ -5,12 +5,12 @@ use mathlib.Core.Path.{◌≡◌, refl, sym, ap, ap₂, ◌∙◌}
 use mathlib.Core.List.{List, [], ◌∷◌, ◌++◌, append-nil}
 use Rattle.std.specs.Prelude.{Option, None, Some}
 use lib.ListN.{length, get_or, set, take, drop, length-append, length-drop, length-take}
-use lib.Seq.{sets, length-sets, drop-cons, drop-append_seam, get_or-take, get_or-set_other, take-append_seam}
+use lib.Seq.{sets, length-sets, drop-cons, get_or-take, get_or-set_other, take-append_seam}
 use lib.Dec.{ltb}
 use Rattle.definitions.specs.Lists.{overwrite}
 use Rattle.definitions.specs.Scan.{concat_map}
 use Rattle.definitions.specs.Sort.{sort}
-use Rattle.laws.specs.ListLaws.Overwritten.{overwrite-twice, sets_append, sets_later, sets_overwrite}
+use Rattle.laws.specs.ListLaws.Overwritten.{sets_append, sets_later, sets_overwrite}
 use Rattle.laws.specs.ListLaws.SortedMembers.{length-sort}
 use Rattle.catalogue.specs.Accession.{Accession}
 use Rattle.catalogue.specs.Pool.{entry_of}

@@ -1,6 +1,4 @@
 -- `pool::list_day` meets its contract: the maps are counted, the room is asked for, the entries are put and the records shown in them. Assumes nothing.
-use Rattle.std.proofs.Common.{rules, arith, ◌*◌}
-use lib.Seq.{length-take-le}
 use Rattle.pool.proofs.Verdicts.{no_room, room-enough, shown-over}
 use Rattle.pool.proofs.list_day.Goals as goal
 

@@ -8,7 +8,7 @@ use borrow.Author.Rules.{rules}
 use Rattle.definitions.specs.Scan.{count_below}
 use Rattle.catalogue.specs.Accession.{numbers_per_accession, accession_count}
 use Rattle.catalogue.specs.AccessionLaws.MapLine.{is_of_map}
-use Rattle.accession.proofs.Putting.{putting_none, putting-long, room-before, putting_next, putting-done}
+use Rattle.accession.proofs.Putting.{putting_none, room-before, putting_next, putting-done}
 use Rattle.accession.proofs.line.put_line.Goals as goal
 
 pub loop-i-init : goal.loop-i-init
@@ -31,14 +31,6 @@ loop-i-preserved c =
     let old : List ℕ = c.args.output.now in
     let fits : numbers_per_accession * count_below (accession_count list) (is_of_map list number) ≤ length old = c.requires in
     putting_next list number old fits c.loop-i.i (search rules) c.loop-i.invariant c.put_of_map-k.ensures.left c.put_of_map-k.ensures.next
-
-pub shape_of-output : goal.shape_of-output
-shape_of-output c =
-    let list : List ℕ = c.args.records.now in
-    let number : ℕ = c.args.number in
-    let old : List ℕ = c.args.output.now in
-    let fits : numbers_per_accession * count_below (accession_count list) (is_of_map list number) ≤ length old = c.requires in
-    putting-long list number old fits c.loop-i.invariant
 
 pub returns : goal.returns
 returns c =

@@ -12,11 +12,6 @@ use Rattle.std.specs.Prelude.{Some}
 use Rattle.accession.proofs.Reporting.{ten-left, unknown, exit-left, exit-unknown}
 use Rattle.accession.proofs.line.report_kept.Goals as goal
 
-pub map_of-requires : goal.map_of-requires
-map_of-requires c =
-    let known_at : Finds c.args.records.now c.args.own (Some c.in-Some.i) = c.in-Some.ensures in
-    known_at.0
-
 pub returns-in-None : goal.returns-in-None
 returns-in-None c =
     let l = c.args.records.now in

@@ -1,11 +1,10 @@
 -- `accession::line::report_line` meets its contract: each check refuses by its number, or those that are left decide. Assumes nothing.
 use Rattle.std.proofs.Common.{rules, refl, sym, ap, ◌≡◌, ◌∙◌, ℕ, zero, suc, ◌≤◌, List, arith}
-use Rattle.std.specs.Prelude.{Option, None, Some, Err, true}
+use Rattle.std.specs.Prelude.{Option, None, Some, Err}
 use Rattle.definitions.specs.Refusals.{Refusal}
 use Rattle.definitions.specs.Verdict.{refusal}
 use Rattle.refusals.specs.Refusals.{number_of}
-use Rattle.refusals.proofs.Steps.{stopped, passed, ensured, searched, holds, positive}
-use Rattle.catalogue.specs.Accession.{is_finished}
+use Rattle.refusals.proofs.Steps.{stopped, passed, ensured, searched, positive}
 use Rattle.catalogue.specs.Line.{line_verdict, line_at_exit}
 use Rattle.refusals.specs.Answers.{answer_of}
 use Rattle.accession.proofs.line.report_line.Goals as goal
@@ -47,8 +46,3 @@ returns-in_err-no_fault c =
       answer = ap answer_of given ∙ passed _ _ (ensured 3 refl c.in_ok-ensure.ensures) (stopped _ _ _ (searched 17 c.first_broken.ensures c.in_err-no_fault.ensures));
       left = left_alone (number_of r.cause) a.records.now a.own a.output.now (positive r.cause) ∙ ap (λ x. line_at_exit (answer_of x).number a.records.now a.own a.output.now) (sym given);
     }
-
-pub report_kept-requires : goal.report_kept-requires
-report_kept-requires c =
-    let finished : is_finished c.args.records.now ≡ true = holds 3 (is_finished c.args.records.now) c.in_ok-ensure.ensures in
-    (finished, none_searched c.first_broken.ensures c.in_ok-no_fault.ensures)

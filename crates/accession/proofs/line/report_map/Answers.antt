@@ -1,5 +1,4 @@
 -- `accession::line::report_map` meets its contract. Assumes nothing.
-use native.Mathlib.Omega.{arith}
 use mathlib.Core.Path.{refl}
 use lib.ListN.{length}
 use Rattle.accession.proofs.Reporting.{no_room, has_room}
@@ -11,10 +10,6 @@ returns-then-output-count c =
       answer = no_room c.args.records.now c.args.number (length c.args.output.now) c.count_of_map-count.ensures c.if-output-count.true;
       left = refl;
     }
-
-pub put_line-requires : goal.put_line-requires
-put_line-requires c =
-    omega (arith, c.if-output-count.false, c.count_of_map-count.ensures)
 
 pub returns : goal.returns
 returns c =

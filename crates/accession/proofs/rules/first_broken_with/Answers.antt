@@ -16,11 +16,6 @@ pub loop-i-init : goal.loop-i-init
 loop-i-init g c =
     checked_none c.args.records.now c.new-held.ensures.none (c.new-held.ensures.table c.args.records.now)
 
-pub last_of_map-before-requires : goal.last_of_map-before-requires
-last_of_map-before-requires g c =
-    let inv = c.loop-i.invariant in
-    (search rules, ((search rules, inv.behind), inv.holds))
-
 pub goes_on-requires : goal.goes_on-requires
 goes_on-requires g c =
     (search rules, previous-within c.args.records.now c.loop-i.i c.last_of_map-before.ensures)
@@ -32,11 +27,6 @@ returns-then-not-own_ascends-goes_on g c =
     let test : (c.own_ascends.result && c.goes_on.result) ≡ keeps_rules list c.loop-i.i = test-is list c.loop-i.i (one_more c.last_of_map-before.result) c.loop-i.invariant.kept_below_lem c.last_of_map-before.ensures
     c.own_ascends.ensures c.goes_on.ensures in
     sym (first_faulty_lem (keeps_rules list) (accession_count list) c.loop-i.i (search rules) c.loop-i.invariant.kept_below_lem test c.if-not-own_ascends-goes_on.true-raw)
-
-pub hold-requires : goal.hold-requires
-hold-requires g c =
-    let inv = c.loop-i.invariant in
-    (search rules, ((omega (arith, inv.behind), c.requires.2), inv.holds))
 
 pub loop-i-preserved : goal.loop-i-preserved
 loop-i-preserved g c =

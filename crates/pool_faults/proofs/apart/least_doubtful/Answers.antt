@@ -1,6 +1,5 @@
 -- `apart::least_doubtful` meets its contract: the keys are sorted, and neighbours compared. Assumes nothing.
 use Rattle.pool_faults.proofs.Neighbours.{sorted_tells, positions_kept}
-use borrow.Author.Rules.{rules}
 use Rattle.pool_faults.proofs.apart.least_doubtful.Goals as goal
 
 pub least_astray-requires : goal.least_astray-requires

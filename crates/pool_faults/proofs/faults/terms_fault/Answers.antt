@@ -6,9 +6,6 @@ use Rattle.refusals.specs.Refusals.{refusal_in}
 use borrow.Author.Rules.{rules}
 use Rattle.pool_faults.proofs.faults.terms_fault.Goals as goal
 
-pub loop-i-init : goal.loop-i-init
-loop-i-init c = c.faultless_terms-i.ensures
-
 pub returns-in_err-term_fault : goal.returns-in_err-term_fault
 unfolding terms_refusal
 returns-in_err-term_fault c =

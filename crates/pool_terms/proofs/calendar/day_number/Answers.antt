@@ -15,11 +15,6 @@ overflow_mul-result c =
     let P = parts _ c.requires in
     omega (arith, P.from_2000, P.to_2099, P.month_from, P.month_to, P.day_from, P.day_to)
 
-pub overflow_add-result : goal.overflow_add-result
-overflow_add-result c =
-    let P = parts _ c.requires in
-    omega (arith, P.from_2000, P.to_2099, P.month_from, P.month_to, P.day_from, P.day_to)
-
 pub overflow_add-result-2 : goal.overflow_add-result-2
 overflow_add-result-2 c =
     let P = parts _ c.requires in

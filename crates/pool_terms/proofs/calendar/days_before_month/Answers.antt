@@ -2,7 +2,7 @@
 use mathlib.Core.Path.{refl, sym, ◌∙◌}
 use Prim.Native.Nat.{◌-◌}
 use borrow.Author.Tests.{lt-ltb, le-ltb}
-use Rattle.pool_terms.proofs.CalendarTables.{months_before, below-table}
+use Rattle.pool_terms.proofs.CalendarTables.{months_before}
 use native.Mathlib.Omega.{arith}
 use borrow.Author.Rules.{rules}
 use Rattle.pool_terms.proofs.calendar.days_before_month.Goals as goal
@@ -11,9 +11,6 @@ pub returns-then-month-lt3 : goal.returns-then-month-lt3
 returns-then-month-lt3 c =
     let month = c.args.month in
     sym (months_before _ month (search rules) (search rules) ∙ simp (le-ltb 1 (month - 1) (omega arith)) (omega arith))
-
-pub overflow_add-result : goal.overflow_add-result
-overflow_add-result c = omega (arith, below-table (c.args.month - 1))
 
 pub returns-then-is_leap : goal.returns-then-is_leap
 returns-then-is_leap c =

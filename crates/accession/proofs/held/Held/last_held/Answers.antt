@@ -13,16 +13,10 @@ use Rattle.catalogue.specs.AccessionLaws.MapLine.{is_of_map}
 use Rattle.accession.proofs.Holding.{reached_first, reached_next, next_before}
 use Rattle.accession.proofs.held.Held.last_held.Goals as goal
 
-pub slot_of-requires : goal.slot_of-requires
-slot_of-requires g c = c.requires.some_slots
-
 pub loop-next-init : goal.loop-next-init
 loop-next-init g c =
     let found = c.slot_of in
     reached_first c.args.records.now c.requires c.args.number found.result found.ensures.0 found.ensures.1
-
-pub map_of-requires : goal.map_of-requires
-map_of-requires g c = omega (arith, c.loop-next.invariant.within, c.requires.of_list)
 
 pub returns-then-map_of-number : goal.returns-then-map_of-number
 unfolding is_of_map
@@ -33,12 +27,6 @@ returns-then-map_of-number g c =
     let is_of_lem : is_of_map list number (k - 1) ≡ true = eq-eqb (accession_at list (k - 1)).on_map number (sym c.map_of.ensures ∙ c.if-map_of-number.true) in
     let e : suc (k - 1) ≡ k = omega arith in
     e ∙ sym (c.loop-next.invariant.rest ∙ last_found (is_of_map list number) k (search rules) is_of_lem)
-
-pub offset_bounds-self-k : goal.offset_bounds-self-k
-offset_bounds-self-k g c = omega (arith, c.loop-next.invariant.within, c.requires.room)
-
-pub bounds-self-k : goal.bounds-self-k
-bounds-self-k g c = omega (arith, c.loop-next.invariant.within, c.requires.room)
 
 pub loop-next-smaller : goal.loop-next-smaller
 loop-next-smaller g c = next_before c.args.records.now c.requires c.args.number c.loop-next.next c.loop-next.invariant (search rules)
