@@ -12,6 +12,7 @@ use Rattle.context.specs.declared.Region.{Region}
 use Rattle.context.specs.declared.pairs.Pair.{Pair}
 use Rattle.context.specs.Records.{max_cells, Counted}
 use Rattle.context.specs.Shown.{ShownBoundaries, ShownTallies, ShownPairs, ShownFullPairs, ShownAnchored, ShownIncidents}
+use Rattle.pass_lists.specs.declared.SpanPartition.{SpanPartition}
 use Rattle.pass_lists.specs.Contract.{Partitioned, FreshMarks}
 use Rattle.pass_lists.specs.Finished.{MarkedBy}
 use Rattle.topology.specs.Held.{HoldsRecords}
@@ -53,6 +54,10 @@ pub record Lent (M : Map) (records : List Region) (w needed : ℕ) (labels ancho
   pub partitioned : Partitioned M w needed labels anchors regions rows count tallies pairs masks queue
   pub held : HoldsRecords (context_of M) records
   pub bounds : length boundaries / numbers_per_boundary ≡ count → ShownBoundaries (context_of M) boundaries
+
+-- the same of a struct of them
+abbrev pub LentAs : Map → List Region → SpanPartition → ℕ → ℕ → Type 0
+LentAs M records x masks queue = Lent M records x.width x.needed x.labels.now x.anchors.now x.regions x.rows x.count x.boundaries.now x.tallies.now x.pairs.now masks queue
 
 -- Where there are as many boundaries as spans, the marks are the pass's; otherwise they are as they were. Masks m and queue q have become m' and q', over the needed
 -- length alone.

@@ -2,9 +2,9 @@
 ghost use Rattle.std.specs.Prelude.{length};
 ghost use Rattle.definitions.specs.Grid.{Map};
 ghost use Rattle.definitions.specs.Context.{Context};
-ghost use Rattle.checks.specs.Passes.{pass_number, IsPass};
+ghost use Rattle.checks.specs.Passes.{pass_number};
 ghost use Rattle.topology.specs.Mouths.{NoMarks};
-ghost use Rattle.topology.specs.Marks.{Shows, Removed, Lent, MarkedFor};
+ghost use Rattle.topology.specs.Marks.{Shows, Removed, LentAs, MarkedFor};
 
 use crate::interior_pass::collapse_ramp_interiors;
 use crate::junction_pass::remove_junction_boundaries;
@@ -13,7 +13,7 @@ use checks::passes::Pass;
 use context::pairs::Pair;
 use context::{PartitionContext, Region};
 use definitions::limits::NUMBERS_PER_BOUNDARY;
-use pass_lists::view;
+use pass_lists::{SpanPartition, view};
 
 // Marks the boundaries that the pass removes. Marks and counts, which show anchored regions and incidents, are its to work in.
 pub fn removed_marks(
@@ -52,58 +52,36 @@ pub fn removed_marks(
     }
 }
 
-// Views the partitioned map and marks what the pass removes, where there are as many boundaries as spans, of which there are `count`. The pass is lent as much of masks
-// and queue as there are regions.
+// Views the partitioned map and marks what the pass removes, where there are as many boundaries as spans. The pass is lent as much of masks and queue as there are
+// regions.
 pub fn mark_removed(
-    pass: u64,
+    pass: Pass,
     records: &[Region],
-    width: usize,
-    needed: usize,
-    labels: &[u32],
-    anchors: &[u64],
-    regions: usize,
-    rows: usize,
-    count: usize,
-    boundaries: &[u64],
-    tallies: &[u32],
-    pairs: &[u32],
+    partition: SpanPartition,
     masks: &mut [u16],
     queue: &mut [u32],
     removed: &mut [bool; 256],
 )
-    requires map_shown { (M : Map) × Lent M records.now width needed labels.now anchors.now regions rows count boundaries.now tallies.now
-        pairs.now (length masks.old) (length queue.old) }
-    requires before_marking { IsPass pass × NoMarks removed.old }
-    ensures { (M : Map) →
-        Lent M records.now width needed labels.now anchors.now regions rows count boundaries.now
-        tallies.now pairs.now (length masks.old) (length queue.old) →
-        MarkedFor pass M needed count boundaries.now masks.old queue.old
-        masks.new queue.new removed.old removed.new }
+    requires map_shown { (M : Map) × LentAs M records.now partition (length masks.old) (length queue.old) }
+    requires none_marked { NoMarks removed.old }
+    ensures { (M : Map) → LentAs M records.now partition.entry (length masks.old) (length queue.old)
+        → MarkedFor (pass_number pass) M partition.entry.needed partition.entry.count partition.entry.boundaries.now
+        masks.old queue.old masks.new queue.new removed.old removed.new }
 {
-    if boundaries.len() / NUMBERS_PER_BOUNDARY != count {
-        return;
-    }
-    let Some(pass) = Pass::of(pass) else {
-        return;
-    };
-    let mut starts = [0usize; 257];
-    let mut full: [Option<Pair>; 256] = [None; 256];
-    view(
-        width,
-        needed,
-        labels,
-        anchors,
+    let SpanPartition {
         regions,
-        rows,
         count,
         boundaries,
         tallies,
         pairs,
-        masks,
-        queue,
-        &mut starts,
-        &mut full,
-    );
+        ..
+    } = partition;
+    if boundaries.len() / NUMBERS_PER_BOUNDARY != count {
+        return;
+    }
+    let mut starts = [0usize; 257];
+    let mut full: [Option<Pair>; 256] = [None; 256];
+    view(partition, masks, queue, &mut starts, &mut full);
     let context = PartitionContext {
         boundaries,
         tallies,
