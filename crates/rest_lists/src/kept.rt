@@ -1,5 +1,5 @@
 // Between the passes of a run to rest: what a pass leaves, its partition, and the end.
-ghost use Rattle.std.specs.Prelude.{◌≡◌, List, ℕ, ◌*◌, ◌≤◌, length};
+ghost use Rattle.std.specs.Prelude.{◌≡◌, List, ℕ, ◌*◌, ◌≤◌, length, take};
 ghost use Rattle.definitions.specs.Limits.{max_entries};
 ghost use Rattle.definitions.specs.Lists.{overwrite, zeroed};
 ghost use Rattle.definitions.specs.RegionRecord.{Region};
@@ -28,10 +28,21 @@ pub struct Standing {
 }
 
 // The lists of a run. In front of each stands what is kept: the numbers of boundaries, their endpoints as spans, and the boundaries.
+#[derive(Drop)]
 pub struct KeptLists {
     pub numbers: [u64; 256],
     pub spans: [u64; 1024],
     pub boundaries: [u64; 2304],
+}
+
+impl KeptLists {
+    // The first `count` boundaries.
+    pub fn front(&self, count: usize) -> &[u64]
+        requires { count ≤ max_entries }
+        ensures { result.now ≡ take (9 * count) self.now.boundaries }
+    {
+        &self.boundaries[..NUMBERS_PER_BOUNDARY * count]
+    }
 }
 
 // Moves what is not marked to the front of the three lists, and gives how many are left.

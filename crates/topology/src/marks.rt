@@ -1,18 +1,22 @@
 // The marks of the boundaries that the pass of a call removes.
-ghost use Rattle.std.specs.Prelude.{length};
+ghost use Rattle.std.specs.Prelude.{◌*◌, ◌/◌, ◌≤◌, false, length, replicate};
+ghost use Rattle.definitions.specs.Limits.{max_entries, numbers_per_span};
+ghost use Rattle.context.specs.Records.{max_cells};
 ghost use Rattle.definitions.specs.Grid.{Map};
 ghost use Rattle.definitions.specs.Context.{Context};
 ghost use Rattle.checks.specs.Passes.{pass_number};
 ghost use Rattle.topology.specs.Mouths.{NoMarks};
-ghost use Rattle.topology.specs.Marks.{Shows, Removed, LentAs, MarkedFor};
+ghost use Rattle.topology.specs.Marks.{Shows, Removed, LentAs, AskedLent, MarkedFor};
 
 use crate::interior_pass::collapse_ramp_interiors;
 use crate::junction_pass::remove_junction_boundaries;
 use crate::mouth_pass::replace_ramp_mouths;
+use call_partition::Ready;
+use call_partition::asked::Asked;
 use checks::passes::Pass;
 use context::pairs::Pair;
 use context::{PartitionContext, Region};
-use definitions::limits::NUMBERS_PER_BOUNDARY;
+use definitions::limits::{NUMBERS_PER_BOUNDARY, NUMBERS_PER_SPAN};
 use pass_lists::{SpanPartition, view};
 
 // Marks the boundaries that the pass removes. Marks and counts, which show anchored regions and incidents, are its to work in.
@@ -99,4 +103,40 @@ pub fn mark_removed(
         &mut queue[..regions],
         removed,
     );
+}
+
+// The marks of the boundaries that the pass removes of what a call is asked: labels, tallies and pairs are those of its partition.
+pub fn mark_asked(
+    pass: Pass,
+    asked: Asked,
+    ready: Ready,
+    records: &[Region],
+    labels: &[u32],
+    tallies: &[u32],
+    pairs: &[u32],
+    masks: &mut [u16],
+    queue: &mut [u32],
+) -> [bool; 256]
+    requires few { asked.height * asked.width ≤ max_cells }
+    requires map_shown { (M : Map) × AskedLent M records.now asked ready labels.now tallies.now pairs.now (length masks.old) (length queue.old) }
+    ensures { (M : Map) → AskedLent M records.now asked.entry ready labels.now tallies.now pairs.now (length masks.old) (length queue.old)
+        → MarkedFor (pass_number pass) M (asked.entry.height * asked.entry.width) (length asked.entry.spans.now / numbers_per_span)
+        asked.entry.boundaries.now masks.old queue.old masks.new queue.new (replicate max_entries false) result }
+{
+    let width = asked.width as usize;
+    let partition = SpanPartition {
+        width,
+        needed: asked.height as usize * width,
+        labels,
+        anchors: asked.anchors,
+        regions: ready.regions,
+        rows: ready.rows,
+        count: asked.spans.len() / NUMBERS_PER_SPAN,
+        boundaries: asked.boundaries,
+        tallies,
+        pairs,
+    };
+    let mut removed = [false; 256];
+    mark_removed(pass, records, partition, masks, queue, &mut removed);
+    removed
 }

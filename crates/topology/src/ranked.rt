@@ -1,5 +1,7 @@
 // The call that gives the ranked junction list (document 02, request 11), over the lent slice of region records.
-ghost use Rattle.std.specs.Prelude.{◌*◌, ◌≤◌, length};
+ghost use Rattle.std.specs.Prelude.{◌*◌, ◌/◌, ◌≤◌, length};
+ghost use Rattle.definitions.specs.Limits.{numbers_per_span};
+ghost use Rattle.context.specs.Records.{max_cells};
 ghost use Rattle.definitions.specs.Grid.{Map};
 ghost use Rattle.definitions.specs.Context.{Context};
 ghost use Rattle.junction_proposals.specs.Rows.{max_proposals};
@@ -7,7 +9,7 @@ ghost use Rattle.ranked_list.specs.RankedList.{numbers_per_ranked};
 ghost use Rattle.ranked_finish.specs.Ends.{ranked_of};
 ghost use Rattle.topology.specs.Proposals.{PassesIn, Unmarked};
 ghost use Rattle.topology.specs.Mouths.{NoMarks};
-ghost use Rattle.topology.specs.Marks.{LentAs};
+ghost use Rattle.topology.specs.Marks.{AskedLent};
 ghost use Rattle.areas.specs.Lists.{of_lists, SameLists};
 ghost use Rattle.call_partition.specs.Asking.{of_asked};
 ghost use Rattle.topology.specs.Lent.{lends, leaves};
@@ -17,7 +19,7 @@ use crate::junction_pass::{NO_ROW, select_junctions};
 use crate::records::fill;
 use areas::lists::PartitionLists;
 use call_partition::asked::Asked;
-use call_partition::prepare_lists;
+use call_partition::{Ready, prepare_lists};
 use context::Region;
 use definitions::limits::{NUMBERS_PER_BOUNDARY, NUMBERS_PER_SPAN};
 use junction_proposals::lists::JunctionLists;
@@ -52,31 +54,46 @@ pub fn rank_junctions(
     list_ranked(&found, &allowed, listed)
 }
 
-// Views the partitioned map, marks what pass 3 removes and lists its proposals, where there are as many boundaries as spans; gives how many proposals there are.
+// Views the partitioned map, marks what pass 3 removes and lists its proposals, where there are as many boundaries as spans; gives how many proposals there are. Labels,
+// tallies and pairs are those of the partition of what a call is asked.
 pub fn mark_ranked(
+    asked: Asked,
+    ready: Ready,
     records: &[Region],
-    partition: SpanPartition,
+    labels: &[u32],
+    tallies: &[u32],
+    pairs: &[u32],
     masks: &mut [u16],
     queue: &mut [u32],
     removed: &mut [bool; 256],
     listed: &mut [u32],
 ) -> usize
-    requires map_shown { (M : Map) × LentAs M records.now partition (length masks.old) (length queue.old) }
+    requires few { asked.height * asked.width ≤ max_cells }
+    requires map_shown { (M : Map) × AskedLent M records.now asked ready labels.now tallies.now pairs.now (length masks.old) (length queue.old) }
     requires before_ranking { NoMarks removed.old × (numbers_per_ranked * max_proposals ≤ length listed.old) }
-    ensures { (M : Map) → LentAs M records.now partition.entry (length masks.old) (length queue.old)
-        → RankedFor M partition.entry.needed partition.entry.count partition.entry.boundaries.now
+    ensures { (M : Map) → AskedLent M records.now asked.entry ready labels.now tallies.now pairs.now (length masks.old) (length queue.old)
+        → RankedFor M (asked.entry.height * asked.entry.width) (length asked.entry.spans.now / numbers_per_span) asked.entry.boundaries.now
         masks.old queue.old masks.new queue.new
         removed.old removed.new listed.old listed.new result }
 {
-    let SpanPartition {
-        regions,
-        count,
-        boundaries,
-        ..
-    } = partition;
+    let count = asked.spans.len() / NUMBERS_PER_SPAN;
+    let boundaries = asked.boundaries;
     if boundaries.len() / NUMBERS_PER_BOUNDARY != count {
         return 0;
     }
+    let width = asked.width as usize;
+    let partition = SpanPartition {
+        width,
+        needed: asked.height as usize * width,
+        labels,
+        anchors: asked.anchors,
+        regions: ready.regions,
+        rows: ready.rows,
+        count,
+        boundaries,
+        tallies,
+        pairs,
+    };
     let mut starts = [0usize; 257];
     let mut full = [None; 256];
     view(partition, masks, queue, &mut starts, &mut full);
@@ -86,7 +103,7 @@ pub fn mark_ranked(
         counts: queue,
         marks: masks,
         count,
-        regions,
+        regions: ready.regions,
     };
     rank_junctions(records, &lists, removed, listed)
 }
@@ -115,19 +132,18 @@ pub fn topology_ranked_junctions(
     let tallies = &mut *lists.tallies;
     let pairs = &mut *lists.pairs;
     fill(records, ready.regions, columns, asked.cells, &*labels, &*queue);
-    let partition = SpanPartition {
-        width: columns,
-        needed,
-        labels,
-        anchors: asked.anchors,
-        regions: ready.regions,
-        rows: ready.rows,
-        count: asked.spans.len() / NUMBERS_PER_SPAN,
-        boundaries: asked.boundaries,
-        tallies,
-        pairs,
-    };
-    let n = mark_ranked(records, partition, masks, queue, &mut removed, &mut listed);
+    let n = mark_ranked(
+        asked,
+        ready,
+        records,
+        &*labels,
+        &*tallies,
+        &*pairs,
+        masks,
+        queue,
+        &mut removed,
+        &mut listed,
+    );
     finish_ranked(
         needed,
         asked.boundaries.len() / NUMBERS_PER_BOUNDARY,
