@@ -3,16 +3,23 @@ ghost use Rattle.std.specs.Prelude.{◌≡◌, ◌*◌, ◌≤◌, length};
 ghost use Rattle.definitions.specs.Limits.{numbers_per_pair};
 ghost use Rattle.definitions.specs.Refusals.{or_else};
 ghost use Rattle.definitions.specs.Verdict.{refusal};
-ghost use Rattle.refusals.specs.Refusals.{number_of, refusal_in};
+ghost use Rattle.refusals.specs.Refusals.{refusal_in};
 ghost use Rattle.game.specs.Graph.{graph_of, edges_in, verdicts_room, graph_fault, goal_fault, verdicts_at_exit};
-ghost use Rattle.game_lists.specs.Forms.{answer_in, late_answer};
+ghost use Rattle.game_lists.specs.Forms.{answer_in, game_answer_of, late_answer};
 
 use game_solver::solve_rows;
 use refusals::{Cause, Refusal, ensure};
 
 const MAX_REGIONS: usize = 32;
 
-// Number 0, how many rows are kept and the regions of the kept graph; or a refusal's number and place, and 0.
+// How many rows are kept, and the regions of the kept graph.
+#[derive(Clone, Copy)]
+pub struct GameKept {
+    pub kept: usize,
+    pub regions: usize,
+}
+
+// As C is given it: number 0 with both, or a refusal's number and place, and 0.
 #[repr(C)]
 #[derive(Clone, Copy)]
 pub struct GameAnswer {
@@ -21,13 +28,22 @@ pub struct GameAnswer {
     pub regions: u64,
 }
 
-pub fn refused(refusal: Refusal) -> GameAnswer
-    ensures { answer_in result ≡ record { number = number_of refusal.cause; value = refusal.place; regions = 0 } }
-{
-    GameAnswer {
-        number: refusal.cause.number(),
-        value: refusal.place as u64,
-        regions: 0,
+impl From<Result<GameKept, Refusal>> for GameAnswer {
+    ghost from_gives = { λ given answer. answer_in answer ≡ game_answer_of given };
+
+    fn from(given: Result<GameKept, Refusal>) -> GameAnswer {
+        match given {
+            Ok(game) => GameAnswer {
+                number: 0,
+                value: game.kept as u64,
+                regions: game.regions as u64,
+            },
+            Err(refusal) => GameAnswer {
+                number: refusal.cause.number(),
+                value: refusal.place as u64,
+                regions: 0,
+            },
+        }
     }
 }
 
@@ -47,19 +63,13 @@ pub fn play(
     rows: &[u32],
     count: usize,
     verdicts: &mut [u32],
-) -> GameAnswer
+) -> Result<GameKept, Refusal>
     requires { (numbers_per_pair * count ≤ length rows.now) × (verdicts_room ≤ length verdicts.old) }
-    ensures answer { answer_in result ≡ late_answer kept regions goal }
+    ensures answer { game_answer_of result ≡ late_answer kept regions goal }
     ensures verdicts { verdicts.new
-        ≡ verdicts_at_exit (graph_of regions (edges_in rows.now count) goal) verdicts.old (answer_in result).number }
+        ≡ verdicts_at_exit (graph_of regions (edges_in rows.now count) goal) verdicts.old (game_answer_of result).number }
 {
-    if let Err(refusal) = check_game(regions, goal) {
-        return refused(refusal);
-    }
+    check_game(regions, goal)?;
     solve_rows(regions, rows, count, goal as usize, verdicts);
-    GameAnswer {
-        number: 0,
-        value: kept as u64,
-        regions: regions as u64,
-    }
+    Ok(GameKept { kept, regions })
 }

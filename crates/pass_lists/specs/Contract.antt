@@ -1,4 +1,4 @@
--- The words of the contract of `view`. Definitions only; assumes nothing.
+-- The words of the contracts of `view` and of what it is given. Definitions only; assumes nothing.
 use Rattle.std.specs.Prelude.{ℕ, ◌+◌, ◌-◌, ◌*◌, ◌/◌, ◌≤◌, ◌<◌, ◌≡◌, List, length, get_or, Option}
 use Rattle.definitions.specs.Limits.{max_side, numbers_per_anchor}
 use Rattle.definitions.specs.Grid.{Map, cell_count}
@@ -7,6 +7,7 @@ use Rattle.definitions.specs.Partition as partition
 use Rattle.definitions.specs.Context.{Context, context_of}
 use Rattle.laws.specs.ListLaws.Beyond.{Beyond}
 use Rattle.region_pairs.specs.declared.Pair.{Pair}
+use Rattle.pass_lists.specs.declared.SpanPartition.{SpanPartition}
 use Rattle.context.specs.Anchors.{anchor_cell, anchor_cells}
 use Rattle.context.specs.Rows.{PairRows}
 use Rattle.context.specs.Shown.{ShownTallies, ShownPairs, ShownFullPairs, ShownAnchored, ShownIncidents}
@@ -27,6 +28,10 @@ pub record Partitioned (M : Map) (w needed : ℕ) (labels anchors : List ℕ) (r
   pub paired : PairRows (context_of M) pairs rows count
   pub masks_long : cell_count M ≤ masks
   pub queue_long_lem : cell_count M ≤ queue
+
+-- the same of a struct of them
+abbrev pub ShowsMap : Map → SpanPartition → ℕ → ℕ → Type 0
+ShowsMap M x masks queue = Partitioned M x.width x.needed x.labels.now x.anchors.now x.regions x.rows x.count x.tallies.now x.pairs.now masks queue
 
 -- a region's mark says no more than that it is anchored
 abbrev pub FreshMarks : Context → List ℕ → Type 0

@@ -5,7 +5,7 @@
 ghost use Rattle.std.specs.Prelude.{◌≡◌, ◌+◌, length};
 ghost use Rattle.definitions.specs.Limits.{max_entries};
 ghost use Rattle.definitions.specs.Grid.{Map};
-ghost use Rattle.pass_lists.specs.Contract.{Partitioned, Viewed};
+ghost use Rattle.pass_lists.specs.Contract.{ShowsMap, Viewed};
 ghost use Rattle.pass_lists.specs.Finished.{Finishes, Finished};
 
 use areas::scratch::clear_scratch;
@@ -14,45 +14,48 @@ use context::anchored::mark_anchored;
 use context::pairs::{Pair, pair_starts};
 use rows::canonical_output;
 
+// A partitioned map as a pass is given it. The boundaries and anchors are as lent: `needed` cells in rows of `width`, `count` spans, and of these `rows` rows of pairs.
+#[derive(Clone, Copy)]
+pub struct SpanPartition<'a> {
+    pub width: usize,
+    pub needed: usize,
+    pub labels: &'a [u32],
+    pub anchors: &'a [u64],
+    pub regions: usize,
+    pub rows: usize,
+    pub count: usize,
+    pub boundaries: &'a [u64],
+    pub tallies: &'a [u32],
+    pub pairs: &'a [u32],
+}
+
 // What a pass reads of a partitioned map: where the rows of each span's pairs begin, the full pair of each boundary, which regions are anchored (in masks) and how
-// many incidents each has (in the queue). Of `count` spans there are `rows` rows of pairs.
+// many incidents each has (in the queue).
 pub fn view(
-    width: usize,
-    needed: usize,
-    labels: &[u32],
-    anchors: &[u64],
-    regions: usize,
-    rows: usize,
-    count: usize,
-    boundaries: &[u64],
-    tallies: &[u32],
-    pairs: &[u32],
+    partition: SpanPartition,
     masks: &mut [u16],
     queue: &mut [u32],
     starts: &mut [usize; 257],
     full: &mut [Option<Pair>; 256],
 )
-    requires partitioned { (M : Map) × Partitioned M width needed labels.now anchors.now regions rows count tallies.now pairs.now
-        (length masks.old) (length queue.old) }
+    requires partitioned { (M : Map) × ShowsMap M partition (length masks.old) (length queue.old) }
     requires room { (length starts.old ≡ max_entries + 1) × (length full.old ≡ max_entries) }
-    ensures { (M : Map) →
-        Partitioned M width needed labels.now anchors.now regions rows count tallies.now pairs.now
-        (length masks.old) (length queue.old) →
-        Viewed M needed pairs.now masks.old queue.old
+    ensures { (M : Map) → ShowsMap M partition.entry (length masks.old) (length queue.old)
+        → Viewed M partition.entry.needed partition.entry.pairs.now masks.old queue.old
         masks.new queue.new starts.new full.new }
 {
-    clear_scratch(masks, queue, regions);
-    pair_starts(pairs, rows, count, starts);
+    clear_scratch(masks, queue, partition.regions);
+    pair_starts(partition.pairs, partition.rows, partition.count, starts);
     let context = PartitionContext {
-        boundaries,
-        tallies,
-        pairs,
+        boundaries: partition.boundaries,
+        tallies: partition.tallies,
+        pairs: partition.pairs,
         starts,
-        count,
+        count: partition.count,
     };
     context.full_pairs(full);
-    mark_anchored(width, labels, anchors, masks);
-    context.count_incidents(regions, queue);
+    mark_anchored(partition.width, partition.labels, partition.anchors, masks);
+    context.count_incidents(partition.regions, queue);
 }
 
 // Clears masks and queue, writes the rows of the `count` boundaries that are not removed, and gives how many there are.

@@ -1,5 +1,5 @@
 // Between the passes of a run to rest: what a pass leaves, its partition, and the end.
-ghost use Rattle.std.specs.Prelude.{◌≡◌, List, ℕ, ◌*◌, ◌≤◌, length};
+ghost use Rattle.std.specs.Prelude.{◌≡◌, List, ℕ, ◌*◌, ◌≤◌, length, take};
 ghost use Rattle.definitions.specs.Limits.{max_entries};
 ghost use Rattle.definitions.specs.Lists.{overwrite, zeroed};
 ghost use Rattle.definitions.specs.RegionRecord.{Region};
@@ -27,24 +27,36 @@ pub struct Standing {
     pub rows: usize,
 }
 
+// The lists of a run. In front of each stands what is kept: the numbers of boundaries, their endpoints as spans, and the boundaries.
+#[derive(Drop)]
+pub struct KeptLists {
+    pub numbers: [u64; 256],
+    pub spans: [u64; 1024],
+    pub boundaries: [u64; 2304],
+}
+
+impl KeptLists {
+    // The first `count` boundaries.
+    pub fn front(&self, count: usize) -> &[u64]
+        requires { count ≤ max_entries }
+        ensures { result.now ≡ take (9 * count) self.now.boundaries }
+    {
+        &self.boundaries[..NUMBERS_PER_BOUNDARY * count]
+    }
+}
+
 // Moves what is not marked to the front of the three lists, and gives how many are left.
-pub fn keep_left(
-    numbers: &mut [u64],
-    spans: &mut [u64],
-    boundaries: &mut [u64],
-    removed: &[bool; 256],
-    count: usize,
-) -> usize
-    requires { (count ≤ max_entries) × (count ≤ length numbers.old) × (4 * count ≤ length spans.old) × (9 * count ≤ length boundaries.old) }
-    ensures numbers { numbers.new ≡ overwrite (left_blocks removed.now 1 numbers.old count) numbers.old }
-    ensures spans { spans.new ≡ overwrite (left_blocks removed.now 4 spans.old count) spans.old }
-    ensures boundaries { boundaries.new
-        ≡ overwrite (left_blocks removed.now 9 boundaries.old count) boundaries.old }
+pub fn keep_left(kept: &mut KeptLists, removed: &[bool; 256], count: usize) -> usize
+    requires { count ≤ max_entries }
+    ensures numbers { kept.new.numbers ≡ overwrite (left_blocks removed.now 1 kept.old.numbers count) kept.old.numbers }
+    ensures spans { kept.new.spans ≡ overwrite (left_blocks removed.now 4 kept.old.spans count) kept.old.spans }
+    ensures boundaries { kept.new.boundaries
+        ≡ overwrite (left_blocks removed.now 9 kept.old.boundaries count) kept.old.boundaries }
     ensures answer { result ≡ left_count removed.now count }
 {
-    keep_blocks(numbers, 1, removed, count);
-    keep_blocks(spans, NUMBERS_PER_SPAN, removed, count);
-    keep_blocks(boundaries, NUMBERS_PER_BOUNDARY, removed, count)
+    keep_blocks(&mut kept.numbers, 1, removed, count);
+    keep_blocks(&mut kept.spans, NUMBERS_PER_SPAN, removed, count);
+    keep_blocks(&mut kept.boundaries, NUMBERS_PER_BOUNDARY, removed, count)
 }
 
 // Labels, tallies and pairs of what is kept; beyond them, as far as the first partition filled, zero. It is not refused: no later partition has more regions or
@@ -76,21 +88,20 @@ pub fn divide_again(
     }
 }
 
-// The end of a run: masks and queue are cleared, and the rows of what is kept are written.
+// The end of a run: masks and queue are cleared, and the rows of the `count` boundaries that are kept are written.
 pub fn finish_rest(
     needed: usize,
-    kept: usize,
-    numbers: &[u64],
-    spans: &[u64],
+    count: usize,
+    kept: &KeptLists,
     masks: &mut [u16],
     queue: &mut [u32],
     output: &mut [u64],
 )
     requires scratch { (needed ≤ length masks.old) × (needed ≤ length queue.old) }
-    requires room { (kept ≤ length numbers.now) × (4 * kept ≤ length spans.now) × (5 * kept ≤ length output.old) }
+    requires room { (count ≤ max_entries) × (5 * count ≤ length output.old) }
     ensures scratch { (masks.new ≡ zeroed needed masks.old) × (queue.new ≡ zeroed needed queue.old) }
-    ensures output { output.new ≡ overwrite (flat_rows (rows_at numbers.now spans.now kept)) output.old }
+    ensures output { output.new ≡ overwrite (flat_rows (rows_at kept.now.numbers kept.now.spans count)) output.old }
 {
     clear_scratch(masks, queue, needed);
-    put_rows(numbers, spans, kept, output);
+    put_rows(&kept.numbers, &kept.spans, count, output);
 }

@@ -23,7 +23,9 @@ use Rattle.std.specs.Prelude.{Result, Ok, Err}
 use Rattle.refusals.specs.declared.Refusal as code
 use Rattle.refusals.specs.Refusals.{number_of}
 use Rattle.call_partition.specs.declared.Ready.{Ready}
-use Rattle.call_partition.specs.Prepared.{ReadyAs, PreparedAs}
+use Rattle.checks.specs.declared.passes.Pass.{Pass}
+use Rattle.checks.specs.Passes.{pass_number}
+use Rattle.call_partition.specs.Prepared.{ReadyAs, PreparedAs, PassPreparedAs}
 use Rattle.pass_lists.specs.Finished.{Finished, Marked}
 use Rattle.pass_lists.proofs.AfterChecks.{ready-accepted, ready-sides, ready-sound, ready-checked}
 use Rattle.pass_lists.proofs.AfterPartition.{ready-shown, ready-boundaries, ready-partitioned}
@@ -32,7 +34,7 @@ use Rattle.pass_lists.proofs.Closing.{marked-equal, marked_none, ran-kept}
 use Rattle.topology.specs.Filled.{Fills, Filled}
 use Rattle.topology.specs.Held.{HoldsRecords, filled-held, map-counted}
 use Rattle.topology.specs.Mouths.{NoMarks}
-use Rattle.topology.specs.Marks.{MapContext, IsPass, Lent, MarkedFor}
+use Rattle.topology.specs.Marks.{MapContext, Lent, MarkedFor}
 use Rattle.topology.specs.Contract.{RanOver}
 use Rattle.topology.specs.Lent.{lends, leaves}
 
@@ -41,20 +43,30 @@ use Rattle.topology.specs.Lent.{lends, leaves}
 pub no_marks : NoMarks (replicate max_entries false)
 no_marks = record { long = length-replicate {A = Bool} max_entries false; clear = none_set max_entries }
 
+-- what a pass has marked, by its number
+pub marked_as : {k pass : ℕ} (M : Map) (needed count : ℕ) (boundaries : List ℕ) {m q m' q' : List ℕ} {was removed : List Bool} → k ≡ pass
+    → MarkedFor k M needed count boundaries m q m' q' was removed → MarkedFor pass M needed count boundaries m q m' q' was removed
+marked_as M needed count boundaries {m} {q} {m'} {q'} {was} {removed} e K = subst (λ n. MarkedFor n M needed count boundaries m q m' q' was removed) e K
+
 -- ---- the call
 
 module _ {pass w h : ℕ} {cells spans boundaries anchors : List ℕ} {room output : ℕ} {l m q t p l' m' q' t' p' : List ℕ} where
-  -- by the case of the answer
-  pub when_ready : {r : Result Ready code.Refusal} {ready : Ready} → PreparedAs pass w h cells spans boundaries anchors room output l m q t p r l' m' q' t' p' → r ≡ Ok ready → ReadyAs pass w h cells spans boundaries anchors room output l m q t p ready.regions ready.rows l' m' q' t' p'
-  when_ready a e = subst (λ r. PreparedAs pass w h cells spans boundaries anchors room output l m q t p r l' m' q' t' p') e a
+  -- by the case of the answer, where the call asked for its pass by number
+  pub when_named : {r : Result (Pass × Ready) code.Refusal} {y : Pass × Ready} → PassPreparedAs pass w h cells spans boundaries anchors room output l m q t p r l' m' q' t' p' → r ≡ Ok y
+      → (pass_number y.0 ≡ pass) × ReadyAs pass w h cells spans boundaries anchors room output l m q t p y.1.regions y.1.rows l' m' q' t' p'
+  when_named a e = subst (λ r. PassPreparedAs pass w h cells spans boundaries anchors room output l m q t p r l' m' q' t' p') e a
 
-  pub when_refused : {r : Result Ready code.Refusal} {x : code.Refusal} (s : List Region) (o : List ℕ) → PreparedAs pass w h cells spans boundaries anchors room output l m q t p r l' m' q' t' p' → r ≡ Err x → length s ≡ room → length o ≡ output
+  pub when_refused : {r : Result (Pass × Ready) code.Refusal} {x : code.Refusal} (s : List Region) (o : List ℕ) → PassPreparedAs pass w h cells spans boundaries anchors room output l m q t p r l' m' q' t' p' → r ≡ Err x → length s ≡ room → length o ≡ output
       → RanOver pass (lends w h cells spans boundaries anchors l m q t p s o) (record { number = number_of x.cause; value = x.place }) (leaves l' m' q' t' p' s o)
   when_refused s o a e long wide =
       record {
-        ran = subst (λ r. PreparedAs pass w h cells spans boundaries anchors room output l m q t p r l' m' q' t' p') e a (map record_of s) o (length-map s record_of ∙ long) wide;
+        ran = subst (λ r. PassPreparedAs pass w h cells spans boundaries anchors room output l m q t p r l' m' q' t' p') e a (map record_of s) o (length-map s record_of ∙ long) wide;
         beyond = refl;
       }
+
+  -- and where it did not
+  pub when_ready : {r : Result Ready code.Refusal} {ready : Ready} → PreparedAs pass w h cells spans boundaries anchors room output l m q t p r l' m' q' t' p' → r ≡ Ok ready → ReadyAs pass w h cells spans boundaries anchors room output l m q t p ready.regions ready.rows l' m' q' t' p'
+  when_ready a e = subst (λ r. PreparedAs pass w h cells spans boundaries anchors room output l m q t p r l' m' q' t' p') e a
 
   module _ {regions rows : ℕ} (R : ReadyAs pass w h cells spans boundaries anchors room output l m q t p regions rows l' m' q' t' p') where
     abbrev M : Map
@@ -66,11 +78,6 @@ module _ {pass w h : ℕ} {cells spans boundaries anchors : List ℕ} {room outp
     cells-few : cell_count M ≤ max_cells
     unfolding cell_count map_of
     cells-few = needed-few
-
-    pub is_pass : IsPass pass
-    is_pass =
-        let b = both (leb 1 pass) (leb pass 3) (no_fault_lem (leb 1 pass && leb pass 3) 0 (ready-accepted R).pass) in
-        (leb-true 1 pass b.0, leb-true pass 3 b.1)
 
     map-context : MapContext (context_of M)
     unfolding context_of

@@ -3,7 +3,7 @@
 use Prim.Native.Nat.{ℕ, ◌*◌, ◌/◌, ◌≤◌}
 use native.Mathlib.Omega.{arith}
 use native.Mathlib.Nat.{le_refl}
-use mathlib.Core.Path.{◌≡◌, refl, sym, ap, ap₂, ◌∙◌}
+use mathlib.Core.Path.{◌≡◌, refl, sym, ap, ap₂, ◌∙◌, subst}
 use mathlib.Core.Bool.{Bool, false}
 use mathlib.Core.List.{List, ◌++◌, map}
 use lib.ListN.{length, drop, replicate, length-map, length-replicate}
@@ -38,14 +38,15 @@ use Rattle.rest_definitions.specs.Rest.{kept_map}
 use Rattle.rest.specs.Clearing.{beyond-stays}
 use Rattle.game_calls.specs.KeptGraph.{graph_map}
 use Rattle.game_calls.specs.SecondPartition.{second-fewer, second-records}
+use Rattle.grid_steps.specs.declared.grid.TerrainGrid.{TerrainGrid}
 use Rattle.call_partition.specs.declared.Ready.{Ready}
 use Rattle.game_lists.specs.Kept.{Source, lent_of, Divides, DividedKept}
 use Rattle.topology.specs.declared.games.Second.{Second}
 use Rattle.topology.specs.Filled.{Fills, Filled, Renewed}
-use Rattle.topology.specs.Marks.{IsPass, Lent, MarkedFor}
+use Rattle.topology.specs.Marks.{Lent, MarkedFor}
 use Rattle.topology.specs.Games.{Begun, RunsKept, RanKept}
 use Rattle.topology.specs.Lent.{lends, leaves}
-use Rattle.topology.proofs.Calling.{is_pass, ready_fills, ready-lent, marked}
+use Rattle.topology.proofs.Calling.{ready_fills, ready-lent, marked}
 
 module _ {B : Begun} {pass w h : ℕ} {cells spans boundaries anchors : List ℕ} {regions rows : ℕ} {l m q t p : List ℕ} {s : List Region} {o : List ℕ}
     (G : RunsKept B pass (lends w h cells spans boundaries anchors l m q t p s o) regions rows) where
@@ -63,9 +64,6 @@ module _ {B : Begun} {pass w h : ℕ} {cells spans boundaries anchors : List ℕ
 
   pub runs_fills : Fills M room regions w cells l q
   runs_fills = ready_fills G.ready.ready G.queue_long_lem
-
-  pub runs-pass : IsPass pass
-  runs-pass = is_pass G.ready.ready
 
   -- what was lent to the call of the pass
   abbrev pub source : Source
@@ -213,3 +211,14 @@ module _ {B : Begun} {pass w h : ℕ} {cells spans boundaries anchors : List ℕ
                   ∙ F.beyond;
               output = Fin.output ∙ ap (λ r. overwrite (flat_rows r) o) k;
             }
+
+-- what is divided on a grid is divided on one that is equal to it
+pub divides-on : {g : TerrainGrid} (x : TerrainGrid) {spans : List ℕ} {S : Source} {removed : List Bool} {rows room : ℕ} {l m q t p : List ℕ} → g ≡ x
+    → Divides (lent_of x.width x.height x.cells.now spans S) removed rows room l m q t p → Divides (lent_of g.width g.height g.cells.now spans S) removed rows room l m q t p
+divides-on x {spans} {S} {removed} {rows} {room} {l} {m} {q} {t} {p} e D =
+    subst (λ (g : TerrainGrid). Divides (lent_of g.width g.height g.cells.now spans S) removed rows room l m q t p) (sym e) D
+
+pub kept-on : {g : TerrainGrid} (x : TerrainGrid) {spans : List ℕ} {S : Source} {l m q t p : List ℕ} {r : Ready} {l' m' q' t' p' : List ℕ} → g ≡ x
+    → DividedKept (lent_of g.width g.height g.cells.now spans S) l m q t p r l' m' q' t' p' → DividedKept (lent_of x.width x.height x.cells.now spans S) l m q t p r l' m' q' t' p'
+kept-on x {spans} {S} {l} {m} {q} {t} {p} {r} {l'} {m'} {q'} {t'} {p'} e N =
+    subst (λ (g : TerrainGrid). DividedKept (lent_of g.width g.height g.cells.now spans S) l m q t p r l' m' q' t' p') e N

@@ -1,15 +1,7 @@
--- The lists that a pass of a run to rest fills, put together for proofs that have them one by one. Assumes nothing.
-use Prim.Native.Nat.{ℕ}
+-- The lists that are lent are the same over calls one behind the other. Assumes nothing.
 use mathlib.Core.Path.{refl, ◌∙◌}
-use mathlib.Core.List.{List}
 use Rattle.areas.specs.Lists.{SameLists}
 use Rattle.areas.specs.declared.lists.PartitionLists.{PartitionLists}
-use Rattle.topology.specs.Rest.{PassLists}
-
-abbrev pub pass-lists : (m q n b d : List ℕ) → PassLists
-pass-lists m q n b d = record { masks = m; queue = q; numbers = n; spans = b; boundaries = d }
-
--- ---- the lists that are lent are the same over calls one behind the other
 
 pub same_at_entry : (x : PartitionLists) → SameLists x x
 same_at_entry x =

@@ -17,6 +17,8 @@ use Rattle.context.specs.declared.Region.{Region}
 use Rattle.context.specs.Records.{record_of}
 use Rattle.refusals.specs.declared.Refusal as code
 use Rattle.refusals.specs.Refusals.{number_of}
+use Rattle.checks.specs.declared.passes.Pass.{Pass}
+use Rattle.checks.specs.Passes.{pass_number}
 use Rattle.call_partition.specs.declared.Ready.{Ready}
 use Rattle.game.specs.Graph.{edges_in, graph_of, verdicts_at_exit}
 use Rattle.game_calls.specs.KeptGraph.{graph_map, kept_game}
@@ -29,7 +31,7 @@ use Rattle.game_lists.proofs.Answering.{late_complete, played_complete}
 use Rattle.game_lists.proofs.Ready.{ready-early, kept-edges}
 use Rattle.topology.specs.declared.games.Second.{Second}
 use Rattle.topology.specs.Games.{Begun, RunsKept, RanKept, written_at, PlayedOver}
-use Rattle.topology.specs.Lent.{lends, leaves}
+use Rattle.topology.specs.Lent.{LentLists, LeftLists, lends, leaves}
 
 -- the lists as they were lent
 abbrev pub begun : ℕ → List ℕ → List ℕ → List ℕ → List ℕ → List ℕ → Begun
@@ -37,19 +39,23 @@ begun verdicts l m q t p = record { verdicts = verdicts; labels = l; masks = m; 
 
 module _ {pass w h : ℕ} {cells spans boundaries anchors : List ℕ} {room output verdicts : ℕ} {l m q t p l' m' q' t' p' : List ℕ} where
   -- by the case of the answer
-  pub game_ready : {r : Result Ready code.Refusal} {ready : Ready} → GamePreparedAs pass w h cells spans boundaries anchors room output verdicts l m q t p r l' m' q' t' p'
-      → r ≡ Ok ready → GameReady pass w h cells spans boundaries anchors room output verdicts l m q t p ready.regions ready.rows l' m' q' t' p'
-  game_ready a e = subst (λ r. GamePreparedAs pass w h cells spans boundaries anchors room output verdicts l m q t p r l' m' q' t' p') e a
+  pub game_named : {r : Result (Pass × Ready) code.Refusal} {y : Pass × Ready} → GamePreparedAs pass w h cells spans boundaries anchors room output verdicts l m q t p r l' m' q' t' p'
+      → r ≡ Ok y → (pass_number y.0 ≡ pass) × GameReady pass w h cells spans boundaries anchors room output verdicts l m q t p y.1.regions y.1.rows l' m' q' t' p'
+  game_named a e = subst (λ r. GamePreparedAs pass w h cells spans boundaries anchors room output verdicts l m q t p r l' m' q' t' p') e a
 
-  pub refused_over : {r : Result Ready code.Refusal} {x : code.Refusal} (goal : ℕ) (s : List Region) (o v : List ℕ) {a : GameAnswer}
+  -- of the pass itself
+  pub game_as : (y : Pass × Ready) → (pass_number y.0 ≡ pass) × GameReady pass w h cells spans boundaries anchors room output verdicts l m q t p y.1.regions y.1.rows l' m' q' t' p'
+      → GameReady (pass_number y.0) w h cells spans boundaries anchors room output verdicts l m q t p y.1.regions y.1.rows l' m' q' t' p'
+  game_as y P = subst (λ n. GameReady n w h cells spans boundaries anchors room output verdicts l m q t p y.1.regions y.1.rows l' m' q' t' p') (sym P.0) P.1
+
+  pub refused_over : {r : Result (Pass × Ready) code.Refusal} {x : code.Refusal} (goal : ℕ) (s : List Region) (o v : List ℕ)
       → GamePreparedAs pass w h cells spans boundaries anchors room output verdicts l m q t p r l' m' q' t' p' → r ≡ Err x
-      → length s ≡ room → length o ≡ output → length v ≡ verdicts → a ≡ record { number = number_of x.cause; value = x.place; regions = 0 }
-      → PlayedOver pass (lends w h cells spans boundaries anchors l m q t p s o) goal v a (leaves l' m' q' t' p' s o) v
-  refused_over {x = x} goal s o v prepared e long wide table is =
+      → length s ≡ room → length o ≡ output → length v ≡ verdicts
+      → PlayedOver pass (lends w h cells spans boundaries anchors l m q t p s o) goal v (record { number = number_of x.cause; value = x.place; regions = 0 }) (leaves l' m' q' t' p' s o) v
+  refused_over {x = x} goal s o v prepared e long wide table =
       let at : GamePreparedAs pass w h cells spans boundaries anchors room output verdicts l m q t p (Err x) l' m' q' t' p'
       = subst (λ r. GamePreparedAs pass w h cells spans boundaries anchors room output verdicts l m q t p r l' m' q' t' p') e prepared in
-      subst (λ b. PlayedOver pass (lends w h cells spans boundaries anchors l m q t p s o) goal v b (leaves l' m' q' t' p' s o) v) (sym is)
-      (record { played = at goal (map record_of s) o v (length-map s record_of ∙ long) wide table; beyond = refl })
+      record { played = at goal (map record_of s) o v (length-map s record_of ∙ long) wide table; beyond = refl }
 
   module _ {regions rows : ℕ} (G : GameReady pass w h cells spans boundaries anchors room output verdicts l m q t p regions rows l' m' q' t' p') where
     abbrev M : Map
@@ -98,3 +104,8 @@ module _ {pass w h : ℕ} {cells spans boundaries anchors : List ℕ} {room outp
                 R.tallies R.pairs R.records R.output verdicts-are;
             beyond = subst (λ g. drop (written_at g (region_count M)) s₂ ≡ drop (written_at g (region_count M)) s) (sym stage) R.beyond;
           }
+
+-- by the number of the pass that was asked for
+pub played_as : {k pass : ℕ} (L : LentLists) {goal : ℕ} {were : List ℕ} {a : GameAnswer} {E : LeftLists} {verdicts : List ℕ} → k ≡ pass
+    → PlayedOver k L goal were a E verdicts → PlayedOver pass L goal were a E verdicts
+played_as L {goal} {were} {a} {E} {verdicts} e P = subst (λ n. PlayedOver n L goal were a E verdicts) e P

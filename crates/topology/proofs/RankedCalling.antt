@@ -28,8 +28,8 @@ use Rattle.pass_lists.proofs.AfterPartition.{spans-lent, boundaries-lent}
 use Rattle.pass_lists.proofs.Closing.{ran-kept}
 use Rattle.ranked_list.specs.RankedList.{numbers_per_ranked, ranked_rows, ranked_of, flat_ranked}
 use Rattle.ranked_rows.proofs.Judging.{flat-length}
-use Rattle.ranked_finish.specs.declared.RankedAnswer.{RankedAnswer}
-use Rattle.ranked_finish.specs.Ends.{ranked_form, RankedFinished}
+use Rattle.ranked_list.specs.RankedAnswers.{RankedAnswer}
+use Rattle.ranked_finish.specs.Ends.{RankedFinished}
 use Rattle.ranked_finish.proofs.Exits.{ranked-done, ranked-short, refused-ran}
 use Rattle.topology.specs.Filled.{Filled}
 use Rattle.topology.specs.Ranked.{Lists, RankedFor, RankedOver}
@@ -98,7 +98,7 @@ module _ {w h : ℕ} {cells spans boundaries anchors : List ℕ} {room output : 
     module _ {o k m₃ q₃ o₃ k₃ : List ℕ} {a : RankedAnswer} (long : length s ≡ room) (wide : length o ≡ output)
         (E : RankedFinished (h * w) (length boundaries / numbers_per_boundary) boundaries removed listed n m₂ q₂ o k a m₃ q₃ o₃ k₃) where
       by_room : (b : Bool) → leb n (length k / numbers_per_ranked) ≡ b
-          → RankedOver (lends w h cells spans boundaries anchors l m q t p s o) k (ranked_form a) (leaves l' m₃ q₃ t' p' s' o₃) k₃
+          → RankedOver (lends w h cells spans boundaries anchors l m q t p s o) k a (leaves l' m₃ q₃ t' p' s' o₃) k₃
       unfolding map_in
       by_room true e =
           let enough = leb-true n (length k / numbers_per_ranked) e in
@@ -111,9 +111,9 @@ module _ {w h : ℕ} {cells spans boundaries anchors : List ℕ} {room output : 
           let S = E.short lack in
           let fin : Finished (h * w) (length boundaries / numbers_per_boundary) boundaries removed m₂ q₂ o m₃ q₃ _ _ = record { masks = S.0.masks; queue = S.0.queue; output = refl; rows = refl } in
           let ran = ran-kept R (map record_of s) o (length-map s record_of ∙ long) wide F.records K.marked.masks.rest K.marked.queue.rest (marked R F K.marked) fin in
-          subst (λ x. RankedOver (lends w h cells spans boundaries anchors l m q t p s o) k (ranked_form a) (leaves l' m₃ q₃ t' p' s' x) k₃) (sym S.1)
+          subst (λ x. RankedOver (lends w h cells spans boundaries anchors l m q t p s o) k a (leaves l' m₃ q₃ t' p' s' x) k₃) (sym S.1)
           (subst (λ a. RankedOver (lends w h cells spans boundaries anchors l m q t p s o) k a (leaves l' m₃ q₃ t' p' s' o) k₃) (sym S.0.answer)
           (record { ran = ranked-short k ran (omega (arith, lack, lists.many)) S.0.list; beyond = F.beyond }))
 
-      pub ranked-over : RankedOver (lends w h cells spans boundaries anchors l m q t p s o) k (ranked_form a) (leaves l' m₃ q₃ t' p' s' o₃) k₃
+      pub ranked-over : RankedOver (lends w h cells spans boundaries anchors l m q t p s o) k a (leaves l' m₃ q₃ t' p' s' o₃) k₃
       ranked-over = by_room (leb n (length k / numbers_per_ranked)) refl

@@ -20,6 +20,7 @@ use Rattle.context.specs.Records.{record_of}
 use Rattle.std.specs.Prelude.{Result, Ok, Err}
 use Rattle.refusals.specs.declared.Refusal as code
 use Rattle.refusals.specs.Refusals.{number_of}
+use Rattle.grid_steps.specs.declared.grid.TerrainGrid.{TerrainGrid}
 use Rattle.call_partition.specs.declared.Ready.{Ready}
 use Rattle.call_partition.specs.Contract.{given}
 use Rattle.rest_definitions.specs.RowOrder.{start_map}
@@ -31,12 +32,14 @@ use Rattle.rest_lists.specs.Kept.{Origin, map_lent, all_places}
 use Rattle.rest_lists.specs.Begun.{Begun, BegunAs}
 use Rattle.boundary_blocks.specs.Start.{rows_at}
 use Rattle.rest_lists.proofs.Between.{flat-kept, kept-starts}
-use Rattle.rest_lists.proofs.Ending.{numbers_fit, ends-fit, output-fits, masks-fit, queue-fit, rest-ran}
-use Rattle.topology.specs.declared.to_rest.RestAnswer.{RestAnswer}
+use Rattle.rest_lists.proofs.Ending.{output-fits, masks-fit, queue-fit, rest-ran}
+use Rattle.topology.specs.declared.to_rest.RestKept.{RestKept}
 use Rattle.topology.specs.Filled.{Fills, Filled}
-use Rattle.topology.specs.Rest.{rest_answer, rest_written, RestRanOver, Stands, RanToRest, run-lists}
+use Rattle.topology.specs.Rest.{rest_answer_of, RestRanOver, Stands, RanToRest, RunLists, run-lists}
 use Rattle.topology.specs.Lent.{lends, leaves}
+use Rattle.definitions.specs.Limits.{max_entries}
 use Rattle.topology.proofs.Calling.{ready_fills}
+use Rattle.topology.proofs.Resting.{kept-few}
 
 -- ---- before the first pass
 
@@ -108,28 +111,43 @@ module _ {w h : ℕ} {cells spans boundaries anchors : List ℕ} {room output : 
 
 -- ---- at rest
 
-module _ {w h : ℕ} {cells anchors : List ℕ} {O : Origin} {s : List Region} {first : Standing} {a : RestAnswer} {l m q t p : List ℕ} {rs : List Region} {n b d : List ℕ}
+module _ {w h : ℕ} {cells anchors : List ℕ} {O : Origin} {s : List Region} {first : Standing} {a : RestKept} {l m q t p : List ℕ} {rs : List Region} {n b d : List ℕ}
     (R : RanToRest w h cells anchors O s first a (run-lists l m q t p rs n b d)) where
   pub rest-scratch : (h * w ≤ length m) × (h * w ≤ length q)
   rest-scratch = (masks-fit R.stands.lists, queue-fit R.stands.lists)
 
-  pub rest-room : (a.value ≤ length n) × (4 * a.value ≤ length b) × (5 * a.value ≤ length O.output)
+  pub rest-room : (a.kept ≤ max_entries) × (5 * a.kept ≤ length O.output)
   rest-room =
       let K = R.stands.lists in
-      (omega (arith, R.value, numbers_fit K), omega (arith, R.value, ends-fit K), omega (arith, R.value, output-fits K))
+      (omega (arith, R.value, kept-few R.stands), omega (arith, R.value, output-fits K))
 
-  pub rest_over : {m' q' o' : List ℕ} → m' ≡ zeroed (h * w) m → q' ≡ zeroed (h * w) q → o' ≡ overwrite (flat_rows (rows_at n b a.value)) O.output
-      → RestRanOver (lends w h cells O.spans O.boundaries anchors O.labels O.masks O.queue O.tallies O.pairs s O.output) (rest_answer a) (leaves l m' q' t p rs o')
+  pub rest_over : {m' q' o' : List ℕ} → m' ≡ zeroed (h * w) m → q' ≡ zeroed (h * w) q → o' ≡ overwrite (flat_rows (rows_at n b a.kept)) O.output
+      → RestRanOver (lends w h cells O.spans O.boundaries anchors O.labels O.masks O.queue O.tallies O.pairs s O.output) (rest_answer_of (Ok a)) (leaves l m' q' t p rs o')
   rest_over {m'} {q'} {o'} em eq eo =
       let T = R.stands in
       let K = T.lists in
       let L = given 1 w h cells O.spans O.boundaries anchors O.labels O.masks O.queue O.tallies O.pairs (map record_of s) O.output in
-      let regions = region_count (start_map (map_lent w h cells anchors O)) in
       record {
         ran =
-            subst (λ x. RestRan L x l m' q' t p (map record_of rs) o') (λ i. record { number = sym R.number i; value = sym R.value i; rounds = a.rounds })
+            subst (λ x. RestRan L x l m' q' t p (map record_of rs) o') (λ i. record { number = 0; value = sym R.value i; rounds = a.rounds })
             (rest-ran K R.rounds em eq (eo ∙ ap (λ v. overwrite (flat_rows (rows_at n b v)) O.output) R.value) T.records);
-        beyond =
-            subst (λ k. drop (rest_written k regions) rs ≡ drop (rest_written k regions) s) (sym R.number)
-            (subst (λ k. drop k rs ≡ drop k s) K.firsts.regions T.beyond);
+        beyond = subst (λ k. drop k rs ≡ drop k s) K.firsts.regions T.beyond;
       }
+
+-- ---- of a grid and one that is equal to it
+
+pub stands-on : {g : TerrainGrid} (x : TerrainGrid) {anchors : List ℕ} {O : Origin} {s : List Region} {first : Standing} {R : RunLists} → g ≡ x
+    → Stands x.width x.height x.cells.now anchors O s (all_places (map_lent x.width x.height x.cells.now anchors O)) first first R
+    → Stands g.width g.height g.cells.now anchors O s (all_places (map_lent g.width g.height g.cells.now anchors O)) first first R
+stands-on x {anchors} {O} {s} {first} {R} e T =
+    subst (λ (g : TerrainGrid). Stands g.width g.height g.cells.now anchors O s (all_places (map_lent g.width g.height g.cells.now anchors O)) first first R) (sym e) T
+
+pub rests-on : {g : TerrainGrid} (x : TerrainGrid) {anchors : List ℕ} {O : Origin} {s : List Region} {first : Standing} {a : RestKept} {R : RunLists} → g ≡ x
+    → RanToRest g.width g.height g.cells.now anchors O s first a R → RanToRest x.width x.height x.cells.now anchors O s first a R
+rests-on x {anchors} {O} {s} {first} {a} {R} e K = subst (λ (g : TerrainGrid). RanToRest g.width g.height g.cells.now anchors O s first a R) e K
+
+pub fills-on : {g : TerrainGrid} (x : TerrainGrid) {M : Map} {room regions : ℕ} {cells l q : List ℕ} → g ≡ x → Fills M room regions x.width cells l q → Fills M room regions g.width cells l q
+fills-on x {M} {room} {regions} {cells} {l} {q} e F = subst (λ (g : TerrainGrid). Fills M room regions g.width cells l q) (sym e) F
+
+pub zeroed-on : {g : TerrainGrid} (x : TerrainGrid) (a : List ℕ) {b : List ℕ} → g ≡ x → b ≡ zeroed (g.height * g.width) a → b ≡ zeroed (x.height * x.width) a
+zeroed-on x a {b} e z = subst (λ (g : TerrainGrid). b ≡ zeroed (g.height * g.width) a) e z

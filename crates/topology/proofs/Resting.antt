@@ -38,12 +38,18 @@ use Rattle.rest_lists.proofs.Between.{flat-kept, all-kept, kept-still, kept_divi
 use Rattle.topology.specs.Filled.{Fills, Renewed}
 use Rattle.topology.specs.Held.{HoldsRecords, held_first}
 use Rattle.topology.specs.Marks.{Lent, MarkedFor}
-use Rattle.topology.specs.Rest.{Stands, Underway, Passes, Passed, run-lists}
-use Rattle.topology.proofs.Lending.{pass-lists}
+use Rattle.topology.specs.Rest.{Stands, run-lists}
 use Rattle.topology.proofs.Calling.{ready-shows, ready_fills}
 use Rattle.topology.proofs.Filling.{map-drop}
 
 -- ---- one pass
+
+-- It leaves `left`, which the three lists hold; masks, that were m, and queue, that was q, are others over the needed length alone.
+pub record Passed (w h : ℕ) (cells anchors : List ℕ) (O : Origin) (places : List ℕ) (pass left : ℕ) (m q m' q' n' b' d' : List ℕ) : Type 0 where
+  pub count : left ≡ length (passed pass (start_map (map_lent w h cells anchors O)) places)
+  pub held : Holds (map_lent w h cells anchors O) (passed pass (start_map (map_lent w h cells anchors O)) places) n' b' d'
+  pub masks : SameFrom (h * w) m m'
+  pub queue : SameFrom (h * w) q q'
 
 module _ {w h : ℕ} {cells anchors : List ℕ} {O : Origin} {s : List Region} {places : List ℕ} {first standing : Standing}
     {l m q t p : List ℕ} {rs : List Region} {n b d : List ℕ} (T : Stands w h cells anchors O s places first standing (run-lists l m q t p rs n b d)) where
@@ -112,6 +118,17 @@ module _ {w h : ℕ} {cells anchors : List ℕ} {O : Origin} {s : List Region} {
         → d' ≡ overwrite (left_blocks removed 9 d standing.kept) d → Holds M (passed pass (start_map M) places) n' b' d'
     pass-held en eb ed = kept-left M pass places removed marked T.lists.count T.lists.held en eb ed
 
+    -- what the pass leaves
+    pub pass-done : {left : ℕ} {n' b' d' : List ℕ} → n' ≡ overwrite (left_blocks removed 1 n standing.kept) n → b' ≡ overwrite (left_blocks removed 4 b standing.kept) b
+        → d' ≡ overwrite (left_blocks removed 9 d standing.kept) d → left ≡ left_count removed standing.kept → Passed w h cells anchors O places pass left m q m' q' n' b' d'
+    pass-done en eb ed el =
+        record {
+          count = pass-left el;
+          held = pass-held en eb ed;
+          masks = record { long = marks.masks.long; rest = marks.masks.rest };
+          queue = record { long = marks.queue.long; rest = marks.queue.rest };
+        }
+
   -- ---- behind a pass
 
   module _ (pass : ℕ) {left : ℕ} {m' q' n' b' d' : List ℕ} (count : left ≡ length (passed pass (start_map M) places)) (held : Holds M (passed pass (start_map M) places) n' b' d')
@@ -175,30 +192,3 @@ module _ {w h : ℕ} {cells anchors : List ℕ} {O : Origin} {s : List Region} {
                 ∙ ap (overwrite (records_of (context_of (kept_of M after)))) emptied_same;
             beyond = N.beyond first.regions (omega arith) fewer ∙ T.beyond;
           }
-
--- ---- a pass, of a run that it does not see
-
-module _ {U : Underway} {w needed : ℕ} {anchors : List ℕ} {standing : Standing} {l m q t p : List ℕ} {rs : List Region} {n b d : List ℕ}
-    (P : Passes U w needed anchors standing (run-lists l m q t p rs n b d)) where
-  abbrev pub lent_map : Map
-  lent_map = F P.stands
-
-  pub pass-lent : Lent lent_map rs w needed l anchors standing.regions standing.rows standing.kept (take (9 * standing.kept) d) t p (length m) (length q)
-  pass-lent =
-      subst (λ k. Lent lent_map rs w k l anchors standing.regions standing.rows standing.kept (take (9 * standing.kept) d) t p (length m) (length q))
-      (sym P.cells_are) (stands-lent P.stands)
-
-  pub pass-done : {pass left : ℕ} {m' q' n' b' d' : List ℕ} {was removed : List Bool}
-      → MarkedFor pass lent_map needed standing.kept (take (9 * standing.kept) d) m q m' q' was removed
-      → n' ≡ overwrite (left_blocks removed 1 n standing.kept) n → b' ≡ overwrite (left_blocks removed 4 b standing.kept) b
-      → d' ≡ overwrite (left_blocks removed 9 d standing.kept) d → left ≡ left_count removed standing.kept
-      → Passed pass U w needed anchors m q left (pass-lists m' q' n' b' d')
-  pass-done {pass} {m' = m'} {q' = q'} {was = was} {removed = removed} marks en eb ed el =
-      let T = P.stands in
-      let here = subst (λ k. MarkedFor pass lent_map k standing.kept (take (9 * standing.kept) d) m q m' q' was removed) P.cells_are marks in
-      record {
-        count = pass-left T here el;
-        held = pass-held T here en eb ed;
-        masks = record { long = marks.masks.long; rest = marks.masks.rest };
-        queue = record { long = marks.queue.long; rest = marks.queue.rest };
-      }

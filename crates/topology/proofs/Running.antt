@@ -20,8 +20,7 @@ use Rattle.rest_lists.specs.declared.turns.Turn.{Turn}
 use Rattle.rest_lists.specs.Kept.{Origin, map_lent, all_places}
 use Rattle.rest_lists.specs.Turns.{turn_of, turn_after, quiet_after}
 use Rattle.rest_lists.proofs.Turned.{TurnsAt, turns-start, turns_next}
-use Rattle.topology.specs.declared.to_rest.RestAnswer.{RestAnswer}
-use Rattle.topology.specs.Marks.{IsPass}
+use Rattle.topology.specs.declared.to_rest.RestKept.{RestKept}
 use Rattle.topology.specs.Rest.{Stands, RanToRest, run-lists}
 use Rattle.topology.proofs.Resting.{kept-few}
 
@@ -55,20 +54,13 @@ module _ {w h : ℕ} {cells anchors : List ℕ} {O : Origin} {s : List Region} {
 
   module _ {standing : Standing} {turn : Turn} {l m q t p : List ℕ} {rs : List Region} {n b d : List ℕ}
       (R : RunsAt w h cells anchors O s first standing turn l m q t p rs n b d) where
-    pub run-pass : {k : ℕ} → k ≡ pass_number turn.pass → IsPass k
-    run-pass e = (omega (arith, e, R.turns.first), omega (arith, e, R.turns.last))
-
     pub run_next : (turn.quiet ≤ 3) × (turn.rounds ≤ 257)
     run_next = (R.turns.quiet, R.turns.rounds)
 
     module _ (few : length (start_of w h cells anchors O).boundaries ≤ 256) (going : turn.quiet < 3) {next : Standing} (turn' : Turn) {removed : Bool}
         {l' m' q' t' p' : List ℕ} {rs' : List Region} {n' b' d' : List ℕ}
-        {k : ℕ} (of_turn : k ≡ pass_number turn.pass)
-        (ran : Stands w h cells anchors O s (passed k (start_of w h cells anchors O) R.places) first next (run-lists l' m' q' t' p' rs' n' b' d'))
+        (N : Stands w h cells anchors O s (passed (pass_number turn.pass) (start_of w h cells anchors O) R.places) first next (run-lists l' m' q' t' p' rs' n' b' d'))
         (gone : removed ≡ not (eqb next.kept standing.kept)) (after : turn_of turn' ≡ turn_after (turn_of turn) removed) where
-      N : Stands w h cells anchors O s (passed (pass_number turn.pass) (start_of w h cells anchors O) R.places) first next (run-lists l' m' q' t' p' rs' n' b' d')
-      N = subst (λ i. Stands w h cells anchors O s (passed i (start_of w h cells anchors O) R.places) first next (run-lists l' m' q' t' p' rs' n' b' d')) of_turn ran
-
       pub run-turn : RunsAt w h cells anchors O s first next turn' l' m' q' t' p' rs' n' b' d'
       run-turn =
           record {
@@ -98,13 +90,12 @@ module _ {w h : ℕ} {cells anchors : List ℕ} {O : Origin} {s : List Region} {
               let quiet : turn'.quiet ≡ 0 = quiet_is ∙ ap (quiet_after turn.quiet) (gone ∙ ap not e) in
               omega (arith, k, quiet, going, fewer)
 
-    pub run_ends : 3 ≤ turn.quiet → {a : RestAnswer} → a.number ≡ 0 → a.value ≡ standing.kept
+    pub run_ends : 3 ≤ turn.quiet → {a : RestKept} → a.kept ≡ standing.kept
         → a.rounds ≡ cond (eqb (pass_number turn.pass) 1) turn.rounds (turn.rounds + 1) → RanToRest w h cells anchors O s first a (run-lists l m q t p rs n b d)
-    run_ends f en ev er =
+    run_ends f ev er =
         let end = R.turns.over (omega (arith, f, R.turns.quiet)) in
         record {
           standing = standing;
-          number = en;
           value = ev;
           rounds = er ∙ end.1;
           stands = subst (λ ps. Stands w h cells anchors O s ps first standing (run-lists l m q t p rs n b d)) end.0 R.stands;

@@ -37,13 +37,13 @@ use Rattle.desk_checks.specs.AloneCalls.{terrain-left}
 use Rattle.desk_checks.specs.Shared.{lent_both, RefusedBoth, SharedAs}
 use Rattle.desk_checks.proofs.DeskReady.{desk-ready}
 use Rattle.topology.specs.Filled.{Filled}
-use Rattle.topology.specs.Marks.{IsPass, Lent, MarkedFor}
+use Rattle.topology.specs.Marks.{Lent, MarkedFor}
 use Rattle.rest_lists.proofs.Inner.{zeroed-length}
 use Rattle.topology.specs.Contract.{written}
 use Rattle.topology.specs.Desks.{desk_of, Ground, shared_of, Partitioned, Terrain, DeskRan, DesksRan, lends_both, leaves-both, RanBothOver}
 use Rattle.refusals.specs.Answers.{answer_in, answer_of}
 use Rattle.topology.specs.declared.two_desks.DesksAnswer.{DesksAnswer}
-use Rattle.topology.proofs.Calling.{is_pass, ready-lent, ran_over, needed-few}
+use Rattle.topology.proofs.Calling.{ready-lent, ran_over, needed-few}
 
 -- a desk with this refusal before all others
 served-refused : (S : Shared) (D : Desk) {number place : ℕ} → first_of S D ≡ Some (record { number = number; place = place })
@@ -132,9 +132,6 @@ module _ {G : Ground} {w h : ℕ} {spans : List ℕ} {regions rows : ℕ} {l m q
 
       pub desk-few : h * w ≤ max_cells
       desk-few = needed-few own
-
-      pub desk-pass : IsPass pass
-      desk-pass = is_pass own
 
       -- what its pass asks
       pub desk-lent : Lent M s w (h * w) l anchors regions rows (length spans / numbers_per_span) boundaries t p (length m) (length q)

@@ -9,13 +9,23 @@ use Rattle.call_partition.specs.Prepared.{ReadyAs}
 use Rattle.desks.specs.Desks.{Shared, Desk, shared_refusal, answer_from, Served, RanBoth}
 use Rattle.desk_checks.specs.Shared.{lent_both}
 use Rattle.topology.specs.Filled.{Filled}
-use Rattle.refusals.specs.Answers.{answer_in}
+use Rattle.refusals.specs.Answers.{answer_in, answer_of}
 use Rattle.definitions.specs.Verdict as verdict
 use Rattle.topology.specs.Contract.{written}
+use Rattle.topology.specs.declared.two_desks.DesksKept.{DesksKept}
 use Rattle.topology.specs.declared.two_desks.DesksAnswer.{DesksAnswer}
+use Rattle.topology.specs.declared.two_desks.SharedTerrain.{SharedTerrain}
 
 abbrev pub desk_of : ℕ → List ℕ → List ℕ → List ℕ → Desk
 desk_of pass boundaries anchors output = record { pass = pass; boundaries = boundaries; anchors = anchors; output = output }
+
+-- what C is given of both results
+abbrev pub desks_answer : DesksKept → DesksAnswer
+desks_answer r =
+    record {
+      route = record { number = (answer_of r.route).number; value = (answer_of r.route).value };
+      coaching = record { number = (answer_of r.coaching).number; value = (answer_of r.coaching).value };
+    }
 
 -- ---- what was lent before the partition: the cells, and the lists that both desks share
 
@@ -47,6 +57,10 @@ pub record Terrain (G : Ground) (w h : ℕ) (spans : List ℕ) (regions rows : �
   pub filled : Filled (map_of w h G.cells spans [] []) G.records s
   pub cleared : m ≡ zeroed (h * w) G.masks
   pub emptied : q ≡ zeroed (h * w) G.queue
+
+-- the same of a struct of what is only read
+abbrev pub TerrainIn : Ground → SharedTerrain → List ℕ → List ℕ → Type 0
+TerrainIn G x m q = Terrain G x.width x.height x.spans.now x.regions x.rows x.labels.now m q x.tallies.now x.pairs.now x.records.now
 
 -- a desk was served; masks and queue are as they were
 pub record DeskRan (G : Ground) (w h : ℕ) (spans : List ℕ) (D : Desk) (m q : List ℕ) (a : verdict.Answer) (m' q' o' : List ℕ) : Type 0 where

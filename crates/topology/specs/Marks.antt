@@ -1,17 +1,19 @@
 -- The words of the contracts of `removed_marks` and `mark_removed`: what a pass is lent, and what it leaves. Definitions only; assumes nothing.
-use Rattle.std.specs.Prelude.{ℕ, ◌/◌, ◌≤◌, ◌≡◌, Bool, List, length, Option}
-use Rattle.definitions.specs.Limits.{numbers_per_boundary}
+use Rattle.std.specs.Prelude.{ℕ, ◌*◌, ◌/◌, ◌≤◌, ◌≡◌, Bool, List, length, Option}
+use Rattle.definitions.specs.Limits.{numbers_per_span, numbers_per_boundary}
 use Rattle.definitions.specs.Grid.{Map}
 use Rattle.definitions.specs.Context.{Context, context_of}
 use Rattle.laws.specs.FloatLaws.Pixels.{PixelContext}
 use Rattle.laws.specs.RustContext.SoundContext.{Sound}
 use Rattle.laws.specs.RustContext.CheckedContext.{Checked}
 use Rattle.laws.specs.ListLaws.Beyond.{Beyond}
-pub use Rattle.checks.specs.Passes.{IsPass}
+use Rattle.call_partition.specs.declared.Ready.{Ready}
+use Rattle.call_partition.specs.declared.asked.Asked.{Asked}
 use Rattle.context.specs.declared.Region.{Region}
 use Rattle.region_pairs.specs.declared.Pair.{Pair}
 use Rattle.context.specs.Records.{max_cells, Counted}
 use Rattle.context.specs.Shown.{ShownBoundaries, ShownTallies, ShownPairs, ShownFullPairs, ShownAnchored, ShownIncidents}
+use Rattle.pass_lists.specs.declared.SpanPartition.{SpanPartition}
 use Rattle.pass_lists.specs.Contract.{Partitioned, FreshMarks}
 use Rattle.pass_lists.specs.Finished.{MarkedBy}
 use Rattle.topology.specs.Held.{HoldsRecords}
@@ -53,6 +55,15 @@ pub record Lent (M : Map) (records : List Region) (w needed : ℕ) (labels ancho
   pub partitioned : Partitioned M w needed labels anchors regions rows count tallies pairs masks queue
   pub held : HoldsRecords (context_of M) records
   pub bounds : length boundaries / numbers_per_boundary ≡ count → ShownBoundaries (context_of M) boundaries
+
+-- the same of a struct of them
+abbrev pub LentAs : Map → List Region → SpanPartition → ℕ → ℕ → Type 0
+LentAs M records x masks queue = Lent M records x.width x.needed x.labels.now x.anchors.now x.regions x.rows x.count x.boundaries.now x.tallies.now x.pairs.now masks queue
+
+-- and of what a call is asked, whose partition is ready
+abbrev pub AskedLent : Map → List Region → Asked → Ready → (labels tallies pairs : List ℕ) → ℕ → ℕ → Type 0
+AskedLent M records x r labels tallies pairs masks queue =
+    Lent M records x.width (x.height * x.width) labels x.anchors.now r.regions r.rows (length x.spans.now / numbers_per_span) x.boundaries.now tallies pairs masks queue
 
 -- Where there are as many boundaries as spans, the marks are the pass's; otherwise they are as they were. Masks m and queue q have become m' and q', over the needed
 -- length alone.

@@ -1,5 +1,5 @@
 -- The contract of the call that runs the passes to rest, over the lent records as they are declared, and the words of its parts' contracts. Definitions only; assumes nothing.
-use Rattle.std.specs.Prelude.{ℕ, zero, suc, ◌*◌, ◌≡◌, List, map, length, drop, replicate}
+use Rattle.std.specs.Prelude.{ℕ, zero, suc, ◌*◌, ◌≡◌, List, map, length, drop, replicate, Result, Ok, Err}
 use Rattle.definitions.specs.Lists.{overwrite}
 use Rattle.definitions.specs.Partition.{region_count}
 use Rattle.definitions.specs.RegionRecord.{empty_region}
@@ -12,13 +12,20 @@ use Rattle.rest_definitions.specs.Rest.{passed, rested}
 use Rattle.rest_definitions.specs.RestVerdict as def
 use Rattle.rest.specs.RestCalls.{RestRan}
 use Rattle.rest_lists.specs.declared.kept.Standing.{Standing}
-use Rattle.rest_lists.specs.Kept.{Origin, map_lent, kept_of, Holds, SameFrom, KeptLists}
+use Rattle.rest_lists.specs.Kept.{Origin, map_lent, kept_of, KeptLists}
+use Rattle.refusals.specs.declared.Refusal.{Refusal}
+use Rattle.refusals.specs.Refusals.{number_of}
+use Rattle.topology.specs.declared.to_rest.RestKept.{RestKept}
 use Rattle.topology.specs.declared.to_rest.RestAnswer.{RestAnswer}
 use Rattle.topology.specs.Lent.{LentLists, LeftLists, lent_map, lent_call}
 
--- as the exported call gives it
+-- what C's answer says, and what a result does
 abbrev pub rest_answer : RestAnswer → def.RestAnswer
 rest_answer a = record { number = a.number; value = a.value; rounds = a.rounds }
+
+abbrev pub rest_answer_of : Result RestKept Refusal → def.RestAnswer
+rest_answer_of (Ok x) = record { number = 0; value = x.kept; rounds = x.rounds }
+rest_answer_of (Err r) = record { number = number_of r.cause; value = r.place; rounds = 0 }
 
 -- how many records a run that answers with this number writes, whose first partition has n regions
 abbrev pub rest_written : ℕ → ℕ → ℕ
@@ -58,44 +65,11 @@ pub record Stands (w h : ℕ) (cells anchors : List ℕ) (O : Origin) (s : List 
       ≡ overwrite (records_of (context_of (kept_of (map_lent w h cells anchors O) places))) (overwrite (replicate first.regions empty_region) (map record_of s))
   pub beyond : drop first.regions R.records ≡ drop first.regions s
 
--- ---- one pass
-
--- what a pass of a run does not see itself
-pub record Underway : Type 0 where
-  pub height : ℕ
-  pub cells : List ℕ
-  pub origin : Origin
-  pub lent : List Region
-  pub places : List ℕ
-  pub first : Standing
-
-pub record Passes (U : Underway) (w needed : ℕ) (anchors : List ℕ) (standing : Standing) (R : RunLists) : Type 0 where
-  pub cells_are : needed ≡ U.height * w
-  pub stands : Stands w U.height U.cells anchors U.origin U.lent U.places U.first standing R
-
--- the lists of a run that a pass fills, at its exit
-pub record PassLists : Type 0 where
-  pub masks : List ℕ
-  pub queue : List ℕ
-  pub numbers : List ℕ
-  pub spans : List ℕ
-  pub boundaries : List ℕ
-
--- the pass leaves `left`, which the three lists hold; masks, that were m, and queue, that was q, are others over the needed length alone
-pub record Passed (pass : ℕ) (U : Underway) (w needed : ℕ) (anchors m q : List ℕ) (left : ℕ) (E : PassLists) : Type 0 where
-  pub count : left ≡ length (passed pass (start_map (map_lent w U.height U.cells anchors U.origin)) U.places)
-  pub held :
-      Holds (map_lent w U.height U.cells anchors U.origin) (passed pass (start_map (map_lent w U.height U.cells anchors U.origin)) U.places)
-      E.numbers E.spans E.boundaries
-  pub masks : SameFrom needed m E.masks
-  pub queue : SameFrom needed q E.queue
-
 -- ---- the run
 
 -- what a run comes to, as its loop leaves it
-pub record RanToRest (w h : ℕ) (cells anchors : List ℕ) (O : Origin) (s : List Region) (first : Standing) (a : RestAnswer) (R : RunLists) : Type 0 where
+pub record RanToRest (w h : ℕ) (cells anchors : List ℕ) (O : Origin) (s : List Region) (first : Standing) (a : RestKept) (R : RunLists) : Type 0 where
   pub standing : Standing
-  pub number : a.number ≡ 0
-  pub value : a.value ≡ standing.kept
+  pub value : a.kept ≡ standing.kept
   pub rounds : a.rounds ≡ (rested (start_map (map_lent w h cells anchors O))).rounds
   pub stands : Stands w h cells anchors O s (rested (start_map (map_lent w h cells anchors O))).places first standing R

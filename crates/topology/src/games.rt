@@ -1,22 +1,24 @@
 // The call that plays on the kept graph of a map (document 02, request 14): a pass, the partition by what it keeps, and the game.
-ghost use Rattle.game_lists.specs.Forms.{answer_in};
+ghost use Rattle.checks.specs.Passes.{pass_number};
+ghost use Rattle.game_lists.specs.Forms.{game_answer_of};
 ghost use Rattle.areas.specs.Lists.{of_lists, SameLists};
 ghost use Rattle.call_partition.specs.Asking.{of_asked};
 ghost use Rattle.topology.specs.Lent.{lends, leaves};
 ghost use Rattle.topology.specs.Games.{Begun, RunsKept, RanKept, PlayedOver};
 
-use crate::marks::mark_removed;
+use crate::marks::mark_asked;
 use crate::records::{fill, renew};
 use areas::lists::PartitionLists;
 use call_partition::Ready;
 use call_partition::asked::Asked;
+use checks::passes::Pass;
 use context::Region;
-use definitions::limits::{NUMBERS_PER_BOUNDARY, NUMBERS_PER_SPAN};
+use definitions::limits::NUMBERS_PER_BOUNDARY;
 use game_lists::checked::prepare_game;
 use game_lists::kept::divide_kept;
-use game_lists::play::{GameAnswer, play, refused};
-use grid_steps::grid::TerrainGrid;
+use game_lists::play::{GameKept, play};
 use pass_lists::finish;
+use refusals::Refusal;
 
 // How many rows are kept, and the regions and rows of pairs of the kept graph.
 #[derive(Clone, Copy)]
@@ -28,25 +30,23 @@ pub struct Second {
 
 // Behind the first partition: runs the pass, partitions again by what it keeps, and writes the rows.
 pub fn run_kept(
-    pass: u64,
+    pass: Pass,
     asked: Asked,
     ready: Ready,
     lists: &mut PartitionLists,
     records: &mut [Region],
     output: &mut [u64],
 ) -> Second
-    requires { (B : Begun) × RunsKept B pass (of_lists (of_asked lends asked) lists.old records.old output.old) ready.regions ready.rows }
+    requires { (B : Begun) × RunsKept B (pass_number pass) (of_lists (of_asked lends asked) lists.old records.old output.old) ready.regions ready.rows }
     ensures kept { (B : Begun)
-        → RunsKept B pass (of_lists (of_asked lends asked.entry) lists.old records.old output.old) ready.regions ready.rows
-        → RanKept B pass (of_lists (of_asked lends asked.entry) lists.old records.old output.old) result
+        → RunsKept B (pass_number pass) (of_lists (of_asked lends asked.entry) lists.old records.old output.old) ready.regions ready.rows
+        → RanKept B (pass_number pass) (of_lists (of_asked lends asked.entry) lists.old records.old output.old) result
         (of_lists leaves lists.new records.new output.new) }
     ensures same { SameLists lists.old lists.new }
 {
     let width = asked.width as usize;
-    let height = asked.height as usize;
-    let needed = height * width;
+    let needed = asked.height as usize * width;
     let room = records.len();
-    let mut removed = [false; 256];
     let labels = &mut *lists.labels;
     let masks = &mut *lists.masks;
     let queue = &mut *lists.queue;
@@ -60,29 +60,17 @@ pub fn run_kept(
         &*labels,
         &*queue,
     );
-    mark_removed(
-        pass,
-        records,
-        width,
-        needed,
-        &*labels,
-        asked.anchors,
-        ready.regions,
-        ready.rows,
-        asked.spans.len() / NUMBERS_PER_SPAN,
-        asked.boundaries,
-        &*tallies,
-        &*pairs,
-        masks,
-        queue,
-        &mut removed,
+    let removed = mark_asked(
+        pass, asked, ready, records, &*labels, &*tallies, &*pairs, masks, queue,
     );
-    let grid = TerrainGrid {
-        width,
-        height,
-        cells: asked.cells,
-    };
-    let graph = divide_kept(grid, asked.spans, &removed, ready.rows, room, lists);
+    let graph = divide_kept(
+        asked.grid(),
+        asked.spans,
+        &removed,
+        ready.rows,
+        room,
+        lists,
+    );
     let labels = &mut *lists.labels;
     let queue = &mut *lists.queue;
     renew(
@@ -110,7 +98,7 @@ pub fn run_kept(
     }
 }
 
-// The whole call.
+// The whole call: how many rows are kept and the regions of the kept graph, or the refusal.
 pub fn topology_runner_and_guard(
     pass: u64,
     asked: Asked,
@@ -119,31 +107,27 @@ pub fn topology_runner_and_guard(
     records: &mut [Region],
     output: &mut [u64],
     verdicts: &mut [u32],
-) -> GameAnswer
-    ensures played { PlayedOver pass (of_lists (of_asked lends asked.entry) lists.old records.old output.old) goal verdicts.old (answer_in result)
+) -> Result<GameKept, Refusal>
+    ensures played { PlayedOver pass (of_lists (of_asked lends asked.entry) lists.old records.old output.old) goal verdicts.old (game_answer_of result)
         (of_lists leaves lists.new records.new output.new) verdicts.new }
     ensures same { SameLists lists.old lists.new }
 {
-    match prepare_game(
+    let (pass, ready) = prepare_game(
         pass,
         asked,
         records.len(),
         output.len(),
         verdicts.len(),
         lists,
-    ) {
-        Err(refusal) => refused(refusal),
-        Ok(ready) => {
-            let second = run_kept(pass, asked, ready, lists, records, output);
-            let pairs = &mut *lists.pairs;
-            play(
-                second.kept,
-                second.regions,
-                goal,
-                &*pairs,
-                second.rows,
-                verdicts,
-            )
-        }
-    }
+    )?;
+    let second = run_kept(pass, asked, ready, lists, records, output);
+    let pairs = &mut *lists.pairs;
+    play(
+        second.kept,
+        second.regions,
+        goal,
+        &*pairs,
+        second.rows,
+        verdicts,
+    )
 }

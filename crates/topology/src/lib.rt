@@ -27,8 +27,8 @@ use areas::lists::PartitionLists;
 use call_partition::asked::Asked;
 use call_partition::prepare;
 use context::Region;
-use definitions::limits::{NUMBERS_PER_BOUNDARY, NUMBERS_PER_SPAN};
-use marks::mark_removed;
+use definitions::limits::NUMBERS_PER_BOUNDARY;
+use marks::mark_asked;
 use pass_lists::finish;
 use records::fill;
 use refusals::Refusal;
@@ -45,10 +45,9 @@ pub fn topology_kept_boundaries(
         (of_lists leaves lists.new records.new output.new) }
     ensures same { SameLists lists.old lists.new }
 {
-    let ready = prepare(pass, asked, records.len(), output.len(), lists)?;
+    let (pass, ready) = prepare(pass, asked, records.len(), output.len(), lists)?;
     let columns = asked.width as usize;
     let needed = asked.height as usize * columns;
-    let mut removed = [false; 256];
     let labels = &mut *lists.labels;
     let masks = &mut *lists.masks;
     let queue = &mut *lists.queue;
@@ -62,22 +61,8 @@ pub fn topology_kept_boundaries(
         &*labels,
         &*queue,
     );
-    mark_removed(
-        pass,
-        records,
-        columns,
-        needed,
-        &*labels,
-        asked.anchors,
-        ready.regions,
-        ready.rows,
-        asked.spans.len() / NUMBERS_PER_SPAN,
-        asked.boundaries,
-        &*tallies,
-        &*pairs,
-        masks,
-        queue,
-        &mut removed,
+    let removed = mark_asked(
+        pass, asked, ready, records, &*labels, &*tallies, &*pairs, masks, queue,
     );
     let kept = finish(
         needed,

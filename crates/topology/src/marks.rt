@@ -1,19 +1,23 @@
 // The marks of the boundaries that the pass of a call removes.
-ghost use Rattle.std.specs.Prelude.{length};
+ghost use Rattle.std.specs.Prelude.{◌*◌, ◌/◌, ◌≤◌, false, length, replicate};
+ghost use Rattle.definitions.specs.Limits.{max_entries, numbers_per_span};
+ghost use Rattle.context.specs.Records.{max_cells};
 ghost use Rattle.definitions.specs.Grid.{Map};
 ghost use Rattle.definitions.specs.Context.{Context};
-ghost use Rattle.checks.specs.Passes.{pass_number, IsPass};
+ghost use Rattle.checks.specs.Passes.{pass_number};
 ghost use Rattle.topology.specs.Mouths.{NoMarks};
-ghost use Rattle.topology.specs.Marks.{Shows, Removed, Lent, MarkedFor};
+ghost use Rattle.topology.specs.Marks.{Shows, Removed, LentAs, AskedLent, MarkedFor};
 
 use crate::interior_pass::collapse_ramp_interiors;
 use crate::junction_pass::remove_junction_boundaries;
 use crate::mouth_pass::replace_ramp_mouths;
+use call_partition::Ready;
+use call_partition::asked::Asked;
 use checks::passes::Pass;
 use context::pairs::Pair;
 use context::{PartitionContext, Region};
-use definitions::limits::NUMBERS_PER_BOUNDARY;
-use pass_lists::view;
+use definitions::limits::{NUMBERS_PER_BOUNDARY, NUMBERS_PER_SPAN};
+use pass_lists::{SpanPartition, view};
 
 // Marks the boundaries that the pass removes. Marks and counts, which show anchored regions and incidents, are its to work in.
 pub fn removed_marks(
@@ -52,58 +56,36 @@ pub fn removed_marks(
     }
 }
 
-// Views the partitioned map and marks what the pass removes, where there are as many boundaries as spans, of which there are `count`. The pass is lent as much of masks
-// and queue as there are regions.
+// Views the partitioned map and marks what the pass removes, where there are as many boundaries as spans. The pass is lent as much of masks and queue as there are
+// regions.
 pub fn mark_removed(
-    pass: u64,
+    pass: Pass,
     records: &[Region],
-    width: usize,
-    needed: usize,
-    labels: &[u32],
-    anchors: &[u64],
-    regions: usize,
-    rows: usize,
-    count: usize,
-    boundaries: &[u64],
-    tallies: &[u32],
-    pairs: &[u32],
+    partition: SpanPartition,
     masks: &mut [u16],
     queue: &mut [u32],
     removed: &mut [bool; 256],
 )
-    requires map_shown { (M : Map) × Lent M records.now width needed labels.now anchors.now regions rows count boundaries.now tallies.now
-        pairs.now (length masks.old) (length queue.old) }
-    requires before_marking { IsPass pass × NoMarks removed.old }
-    ensures { (M : Map) →
-        Lent M records.now width needed labels.now anchors.now regions rows count boundaries.now
-        tallies.now pairs.now (length masks.old) (length queue.old) →
-        MarkedFor pass M needed count boundaries.now masks.old queue.old
-        masks.new queue.new removed.old removed.new }
+    requires map_shown { (M : Map) × LentAs M records.now partition (length masks.old) (length queue.old) }
+    requires none_marked { NoMarks removed.old }
+    ensures { (M : Map) → LentAs M records.now partition.entry (length masks.old) (length queue.old)
+        → MarkedFor (pass_number pass) M partition.entry.needed partition.entry.count partition.entry.boundaries.now
+        masks.old queue.old masks.new queue.new removed.old removed.new }
 {
-    if boundaries.len() / NUMBERS_PER_BOUNDARY != count {
-        return;
-    }
-    let Some(pass) = Pass::of(pass) else {
-        return;
-    };
-    let mut starts = [0usize; 257];
-    let mut full: [Option<Pair>; 256] = [None; 256];
-    view(
-        width,
-        needed,
-        labels,
-        anchors,
+    let SpanPartition {
         regions,
-        rows,
         count,
         boundaries,
         tallies,
         pairs,
-        masks,
-        queue,
-        &mut starts,
-        &mut full,
-    );
+        ..
+    } = partition;
+    if boundaries.len() / NUMBERS_PER_BOUNDARY != count {
+        return;
+    }
+    let mut starts = [0usize; 257];
+    let mut full: [Option<Pair>; 256] = [None; 256];
+    view(partition, masks, queue, &mut starts, &mut full);
     let context = PartitionContext {
         boundaries,
         tallies,
@@ -121,4 +103,40 @@ pub fn mark_removed(
         &mut queue[..regions],
         removed,
     );
+}
+
+// The marks of the boundaries that the pass removes of what a call is asked: labels, tallies and pairs are those of its partition.
+pub fn mark_asked(
+    pass: Pass,
+    asked: Asked,
+    ready: Ready,
+    records: &[Region],
+    labels: &[u32],
+    tallies: &[u32],
+    pairs: &[u32],
+    masks: &mut [u16],
+    queue: &mut [u32],
+) -> [bool; 256]
+    requires few { asked.height * asked.width ≤ max_cells }
+    requires map_shown { (M : Map) × AskedLent M records.now asked ready labels.now tallies.now pairs.now (length masks.old) (length queue.old) }
+    ensures { (M : Map) → AskedLent M records.now asked.entry ready labels.now tallies.now pairs.now (length masks.old) (length queue.old)
+        → MarkedFor (pass_number pass) M (asked.entry.height * asked.entry.width) (length asked.entry.spans.now / numbers_per_span)
+        asked.entry.boundaries.now masks.old queue.old masks.new queue.new (replicate max_entries false) result }
+{
+    let width = asked.width as usize;
+    let partition = SpanPartition {
+        width,
+        needed: asked.height as usize * width,
+        labels,
+        anchors: asked.anchors,
+        regions: ready.regions,
+        rows: ready.rows,
+        count: asked.spans.len() / NUMBERS_PER_SPAN,
+        boundaries: asked.boundaries,
+        tallies,
+        pairs,
+    };
+    let mut removed = [false; 256];
+    mark_removed(pass, records, partition, masks, queue, &mut removed);
+    removed
 }

@@ -1,13 +1,15 @@
 // The call that gives the ranked junction list (document 02, request 11), over the lent slice of region records.
-ghost use Rattle.std.specs.Prelude.{◌*◌, ◌≤◌, length};
+ghost use Rattle.std.specs.Prelude.{◌*◌, ◌/◌, ◌≤◌, length};
+ghost use Rattle.definitions.specs.Limits.{numbers_per_span};
+ghost use Rattle.context.specs.Records.{max_cells};
 ghost use Rattle.definitions.specs.Grid.{Map};
 ghost use Rattle.definitions.specs.Context.{Context};
 ghost use Rattle.junction_proposals.specs.Rows.{max_proposals};
 ghost use Rattle.ranked_list.specs.RankedList.{numbers_per_ranked};
-ghost use Rattle.ranked_finish.specs.Ends.{ranked_form};
+ghost use Rattle.ranked_finish.specs.Ends.{ranked_of};
 ghost use Rattle.topology.specs.Proposals.{PassesIn, Unmarked};
 ghost use Rattle.topology.specs.Mouths.{NoMarks};
-ghost use Rattle.topology.specs.Marks.{Lent};
+ghost use Rattle.topology.specs.Marks.{AskedLent};
 ghost use Rattle.areas.specs.Lists.{of_lists, SameLists};
 ghost use Rattle.call_partition.specs.Asking.{of_asked};
 ghost use Rattle.topology.specs.Lent.{lends, leaves};
@@ -17,15 +19,16 @@ use crate::junction_pass::{NO_ROW, select_junctions};
 use crate::records::fill;
 use areas::lists::PartitionLists;
 use call_partition::asked::Asked;
-use call_partition::{Ready, prepare};
+use call_partition::{Ready, prepare_lists};
 use context::Region;
 use definitions::limits::{NUMBERS_PER_BOUNDARY, NUMBERS_PER_SPAN};
 use junction_proposals::lists::JunctionLists;
 use junction_proposals::proposals::MAX_PROPOSALS;
 use junction_selection::found::FoundRows;
-use pass_lists::view;
-use ranked_finish::{RankedAnswer, finish_ranked, refused};
+use pass_lists::{SpanPartition, view};
+use ranked_finish::{RankedKept, finish_ranked};
 use ranked_rows::{NUMBERS_PER_RANKED, list_ranked};
+use refusals::Refusal;
 
 // Pass 3 with its list: marks the boundaries that it removes, lists the proposals that reach the ranking, and gives how many there are. No boundary is marked before.
 pub fn rank_junctions(
@@ -51,18 +54,13 @@ pub fn rank_junctions(
     list_ranked(&found, &allowed, listed)
 }
 
-// Views the partitioned map, marks what pass 3 removes and lists its proposals, where there are as many boundaries as spans, of which there are `count`; gives how many
-// proposals there are.
+// Views the partitioned map, marks what pass 3 removes and lists its proposals, where there are as many boundaries as spans; gives how many proposals there are. Labels,
+// tallies and pairs are those of the partition of what a call is asked.
 pub fn mark_ranked(
+    asked: Asked,
+    ready: Ready,
     records: &[Region],
-    width: usize,
-    needed: usize,
     labels: &[u32],
-    anchors: &[u64],
-    regions: usize,
-    rows: usize,
-    count: usize,
-    boundaries: &[u64],
     tallies: &[u32],
     pairs: &[u32],
     masks: &mut [u16],
@@ -70,101 +68,92 @@ pub fn mark_ranked(
     removed: &mut [bool; 256],
     listed: &mut [u32],
 ) -> usize
-    requires map_shown { (M : Map) × Lent M records.now width needed labels.now anchors.now regions rows count boundaries.now tallies.now
-        pairs.now (length masks.old) (length queue.old) }
+    requires few { asked.height * asked.width ≤ max_cells }
+    requires map_shown { (M : Map) × AskedLent M records.now asked ready labels.now tallies.now pairs.now (length masks.old) (length queue.old) }
     requires before_ranking { NoMarks removed.old × (numbers_per_ranked * max_proposals ≤ length listed.old) }
-    ensures { (M : Map)
-        → Lent M records.now width needed labels.now anchors.now regions rows count boundaries.now
-        tallies.now pairs.now (length masks.old) (length queue.old)
-        → RankedFor M needed count boundaries.now masks.old queue.old masks.new queue.new
+    ensures { (M : Map) → AskedLent M records.now asked.entry ready labels.now tallies.now pairs.now (length masks.old) (length queue.old)
+        → RankedFor M (asked.entry.height * asked.entry.width) (length asked.entry.spans.now / numbers_per_span) asked.entry.boundaries.now
+        masks.old queue.old masks.new queue.new
         removed.old removed.new listed.old listed.new result }
 {
+    let count = asked.spans.len() / NUMBERS_PER_SPAN;
+    let boundaries = asked.boundaries;
     if boundaries.len() / NUMBERS_PER_BOUNDARY != count {
         return 0;
     }
-    let mut starts = [0usize; 257];
-    let mut full = [None; 256];
-    view(
+    let width = asked.width as usize;
+    let partition = SpanPartition {
         width,
-        needed,
+        needed: asked.height as usize * width,
         labels,
-        anchors,
-        regions,
-        rows,
+        anchors: asked.anchors,
+        regions: ready.regions,
+        rows: ready.rows,
         count,
         boundaries,
         tallies,
         pairs,
-        masks,
-        queue,
-        &mut starts,
-        &mut full,
-    );
+    };
+    let mut starts = [0usize; 257];
+    let mut full = [None; 256];
+    view(partition, masks, queue, &mut starts, &mut full);
     let lists = JunctionLists {
         boundaries,
         full: &full,
         counts: queue,
         marks: masks,
         count,
-        regions,
+        regions: ready.regions,
     };
     rank_junctions(records, &lists, removed, listed)
 }
 
-// The call of pass 3 with its list. Nothing is written to the lent list before the proposals are counted.
+// The call of pass 3 with its list: how many rows are kept and proposals there are, or the refusal. Nothing is written to the lent list before the proposals are
+// counted.
 pub fn topology_ranked_junctions(
     asked: Asked,
     lists: &mut PartitionLists,
     records: &mut [Region],
     output: &mut [u64],
     ranked: &mut [u32],
-) -> RankedAnswer
-    ensures ranked { RankedOver (of_lists (of_asked lends asked.entry) lists.old records.old output.old) ranked.old (ranked_form result)
+) -> Result<RankedKept, Refusal>
+    ensures ranked { RankedOver (of_lists (of_asked lends asked.entry) lists.old records.old output.old) ranked.old (ranked_of result)
         (of_lists leaves lists.new records.new output.new) ranked.new }
     ensures same { SameLists lists.old lists.new }
 {
-    match prepare(3, asked, records.len(), output.len(), lists) {
-        Err(refusal) => refused(refusal),
-        Ok(Ready { regions, rows }) => {
-            let columns = asked.width as usize;
-            let needed = asked.height as usize * columns;
-            let mut removed = [false; 256];
-            let mut listed = [0u32; NUMBERS_PER_RANKED * MAX_PROPOSALS];
-            let labels = &mut *lists.labels;
-            let masks = &mut *lists.masks;
-            let queue = &mut *lists.queue;
-            let tallies = &mut *lists.tallies;
-            let pairs = &mut *lists.pairs;
-            fill(records, regions, columns, asked.cells, &*labels, &*queue);
-            let n = mark_ranked(
-                records,
-                columns,
-                needed,
-                &*labels,
-                asked.anchors,
-                regions,
-                rows,
-                asked.spans.len() / NUMBERS_PER_SPAN,
-                asked.boundaries,
-                &*tallies,
-                &*pairs,
-                masks,
-                queue,
-                &mut removed,
-                &mut listed,
-            );
-            finish_ranked(
-                needed,
-                asked.boundaries.len() / NUMBERS_PER_BOUNDARY,
-                asked.boundaries,
-                &removed,
-                &listed,
-                n,
-                masks,
-                queue,
-                output,
-                ranked,
-            )
-        }
-    }
+    let ready = prepare_lists(asked, records.len(), output.len(), lists)?;
+    let columns = asked.width as usize;
+    let needed = asked.height as usize * columns;
+    let mut removed = [false; 256];
+    let mut listed = [0u32; NUMBERS_PER_RANKED * MAX_PROPOSALS];
+    let labels = &mut *lists.labels;
+    let masks = &mut *lists.masks;
+    let queue = &mut *lists.queue;
+    let tallies = &mut *lists.tallies;
+    let pairs = &mut *lists.pairs;
+    fill(records, ready.regions, columns, asked.cells, &*labels, &*queue);
+    let n = mark_ranked(
+        asked,
+        ready,
+        records,
+        &*labels,
+        &*tallies,
+        &*pairs,
+        masks,
+        queue,
+        &mut removed,
+        &mut listed,
+    );
+    finish_ranked(
+        needed,
+        asked.boundaries.len() / NUMBERS_PER_BOUNDARY,
+        asked.boundaries,
+        &removed,
+        &listed,
+        n,
+        masks,
+        queue,
+        output,
+        ranked,
+    )
 }

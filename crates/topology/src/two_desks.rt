@@ -1,9 +1,9 @@
 // Two desks over one partition (SPECIFICATION 19.13): the terrain is partitioned once and its records are filled, then each desk has its own checks and its pass. A desk finds
 // the shared lists as they are on success, and leaves them so.
 ghost use Rattle.std.specs.Prelude.{◌≡◌};
-ghost use Rattle.refusals.specs.Answers.{answer_in, answer_of};
+ghost use Rattle.refusals.specs.Answers.{answer_of};
 ghost use Rattle.areas.specs.Lists.{of_lists, SameLists};
-ghost use Rattle.topology.specs.Desks.{desk_of, Ground, Terrain, DeskRan, DesksRan, lends_both, leaves-both, RanBothOver};
+ghost use Rattle.topology.specs.Desks.{desk_of, desks_answer, Ground, Terrain, TerrainIn, DeskRan, DesksRan, lends_both, leaves-both, RanBothOver};
 
 use crate::marks::mark_removed;
 use crate::records::fill;
@@ -14,11 +14,18 @@ use context::Region;
 use definitions::limits::{NUMBERS_PER_BOUNDARY, NUMBERS_PER_SPAN};
 use desk_checks::own::{Desk, check_desk};
 use desk_checks::shared::prepare_shared;
-use pass_lists::finish;
+use pass_lists::{SpanPartition, finish};
 use refusals::Refusal;
 use refusals::answers::Answer;
 
-// The answer to each desk.
+// How many rows of each desk are kept, or its refusal.
+#[derive(Clone, Copy)]
+pub struct DesksKept {
+    pub route: Result<usize, Refusal>,
+    pub coaching: Result<usize, Refusal>,
+}
+
+// As C is given it: the answer to each desk.
 #[repr(C)]
 #[derive(Clone, Copy)]
 pub struct DesksAnswer {
@@ -26,59 +33,68 @@ pub struct DesksAnswer {
     pub coaching: Answer,
 }
 
-fn both(route: Result<usize, Refusal>, coaching: Result<usize, Refusal>) -> DesksAnswer
-    ensures { (answer_in result.route ≡ answer_of route) × (answer_in result.coaching ≡ answer_of coaching) }
-{
-    DesksAnswer {
-        route: Answer::from(route),
-        coaching: Answer::from(coaching),
+impl From<DesksKept> for DesksAnswer {
+    ghost from_gives = { λ kept answer. answer ≡ desks_answer kept };
+
+    fn from(kept: DesksKept) -> DesksAnswer {
+        DesksAnswer {
+            route: Answer::from(kept.route),
+            coaching: Answer::from(kept.coaching),
+        }
     }
+}
+
+// The partitioned terrain that both desks read, with its records.
+#[derive(Clone, Copy)]
+pub struct SharedTerrain<'a> {
+    pub width: u64,
+    pub height: u64,
+    pub spans: &'a [u64],
+    pub regions: usize,
+    pub rows: usize,
+    pub labels: &'a [u32],
+    pub tallies: &'a [u32],
+    pub pairs: &'a [u32],
+    pub records: &'a [Region],
 }
 
 // One desk: its checks, then its pass. Gives how many rows are kept. Masks and queue are zero over the needed length, before and after.
 pub fn run_desk(
     desk: Desk,
-    width: u64,
-    height: u64,
-    spans: &[u64],
-    regions: usize,
-    rows: usize,
-    labels: &[u32],
-    tallies: &[u32],
-    pairs: &[u32],
-    records: &[Region],
+    terrain: SharedTerrain,
     masks: &mut [u16],
     queue: &mut [u32],
     output: &mut [u64],
 ) -> Result<usize, Refusal>
-    requires { (G : Ground) × Terrain G width height spans.now regions rows
-        labels.now masks.old queue.old tallies.now pairs.now records.now }
-    ensures { (G : Ground) → Terrain G width height spans.now regions rows
-        labels.now masks.old queue.old tallies.now pairs.now records.now
-        → DeskRan G width height spans.now (desk_of desk.entry.pass desk.entry.boundaries.now desk.entry.anchors.now output.old)
+    requires { (G : Ground) × TerrainIn G terrain masks.old queue.old }
+    ensures { (G : Ground) → TerrainIn G terrain.entry masks.old queue.old
+        → DeskRan G terrain.entry.width terrain.entry.height terrain.entry.spans.now
+        (desk_of desk.entry.pass desk.entry.boundaries.now desk.entry.anchors.now output.old)
         masks.old queue.old (answer_of result) masks.new queue.new output.new }
 {
-    check_desk(width, height, spans, desk, output.len())?;
+    let SharedTerrain {
+        width,
+        height,
+        spans,
+        ..
+    } = terrain;
+    let pass = check_desk(width, height, spans, desk, output.len())?;
     let columns = width as usize;
     let needed = height as usize * columns;
     let mut removed = [false; 256];
-    mark_removed(
-        desk.pass,
-        records,
-        columns,
+    let partition = SpanPartition {
+        width: columns,
         needed,
-        labels,
-        desk.anchors,
-        regions,
-        rows,
-        spans.len() / NUMBERS_PER_SPAN,
-        desk.boundaries,
-        tallies,
-        pairs,
-        masks,
-        queue,
-        &mut removed,
-    );
+        labels: terrain.labels,
+        anchors: desk.anchors,
+        regions: terrain.regions,
+        rows: terrain.rows,
+        count: spans.len() / NUMBERS_PER_SPAN,
+        boundaries: desk.boundaries,
+        tallies: terrain.tallies,
+        pairs: terrain.pairs,
+    };
+    mark_removed(pass, terrain.records, partition, masks, queue, &mut removed);
     let kept = finish(
         needed,
         desk.boundaries.len() / NUMBERS_PER_BOUNDARY,
@@ -97,8 +113,7 @@ pub fn run_desks(
     width: u64,
     height: u64,
     spans: &[u64],
-    regions: usize,
-    rows: usize,
+    ready: Ready,
     route_desk: Desk,
     coaching_desk: Desk,
     labels: &[u32],
@@ -109,81 +124,36 @@ pub fn run_desks(
     queue: &mut [u32],
     route_output: &mut [u64],
     coaching_output: &mut [u64],
-) -> DesksAnswer
-    requires { (G : Ground) × Terrain G width height spans.now regions rows
+) -> DesksKept
+    requires { (G : Ground) × Terrain G width height spans.now ready.regions ready.rows
         labels.now masks.old queue.old tallies.now pairs.now records.now }
-    ensures { (G : Ground) → Terrain G width height spans.now regions rows
+    ensures { (G : Ground) → Terrain G width height spans.now ready.regions ready.rows
         labels.now masks.old queue.old tallies.now pairs.now records.now
         → DesksRan G width height spans.now
         (desk_of route_desk.entry.pass route_desk.entry.boundaries.now route_desk.entry.anchors.now route_output.old)
         (desk_of coaching_desk.entry.pass coaching_desk.entry.boundaries.now coaching_desk.entry.anchors.now coaching_output.old)
-        masks.old queue.old result
+        masks.old queue.old (desks_answer result)
         masks.new queue.new route_output.new coaching_output.new }
 {
+    let terrain = SharedTerrain {
+        width,
+        height,
+        spans,
+        regions: ready.regions,
+        rows: ready.rows,
+        labels,
+        tallies,
+        pairs,
+        records,
+    };
     if order == 0 {
-        let route = run_desk(
-            route_desk,
-            width,
-            height,
-            spans,
-            regions,
-            rows,
-            labels,
-            tallies,
-            pairs,
-            records,
-            masks,
-            queue,
-            route_output,
-        );
-        let coaching = run_desk(
-            coaching_desk,
-            width,
-            height,
-            spans,
-            regions,
-            rows,
-            labels,
-            tallies,
-            pairs,
-            records,
-            masks,
-            queue,
-            coaching_output,
-        );
-        return both(route, coaching);
+        let route = run_desk(route_desk, terrain, masks, queue, route_output);
+        let coaching = run_desk(coaching_desk, terrain, masks, queue, coaching_output);
+        return DesksKept { route, coaching };
     }
-    let coaching = run_desk(
-        coaching_desk,
-        width,
-        height,
-        spans,
-        regions,
-        rows,
-        labels,
-        tallies,
-        pairs,
-        records,
-        masks,
-        queue,
-        coaching_output,
-    );
-    let route = run_desk(
-        route_desk,
-        width,
-        height,
-        spans,
-        regions,
-        rows,
-        labels,
-        tallies,
-        pairs,
-        records,
-        masks,
-        queue,
-        route_output,
-    );
-    both(route, coaching)
+    let coaching = run_desk(coaching_desk, terrain, masks, queue, coaching_output);
+    let route = run_desk(route_desk, terrain, masks, queue, route_output);
+    DesksKept { route, coaching }
 }
 
 // The call for two desks. The records are filled from the queue before the desks work in it.
@@ -199,33 +169,42 @@ pub fn topology_two_desks(
     records: &mut [Region],
     route_output: &mut [u64],
     coaching_output: &mut [u64],
-) -> DesksAnswer
+) -> DesksKept
     ensures ran { RanBothOver order (of_lists (lends_both width height cells.now spans.now) lists.old records.old)
         (desk_of route_desk.entry.pass route_desk.entry.boundaries.now route_desk.entry.anchors.now route_output.old)
         (desk_of coaching_desk.entry.pass coaching_desk.entry.boundaries.now coaching_desk.entry.anchors.now coaching_output.old)
-        result
+        (desks_answer result)
         (of_lists leaves-both lists.new records.new route_output.new coaching_output.new) }
     ensures same { SameLists lists.old lists.new }
 {
     match prepare_shared(width, height, cells, spans, records.len(), lists) {
         // "a refusal over the shared lists comes first and goes to both"
-        Err(refusal) => both(Err(refusal), Err(refusal)),
-        Ok(Ready { regions, rows }) => {
+        Err(refusal) => DesksKept {
+            route: Err(refusal),
+            coaching: Err(refusal),
+        },
+        Ok(ready) => {
             let columns = width as usize;
             let labels = &mut *lists.labels;
             let masks = &mut *lists.masks;
             let queue = &mut *lists.queue;
             let tallies = &mut *lists.tallies;
             let pairs = &mut *lists.pairs;
-            fill(records, regions, columns, cells, &*labels, &*queue);
+            fill(
+                records,
+                ready.regions,
+                columns,
+                cells,
+                &*labels,
+                &*queue,
+            );
             clear_scratch(masks, queue, height as usize * columns);
             run_desks(
                 order,
                 width,
                 height,
                 spans,
-                regions,
-                rows,
+                ready,
                 route_desk,
                 coaching_desk,
                 &*labels,

@@ -1,11 +1,16 @@
 -- `ranked_finish::finish_ranked` meets its contract, from what its callees ensure: the test says which of the two ends it is. Assumes nothing.
-use native.Mathlib.Omega.{arith}
-use mathlib.Core.Path.{refl}
+use Rattle.std.proofs.Common.{rules, refl, arith, ◌≡◌, length}
+use lib.ListN.{replicate}
+use Rattle.areas.proofs.Clearing.{cleared_all}
 use Rattle.ranked_finish.proofs.finish_ranked.Goals as goal
 
 pub returns-then-lent-n : goal.returns-then-lent-n
 returns-then-lent-n c =
-    record { short = λ _. (c.refuse_list.ensures, refl); enough = λ h. absurd (omega (arith, h, c.if-lent-n.true)) }
+    let k : c.fill.new.self ≡ replicate (length c.args.lent.now) 0 = search rules in
+    record {
+      short = λ _. (record { answer = refl; masks = c.clear_scratch.ensures.0; queue = c.clear_scratch.ensures.1; list = cleared_all c.args.lent.now k }, refl);
+      enough = λ h. absurd (omega (arith, h, c.if-lent-n.true));
+    }
 
 pub returns : goal.returns
 returns c =

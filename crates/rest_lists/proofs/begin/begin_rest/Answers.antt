@@ -16,7 +16,7 @@ returns-in_err-rest_checks-clause-begun c =
     let r : c.from_residual.result ≡ Err c.in_err-rest_checks.field-0.0 = search rules in
     rw r (begun-refused given.asked.width given.asked.height given.asked.cells.now given.asked.spans.now given.asked.boundaries.now given.asked.anchors.now given.room given.output
     given.lists.now.labels.now given.lists.now.masks.now given.lists.now.queue.now given.lists.now.tallies.now given.lists.now.pairs.now
-    c.in_err-rest_checks.field-0.0 given.numbers.now given.ends.now given.entries.now c.in_err-rest_checks.ensures)
+    c.in_err-rest_checks.field-0.0 given.kept.now.numbers given.kept.now.spans given.kept.now.boundaries c.in_err-rest_checks.ensures)
 
 pub start_lists-requires : goal.start_lists-requires
 start_lists-requires c =
@@ -24,7 +24,10 @@ start_lists-requires c =
     let few = count-few given.asked.width given.asked.height given.asked.cells.now given.asked.spans.now given.asked.boundaries.now given.asked.anchors.now given.room given.output
     given.lists.now.labels.now given.lists.now.masks.now given.lists.now.queue.now given.lists.now.tallies.now given.lists.now.pairs.now
     c.in_ok-rest_checks.ensures in
-    record { sizes = (few, omega arith); room = (omega (arith, few, c.requires.0), omega (arith, few, c.requires.1), omega (arith, few, c.requires.2)) }
+    record {
+      sizes = (few, omega arith);
+      room = (search (rules, few), search (rules, few), search (rules, few));
+    }
 
 pub overflow_mul-end : goal.overflow_mul-end
 overflow_mul-end c =
@@ -38,24 +41,24 @@ overflow_mul-end c =
       );
     }
 
+pub shared_ref_as_front-divide : goal.shared_ref_as_front-divide
+shared_ref_as_front-divide c =
+    let given = c.args in
+    omega (
+      arith,
+      count-few given.asked.width given.asked.height given.asked.cells.now given.asked.spans.now given.asked.boundaries.now given.asked.anchors.now given.room given.output
+          given.lists.now.labels.now given.lists.now.masks.now given.lists.now.queue.now given.lists.now.tallies.now given.lists.now.pairs.now
+          c.in_ok-rest_checks.ensures,
+    )
+
 pub slice_bounds-divide-end : goal.slice_bounds-divide-end
 slice_bounds-divide-end c =
-    let lists = c.start_lists in
-    let given = c.args in
-    ends-long given.asked.width given.asked.height given.asked.cells.now given.asked.spans.now given.asked.boundaries.now given.asked.anchors.now given.room given.output
-    given.lists.now.labels.now given.lists.now.masks.now given.lists.now.queue.now given.lists.now.tallies.now given.lists.now.pairs.now
-    c.in_ok-rest_checks.ensures
-    (start-held given.asked.width given.asked.height given.asked.cells.now given.asked.spans.now given.asked.boundaries.now given.asked.anchors.now given.numbers.now given.ends.now given.entries.now
-    lists.ensures.numbers lists.ensures.spans lists.ensures.boundaries)
-
-pub slice_bounds-divide-end-2 : goal.slice_bounds-divide-end-2
-slice_bounds-divide-end-2 c =
     let lists = c.start_lists in
     let given = c.args in
     sym (length-take-le _ _ (ends-long given.asked.width given.asked.height given.asked.cells.now given.asked.spans.now given.asked.boundaries.now given.asked.anchors.now given.room given.output
     given.lists.now.labels.now given.lists.now.masks.now given.lists.now.queue.now given.lists.now.tallies.now given.lists.now.pairs.now
     c.in_ok-rest_checks.ensures
-    (start-held given.asked.width given.asked.height given.asked.cells.now given.asked.spans.now given.asked.boundaries.now given.asked.anchors.now given.numbers.now given.ends.now given.entries.now
+    (start-held given.asked.width given.asked.height given.asked.cells.now given.asked.spans.now given.asked.boundaries.now given.asked.anchors.now given.kept.now.numbers given.kept.now.spans given.kept.now.boundaries
     lists.ensures.numbers lists.ensures.spans lists.ensures.boundaries)))
 
 pub divide-requires : goal.divide-requires
@@ -65,7 +68,7 @@ divide-requires c =
     rw c.grid.ensures (begun-fits given.asked.width given.asked.height given.asked.cells.now given.asked.spans.now given.asked.boundaries.now given.asked.anchors.now given.room given.output
     given.lists.now.labels.now given.lists.now.masks.now given.lists.now.queue.now given.lists.now.tallies.now given.lists.now.pairs.now
     c.in_ok-rest_checks.ensures
-    (start-held given.asked.width given.asked.height given.asked.cells.now given.asked.spans.now given.asked.boundaries.now given.asked.anchors.now given.numbers.now given.ends.now given.entries.now
+    (start-held given.asked.width given.asked.height given.asked.cells.now given.asked.spans.now given.asked.boundaries.now given.asked.anchors.now given.kept.now.numbers given.kept.now.spans given.kept.now.boundaries
     lists.ensures.numbers lists.ensures.spans lists.ensures.boundaries))
 
 pub returns-clause-begun : goal.returns-clause-begun
@@ -77,6 +80,6 @@ returns-clause-begun c =
     begun_divided given.asked.width given.asked.height given.asked.cells.now given.asked.spans.now given.asked.boundaries.now given.asked.anchors.now given.room given.output
     given.lists.now.labels.now given.lists.now.masks.now given.lists.now.queue.now given.lists.now.tallies.now given.lists.now.pairs.now
     c.in_ok-rest_checks.ensures
-    (start-held given.asked.width given.asked.height given.asked.cells.now given.asked.spans.now given.asked.boundaries.now given.asked.anchors.now given.numbers.now given.ends.now given.entries.now
+    (start-held given.asked.width given.asked.height given.asked.cells.now given.asked.spans.now given.asked.boundaries.now given.asked.anchors.now given.kept.now.numbers given.kept.now.spans given.kept.now.boundaries
     lists.ensures.numbers lists.ensures.spans lists.ensures.boundaries)
     last.labels.now last.masks.now last.queue.now last.tallies.now last.pairs.now divided.result (divided_on (grid_in c.args.asked) _ _ c.args.lists.now c.divide.new.lists _ c.grid.ensures divided.ensures.divided)

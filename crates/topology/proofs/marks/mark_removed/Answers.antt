@@ -1,9 +1,7 @@
 -- Where the boundaries are not as many as the count says, nothing is marked, and nothing is asked to be. Else `view` leaves the anchored regions and the incidents in masks and
 -- queue, of which the pass is lent as much as there are regions, as `Marking` has it.
-use Rattle.std.proofs.Common.{sym, subst}
+use Rattle.std.proofs.Common.{sym}
 use lib.Seq.{length-take-le}
-use Rattle.definitions.specs.Context.{context_of}
-use Rattle.topology.specs.Marks.{Removed}
 use Rattle.topology.proofs.Marking.{unmarked_lent, marks_long_lem, counts_long_lem, lent-shows, marked-lent}
 use Rattle.topology.proofs.marks.mark_removed.Goals as goal
 
@@ -37,5 +35,4 @@ pub returns : goal.returns
 returns c = λ M L.
     let same = c.if-boundaries-count.false in
     let shown = c.view.ensures M L.partitioned in
-    let removed = subst (λ n. Removed n (context_of M) c.removed_marks.new.removed) c.in-Some.ensures (c.removed_marks.ensures _ (lent-shows M L same shown)) in
-    marked-lent M L same shown _ _ c.removed_marks.auto.marks c.removed_marks.auto.counts removed
+    marked-lent M L same shown _ _ c.removed_marks.auto.marks c.removed_marks.auto.counts (c.removed_marks.ensures _ (lent-shows M L same shown))

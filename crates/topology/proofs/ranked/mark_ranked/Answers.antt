@@ -1,10 +1,14 @@
 -- Where the boundaries are not as many as the count says, nothing is marked or listed, and nothing is asked to be. Else `view` leaves the anchored regions and the incidents in masks
 -- and queue, which pass 3 reads, as `RankedMarking` has it.
+use Rattle.std.proofs.Common.{arith}
 use Rattle.topology.proofs.RankedMarking.{unranked-lent, unmarked_here, lent-passes, ranked-lent}
 use Rattle.topology.proofs.ranked.mark_ranked.Goals as goal
 
 pub returns-then-boundaries-count : goal.returns-then-boundaries-count
 returns-then-boundaries-count c = λ M L. unranked-lent M L c.if-boundaries-count.true
+
+pub overflow_mul-partition : goal.overflow_mul-partition
+overflow_mul-partition c = record { fits = omega (arith, c.requires.few) }
 
 pub view-requires-clause-partitioned : goal.view-requires-clause-partitioned
 view-requires-clause-partitioned c = (_, c.requires.map_shown.1.partitioned)

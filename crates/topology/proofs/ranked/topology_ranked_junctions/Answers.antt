@@ -1,47 +1,53 @@
 -- What a part of the call asks is what the parts before it leave (Calling, RankedCalling).
-use Rattle.std.proofs.Common.{ℕ, refl, ◌∙◌, arith}
+use Rattle.std.proofs.Common.{ℕ, rules, refl, ◌≡◌, ◌∙◌, arith}
+use Rattle.std.specs.Prelude.{Err}
 use Rattle.std.proofs.lemmas.List.{length-replicate}
 use Rattle.pass_lists.proofs.AfterPartition.{ready_finishes}
 use Rattle.topology.proofs.Calling.{no_marks, when_ready, needed-few, ready_fills, ready-lent}
 use Rattle.topology.proofs.RankedCalling.{refused_over, listed-long, ranked-over}
 use Rattle.topology.proofs.ranked.topology_ranked_junctions.Goals as goal
 
-pub returns-in-Err-clause-ranked : goal.returns-in-Err-clause-ranked
-returns-in-Err-clause-ranked c = rw c.refused.ensures (refused_over _ _ _ c.prepare.ensures.prepared c.in-Err.is refl refl)
+pub returns-in_err-ready-clause-ranked : goal.returns-in_err-ready-clause-ranked
+returns-in_err-ready-clause-ranked c =
+    let given : c.from_residual.result ≡ Err c.in_err-ready.field-0.0 = search rules in
+    rw given (refused_over _ _ _ (c.prepare_lists.ensures.prepared 3 (search rules)) c.in_err-ready.was refl refl)
 
 pub overflow_mul-needed : goal.overflow_mul-needed
 overflow_mul-needed c =
-    let R = when_ready c.prepare.ensures.prepared c.in-Ok.is in
+    let R = when_ready (c.prepare_lists.ensures.prepared 3 (search rules)) c.in_ok-ready.was in
     record { fits = omega (arith, needed-few R) }
 
 pub fill-requires : goal.fill-requires
 fill-requires c =
-    let R = when_ready c.prepare.ensures.prepared c.in-Ok.is in
-    (_, ready_fills R c.prepare.ensures.same.queue_long_lem)
+    let R = when_ready (c.prepare_lists.ensures.prepared 3 (search rules)) c.in_ok-ready.was in
+    (_, ready_fills R c.prepare_lists.ensures.same.queue_long_lem)
 
 pub mark_ranked-n-requires-clause-map_shown : goal.mark_ranked-n-requires-clause-map_shown
 mark_ranked-n-requires-clause-map_shown c =
-    let R = when_ready c.prepare.ensures.prepared c.in-Ok.is in
-    let F = c.fill.ensures _ (ready_fills R c.prepare.ensures.same.queue_long_lem) in
-    (_, ready-lent R F c.prepare.ensures.same.masks_long c.prepare.ensures.same.queue_long_lem)
+    let R = when_ready (c.prepare_lists.ensures.prepared 3 (search rules)) c.in_ok-ready.was in
+    let F = c.fill.ensures _ (ready_fills R c.prepare_lists.ensures.same.queue_long_lem) in
+    (_, ready-lent R F c.prepare_lists.ensures.same.masks_long c.prepare_lists.ensures.same.queue_long_lem)
+
+pub mark_ranked-n-requires-clause-few : goal.mark_ranked-n-requires-clause-few
+mark_ranked-n-requires-clause-few c = needed-few (when_ready (c.prepare_lists.ensures.prepared 3 (search rules)) c.in_ok-ready.was)
 
 pub mark_ranked-n-requires-clause-before_ranking : goal.mark_ranked-n-requires-clause-before_ranking
 mark_ranked-n-requires-clause-before_ranking c = (no_marks, omega (arith, length-replicate {A = ℕ}))
 
 pub finish_ranked-requires-clause-finishes : goal.finish_ranked-requires-clause-finishes
 finish_ranked-requires-clause-finishes c =
-    let R = when_ready c.prepare.ensures.prepared c.in-Ok.is in
-    ready_finishes R (c.mark_ranked-n.auto.masks ∙ c.prepare.ensures.same.masks_long) (c.mark_ranked-n.auto.queue ∙ c.prepare.ensures.same.queue_long_lem)
+    let R = when_ready (c.prepare_lists.ensures.prepared 3 (search rules)) c.in_ok-ready.was in
+    ready_finishes R (c.mark_ranked-n.auto.masks ∙ c.prepare_lists.ensures.same.masks_long) (c.mark_ranked-n.auto.queue ∙ c.prepare_lists.ensures.same.queue_long_lem)
 
 pub finish_ranked-requires-clause-listed : goal.finish_ranked-requires-clause-listed
 finish_ranked-requires-clause-listed c =
-    let R = when_ready c.prepare.ensures.prepared c.in-Ok.is in
-    let F = c.fill.ensures _ (ready_fills R c.prepare.ensures.same.queue_long_lem) in
-    listed-long R F (c.mark_ranked-n.ensures _ (ready-lent R F c.prepare.ensures.same.masks_long c.prepare.ensures.same.queue_long_lem))
+    let R = when_ready (c.prepare_lists.ensures.prepared 3 (search rules)) c.in_ok-ready.was in
+    let F = c.fill.ensures _ (ready_fills R c.prepare_lists.ensures.same.queue_long_lem) in
+    listed-long R F (c.mark_ranked-n.ensures _ (ready-lent R F c.prepare_lists.ensures.same.masks_long c.prepare_lists.ensures.same.queue_long_lem))
 
-pub returns-in-Ok-clause-ranked : goal.returns-in-Ok-clause-ranked
-returns-in-Ok-clause-ranked c =
-    let R = when_ready c.prepare.ensures.prepared c.in-Ok.is in
-    let F = c.fill.ensures _ (ready_fills R c.prepare.ensures.same.queue_long_lem) in
-    let K = c.mark_ranked-n.ensures _ (ready-lent R F c.prepare.ensures.same.masks_long c.prepare.ensures.same.queue_long_lem) in
+pub returns-clause-ranked : goal.returns-clause-ranked
+returns-clause-ranked c =
+    let R = when_ready (c.prepare_lists.ensures.prepared 3 (search rules)) c.in_ok-ready.was in
+    let F = c.fill.ensures _ (ready_fills R c.prepare_lists.ensures.same.queue_long_lem) in
+    let K = c.mark_ranked-n.ensures _ (ready-lent R F c.prepare_lists.ensures.same.masks_long c.prepare_lists.ensures.same.queue_long_lem) in
     ranked-over R F K refl refl c.finish_ranked.ensures

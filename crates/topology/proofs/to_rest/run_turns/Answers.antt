@@ -1,17 +1,14 @@
 -- A turn keeps what is known of the run (`run-turn`), and the measure falls (`run-lower`); where three passes in a row were quiet the run has come to rest (`run_ends`).
 use Rattle.std.proofs.Common.{refl}
 use Rattle.topology.proofs.Lending.{same_at_entry, still_same}
-use Rattle.topology.proofs.Running.{start-few, run-starts, run-pass, run_next, run-turn, run-lower, run_ends}
+use Rattle.topology.proofs.Running.{start-few, run-starts, run_next, run-turn, run-lower, run_ends}
 use Rattle.topology.proofs.to_rest.run_turns.Goals as goal
 
 pub loop-turn-init : goal.loop-turn-init
 loop-turn-init c = (λ O s E. run-starts E c.first_turn-turn.ensures, same_at_entry _)
 
-pub turn_once-next-requires-clause-is_pass : goal.turn_once-next-requires-clause-is_pass
-turn_once-next-requires-clause-is_pass c = run-pass (c.loop-turn.invariant.0 _ _ c.requires.2) c.number.ensures
-
-pub turn_once-next-requires-clause-lists_stand : goal.turn_once-next-requires-clause-lists_stand
-turn_once-next-requires-clause-lists_stand c = (_, _, _, (c.loop-turn.invariant.0 _ _ c.requires.2).stands)
+pub turn_once-next-requires : goal.turn_once-next-requires
+turn_once-next-requires c = (_, _, _, (c.loop-turn.invariant.0 _ _ c.requires.2).stands)
 
 pub next_turn-turn-requires : goal.next_turn-turn-requires
 next_turn-turn-requires c = run_next (c.loop-turn.invariant.0 _ _ c.requires.2)
@@ -20,13 +17,13 @@ pub loop-turn-smaller : goal.loop-turn-smaller
 loop-turn-smaller c =
     let E = c.requires.2 in
     let R = c.loop-turn.invariant.0 _ _ E in
-    run-lower R (start-few E) c.loop-turn-test.true c.next_turn-turn.result c.number.ensures (c.turn_once-next.ensures.stands _ _ _ R.stands) refl c.next_turn-turn.ensures
+    run-lower R (start-few E) c.loop-turn-test.true c.next_turn-turn.result (c.turn_once-next.ensures.stands _ _ _ R.stands) refl c.next_turn-turn.ensures
 
 pub loop-turn-preserved : goal.loop-turn-preserved
 loop-turn-preserved c = (
   λ O s E.
       let R = c.loop-turn.invariant.0 O s E in
-      run-turn R (start-few E) c.loop-turn-test.true c.next_turn-turn.result c.number.ensures (c.turn_once-next.ensures.stands _ _ _ R.stands) refl c.next_turn-turn.ensures,
+      run-turn R (start-few E) c.loop-turn-test.true c.next_turn-turn.result (c.turn_once-next.ensures.stands _ _ _ R.stands) refl c.next_turn-turn.ensures,
   still_same c.loop-turn.invariant.1 c.turn_once-next.ensures.same,
 )
 
@@ -34,7 +31,7 @@ pub rounds_of-requires : goal.rounds_of-requires
 rounds_of-requires c = (c.loop-turn.invariant.0 _ _ c.requires.2).turns.rounds
 
 pub returns-clause-rests : goal.returns-clause-rests
-returns-clause-rests c = λ O s E. run_ends (c.loop-turn.invariant.0 O s E) c.loop-turn-test.false refl refl c.rounds_of.ensures
+returns-clause-rests c = λ O s E. run_ends (c.loop-turn.invariant.0 O s E) c.loop-turn-test.false refl c.rounds_of.ensures
 
 pub returns-clause-same : goal.returns-clause-same
 returns-clause-same c = c.loop-turn.invariant.1

@@ -11,8 +11,8 @@ abbrev pub invariant-loop-turn : goal.invariant-loop-turn
 invariant-loop-turn l =
     ((O : Origin) (s : List Region)
     → Stands l.grid.width l.grid.height l.grid.cells.now l.anchors O s (all_places (map_lent l.grid.width l.grid.height l.grid.cells.now l.anchors O)) l.first l.first
-    (of_lists run-lists l.fn.lists l.fn.records l.fn.numbers l.fn.spans l.fn.boundaries)
-    → of_lists (RunsAt l.grid.width l.grid.height l.grid.cells.now l.anchors O s l.first l.standing l.turn) l.lists l.records l.numbers l.spans l.boundaries)
+    (of_lists run-lists l.fn.lists l.fn.records l.fn.kept.numbers l.fn.kept.spans l.fn.kept.boundaries)
+    → of_lists (RunsAt l.grid.width l.grid.height l.grid.cells.now l.anchors O s l.first l.standing l.turn) l.lists l.records l.kept.numbers l.kept.spans l.kept.boundaries)
     × SameLists l.fn.lists l.lists
 
 abbrev pub decreases-loop-turn : goal.decreases-loop-turn

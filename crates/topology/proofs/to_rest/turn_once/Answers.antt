@@ -1,53 +1,53 @@
--- Where the pass removed none the run stands still, else what is left was divided again and the records renewed (Resting).
-use Rattle.std.proofs.Common.{ℕ, ◌*◌, List, refl, arith}
-use Rattle.context.specs.declared.Region.{Region}
-use Rattle.rest_lists.specs.declared.kept.Standing.{Standing}
-use Rattle.rest_lists.specs.Kept.{Origin}
-use Rattle.topology.specs.Rest.{Stands, Passes, run-lists}
+-- A pass is lent what is kept, and the blocks that it leaves are those of the places left. Where it removed none the run stands still, else what is left was divided again and the records
+-- renewed (Resting).
+use Rattle.std.proofs.Common.{sym, arith}
+use lib.Seq.{length-take-le}
 use Rattle.topology.proofs.Calling.{needed-few}
-use Rattle.topology.proofs.Resting.{stands-still, asks_again, first_fits, again_fills, stands-again}
+use Rattle.topology.proofs.Resting.{kept-few, stands-lent, pass-done, stands-still, asks_again, first_fits, again_fills, stands-again}
 use Rattle.topology.proofs.to_rest.turn_once.Goals as goal
 
--- the run, as its pass sees it
-asked : {w h : ℕ} {cells anchors : List ℕ} {O : Origin} {s : List Region} {places : List ℕ} {first standing : Standing} {l m q t p : List ℕ} {rs : List Region} {n b d : List ℕ}
-    → Stands w h cells anchors O s places first standing (run-lists l m q t p rs n b d)
-    → Passes (record { height = h; cells = cells; origin = O; lent = s; places = places; first = first }) w (h * w) anchors standing (run-lists l m q t p rs n b d)
-asked T = record { cells_are = refl; stands = T }
+pub mark_kept-removed-requires-clause-few : goal.mark_kept-removed-requires-clause-few
+mark_kept-removed-requires-clause-few c = (kept-few c.requires.3, needed-few c.requires.3.lists.ready)
 
-pub overflow_mul-grid : goal.overflow_mul-grid
-overflow_mul-grid c = record { fits = omega (arith, needed-few c.requires.lists_stand.3.lists.ready) }
+pub mark_kept-removed-requires-clause-map_shown : goal.mark_kept-removed-requires-clause-map_shown
+mark_kept-removed-requires-clause-map_shown c = (_, stands-lent c.requires.3)
 
-pub pass_kept-left-requires-clause-lists_stand : goal.pass_kept-left-requires-clause-lists_stand
-pass_kept-left-requires-clause-lists_stand c = (_, asked c.requires.lists_stand.3)
+pub keep_left-left-requires : goal.keep_left-left-requires
+keep_left-left-requires c = kept-few c.requires.3
 
 pub returns-then-left-standing-clause-stands : goal.returns-then-left-standing-clause-stands
 returns-then-left-standing-clause-stands c = λ O s places T.
-    let at = c.pass_kept-left.ensures _ (asked T) in
-    stands-still T c.args.pass at.count at.held at.masks at.queue c.if-left-standing.true
+    let left = c.keep_left-left.ensures in
+    let at = pass-done T (c.mark_kept-removed.ensures _ (stands-lent T)) left.numbers left.spans left.boundaries left.answer in
+    stands-still T _ at.count at.held at.masks at.queue c.if-left-standing.true
 
 pub divide_again-next-requires : goal.divide_again-next-requires
 divide_again-next-requires c =
-    let T = c.requires.lists_stand.3 in
-    let at = c.pass_kept-left.ensures _ (asked T) in
-    (_, _, _, _, asks_again T c.args.pass at.count at.held at.masks at.queue)
+    let T = c.requires.3 in
+    let left = c.keep_left-left.ensures in
+    let at = pass-done T (c.mark_kept-removed.ensures _ (stands-lent T)) left.numbers left.spans left.boundaries left.answer in
+    (_, _, _, _, asks_again T _ at.count at.held at.masks at.queue)
 
 pub renew-requires-clause-first_in : goal.renew-requires-clause-first_in
 renew-requires-clause-first_in c =
-    let T = c.requires.lists_stand.3 in
-    let at = c.pass_kept-left.ensures _ (asked T) in
-    first_fits T c.args.pass at.count at.held at.masks at.queue
+    let T = c.requires.3 in
+    let left = c.keep_left-left.ensures in
+    let at = pass-done T (c.mark_kept-removed.ensures _ (stands-lent T)) left.numbers left.spans left.boundaries left.answer in
+    first_fits T _ at.count at.held at.masks at.queue
 
 pub renew-requires-clause-map_shown : goal.renew-requires-clause-map_shown
 renew-requires-clause-map_shown c =
-    let T = c.requires.lists_stand.3 in
-    let at = c.pass_kept-left.ensures _ (asked T) in
-    let again = c.divide_again-next.ensures.divided _ _ _ _ (asks_again T c.args.pass at.count at.held at.masks at.queue) in
-    (_, again_fills T c.args.pass at.count at.held at.masks at.queue again c.divide_again-next.ensures.same.queue_long_lem)
+    let T = c.requires.3 in
+    let left = c.keep_left-left.ensures in
+    let at = pass-done T (c.mark_kept-removed.ensures _ (stands-lent T)) left.numbers left.spans left.boundaries left.answer in
+    let again = c.divide_again-next.ensures.divided _ _ _ _ (asks_again T _ at.count at.held at.masks at.queue) in
+    (_, again_fills T _ at.count at.held at.masks at.queue again c.divide_again-next.ensures.same.queue_long_lem)
 
 pub returns-clause-stands : goal.returns-clause-stands
 returns-clause-stands c = λ O s places T.
-    let at = c.pass_kept-left.ensures _ (asked T) in
-    let again = c.divide_again-next.ensures.divided _ _ _ _ (asks_again T c.args.pass at.count at.held at.masks at.queue) in
+    let left = c.keep_left-left.ensures in
+    let at = pass-done T (c.mark_kept-removed.ensures _ (stands-lent T)) left.numbers left.spans left.boundaries left.answer in
+    let again = c.divide_again-next.ensures.divided _ _ _ _ (asks_again T _ at.count at.held at.masks at.queue) in
     let size = c.divide_again-next.ensures.same in
-    let fills = again_fills T c.args.pass at.count at.held at.masks at.queue again size.queue_long_lem in
-    stands-again T c.args.pass at.count at.held at.masks at.queue again size.labels_long size.masks_long size.queue_long_lem size.tallies_long size.pairs_long c.renew.auto.records (c.renew.ensures _ fills)
+    let fills = again_fills T _ at.count at.held at.masks at.queue again size.queue_long_lem in
+    stands-again T _ at.count at.held at.masks at.queue again size.labels_long size.masks_long size.queue_long_lem size.tallies_long size.pairs_long c.renew.auto.records (c.renew.ensures _ fills)

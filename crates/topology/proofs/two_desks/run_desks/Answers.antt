@@ -1,4 +1,5 @@
 -- Either order: the desk that goes second finds the terrain as the first found it (TwoDesks).
+use Rattle.std.proofs.Common.{refl}
 use Rattle.topology.proofs.TwoDesks.{terrain-again, route-before, coaching-before}
 use Rattle.topology.proofs.two_desks.run_desks.Goals as goal
 
@@ -10,7 +11,7 @@ run_desk-coaching-requires c =
 pub returns-then-order-eq0 : goal.returns-then-order-eq0
 returns-then-order-eq0 c = λ G T.
     let first = c.run_desk-route.ensures G T in
-    route-before c.both.ensures first (c.run_desk-coaching.ensures G (terrain-again T first.same_masks first.same_queue))
+    route-before (refl, refl) first (c.run_desk-coaching.ensures G (terrain-again T first.same_masks first.same_queue))
 
 pub run_desk-route-requires-2 : goal.run_desk-route-requires-2
 run_desk-route-requires-2 c =
@@ -20,4 +21,4 @@ run_desk-route-requires-2 c =
 pub returns : goal.returns
 returns c = λ G T.
     let first = c.run_desk-coaching-2.ensures G T in
-    coaching-before c.both-2.ensures first (c.run_desk-route-2.ensures G (terrain-again T first.same_masks first.same_queue))
+    coaching-before (refl, refl) first (c.run_desk-route-2.ensures G (terrain-again T first.same_masks first.same_queue))

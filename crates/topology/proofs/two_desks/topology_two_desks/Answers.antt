@@ -1,5 +1,5 @@
 -- A refusal over the shared lists goes to both; of a terrain that is ready the records are filled, masks and queue cleared, and both desks served (TwoDesks).
-use Rattle.std.proofs.Common.{arith}
+use Rattle.std.proofs.Common.{arith, refl}
 use Rattle.std.proofs.lemmas.List.{length-map}
 use Rattle.topology.proofs.Calling.{ready_fills, needed-few}
 use Rattle.topology.proofs.TwoDesks.{shared-ready, shared-refused, both-refused, needed-within, partitioned, terrain-filled, both-served}
@@ -8,7 +8,7 @@ use Rattle.topology.proofs.two_desks.topology_two_desks.Goals as goal
 
 pub returns-in-Err-clause-ran : goal.returns-in-Err-clause-ran
 returns-in-Err-clause-ran c =
-    both-refused (shared-refused c.prepare_shared.ensures.shared c.in-Err.is (length-map c.args.records.now record_of)) c.both.ensures
+    both-refused (shared-refused c.prepare_shared.ensures.shared c.in-Err.is (length-map c.args.records.now record_of)) (refl, refl)
 
 pub fill-requires : goal.fill-requires
 fill-requires c =
