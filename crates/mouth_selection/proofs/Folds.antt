@@ -1,61 +1,79 @@
--- A fold over a range whose step keeps an invariant: the step may be called at each turn, and the invariant holds at the end. Assumes nothing.
-use Prim.Native.Nat.{ℕ, ◌+◌, ◌-◌, ◌≤◌, ◌<◌}
+-- A fold over the items of a list whose step keeps an invariant: the step may be called at each turn, and the invariant holds at the end. Assumes nothing.
+use Prim.Native.Nat.{ℕ, suc, ◌+◌, ◌≤◌, ◌<◌}
 use native.Mathlib.Omega.{arith}
 use denote.Param.Members.{Mut}
-use mathlib.Core.Path.{◌≡◌, refl, sym, subst}
+use mathlib.Core.Path.{◌≡◌, refl, sym, ap, subst, ◌∙◌}
 use mathlib.Core.List.{List, [], ◌∷◌}
-use Rattle.std.specs.Prelude.{Some}
+use lib.ListN.{length, get_or}
+use Rattle.std.specs.Prelude.{Option, None, Some}
 use Rattle.std.specs.Fn.{Called, Takes}
-use Rattle.std.specs.Iterator.{Yields, FoldTurn, CallableInFold, FoldsItems}
+use Rattle.std.specs.Iterator.{AlwaysYields, Yields, FoldTurn, CallableInFold, FoldsItems}
 use Rattle.std.specs.List.{FoldsTo}
-use Rattle.std.specs.declared.ops.Range.{Range}
-use Rattle.std.proofs.iter.Yields.{nat_range_steps}
+use Rattle.std.proofs.lemmas.Iterator.{YieldsList}
 
-module _ {F B : Type 0} (g : Mut F (B × (ℕ × Unit {0})) B) (f : F) (Inv : ℕ → B → Type 0) (n : ℕ) where
+module _ {S A B X F : Type 0} {steps : S → Option A → S → Type 0} {v : A → X} {s : S} {all : List X} (road : YieldsList steps v s all)
+    (g : Mut F (B × (A × Unit {0})) B) (f : F) (Inv : ℕ → B → Type 0) where
+  -- x is the item at place k
+  abbrev pub At : ℕ → A → Type 0
+  At k x = (k < length all) × (v x ≡ get_or all k (v x))
+
   -- what a turn leaves
-  abbrev pub Stays : ℕ → Type 0
-  Stays from = (b : B) (x : ℕ) (q : F) (r : B) → from ≤ x → x < n → Inv x b → Called g f (b, (x, tt)) r q → (q ≡ f) × Inv (x + 1) r
+  abbrev pub Stays : Type 0
+  Stays = (b : B) (x : A) (k : ℕ) (q : F) (r : B) → At k x → Inv k b → Called g f (b, (x, tt)) r q → (q ≡ f) × Inv (k + 1) r
 
-  -- what some turns leave, with t of the range to come
-  record Passed (s t : Range ℕ) (q : F × B) : Type 0 where
+  -- what k turns leave, with `rest` to come
+  record Passed (t : S) (q : F × B) : Type 0 where
+    k : ℕ
+    rest : List X
+    runs : AlwaysYields steps v t rest
+    size : length all ≡ k + length rest
+    at : (i : ℕ) (d : X) → get_or rest i d ≡ get_or all (k + i) d
     same : q.0 ≡ f
-    kept : Inv t.start q.1
-    end : t.end ≡ n
-    from : s.start ≤ t.start
-    upto : t.start ≤ n
+    kept : Inv k q.1
 
-  passed : (xs : List ℕ) (s t : Range ℕ) (p q : F × B) → Stays s.start → Passed s s p → Yields nat_range_steps s xs t → FoldsTo (FoldTurn g) p xs q → Passed s t q
-  passed [] s t p q stays P y c = subst (Passed s t) c (subst (λ k. Passed s k p) y P)
-  passed (x ∷ xs) s t p q stays P (j, step, rest) (m, turn, more) =
-      let at : x ≡ s.start = step.1.1 in
-      let next : j.start ≡ s.start + 1 = step.1.2 in
-      let left : (m.0 ≡ f) × Inv (x + 1) m.1 = stays p.1 x m.0 m.1 (omega (arith, at)) (omega (arith, at, step.1.0, P.end)) (subst (λ k. Inv k p.1) (sym at) P.kept)
-      (subst (λ k. Called g k (p.1, (x, tt)) m.1 m.0) P.same turn) in
-      let after = passed xs j t m q (λ b y h r l u i w. stays b y h r (omega (arith, l, next)) u i w)
-      (record {
+  -- the next item, where one comes
+  next_item : (k : ℕ) (rest : List X) (t u : S) (x : A) → AlwaysYields steps v t rest → length all ≡ k + length rest → ((i : ℕ) (d : X) → get_or rest i d ≡ get_or all (k + i) d)
+      → steps t (Some x) u → At k x
+  next_item k [] t u x runs size at e = absurd (runs x u e)
+  next_item k (y ∷ ys) t u x runs size at e =
+      (omega (arith, size), (runs.1 x u e).0 ∙ at 0 (v x) ∙ ap (λ i. get_or all i (v x)) (omega arith))
+
+  turn : (k : ℕ) (rest : List X) (t u : S) (x : A) (p q : F × B) → Stays → AlwaysYields steps v t rest → length all ≡ k + length rest → ((i : ℕ) (d : X) → get_or rest i d ≡ get_or all (k + i) d)
+      → p.0 ≡ f → Inv k p.1 → steps t (Some x) u → FoldTurn g p x q → Passed u q
+  turn k [] t u x p q stays runs size at same kept e c = absurd (runs x u e)
+  turn k (y ∷ ys) t u x p q stays runs size at same kept e c =
+      let left = stays p.1 x k q.0 q.1 (next_item k (y ∷ ys) t u x runs size at e) kept (subst (λ h. Called g h (p.1, (x, tt)) q.1 q.0) same c) in
+      record {
+        k = k + 1;
+        rest = ys;
+        runs = (runs.1 x u e).1;
+        size = omega (arith, size);
+        at = λ i d. at (suc i) d ∙ ap (λ j. get_or all j d) (omega arith);
         same = left.0;
-        kept = subst (λ k. Inv k m.1) (omega (arith, at, next)) left.1;
-        end = omega (arith, step.0, P.end);
-        from = omega arith;
-        upto = omega (arith, next, step.1.0, P.end);
-      })
-      rest more in
-      record { same = after.same; kept = after.kept; end = after.end; from = omega (arith, after.from, next); upto = after.upto }
+        kept = left.1;
+      }
 
-  module _ (s : Range ℕ) (init : B) (stays : Stays s.start) (end : s.end ≡ n) (upto : s.start ≤ n) (start : Inv s.start init) where
-    first : Passed s s (f, init)
-    first = record { same = refl; kept = start; end = end; from = omega arith; upto = upto }
+  passed : (xs : List A) (t u : S) (p q : F × B) → Stays → Passed t p → Yields steps t xs u → FoldsTo (FoldTurn g) p xs q → Passed u q
+  passed [] t u p q stays P y c = subst (Passed u) c (subst (λ h. Passed h p) y P)
+  passed (x ∷ xs) t u p q stays P (j, step, more) (m, one, others) =
+      passed xs j u m q stays (turn P.k P.rest t j x p m stays P.runs P.size P.at P.same P.kept step one) more others
 
-    pub callable_in_fold : ((b : B) (x : ℕ) → s.start ≤ x → x < n → Inv x b → Takes g f (b, (x, tt))) → CallableInFold nat_range_steps g s f init
+  ended : (k : ℕ) (rest : List X) (t u : S) → AlwaysYields steps v t rest → length all ≡ k + length rest → steps t None u → k ≡ length all
+  ended k [] t u runs size e = omega (arith, size)
+  ended k (y ∷ ys) t u runs size e = absurd (runs.0 u e)
+
+  module _ (init : B) (stays : Stays) (start : Inv 0 init) where
+    first : Passed s (f, init)
+    first = record { k = 0; rest = all; runs = road.runs; size = omega arith; at = λ i d. ap (λ j. get_or all j d) (omega arith); same = refl; kept = start }
+
+    pub callable_in_fold : ((b : B) (x : A) (k : ℕ) → At k x → Inv k b → Takes g f (b, (x, tt))) → CallableInFold steps g s f init
     callable_in_fold asks = record {
       at = λ xs t q x u y c e.
           let h = passed xs s t (f, init) q stays first y c in
-          let at : x ≡ t.start = e.1.1 in
-          subst (λ k. Takes g k (q.1, (x, tt))) (sym h.same) (asks q.1 x (omega (arith, at, h.from)) (omega (arith, at, e.1.0, h.end)) (subst (λ k. Inv k q.1) (sym at) h.kept));
+          subst (λ k. Takes g k (q.1, (x, tt))) (sym h.same) (asks q.1 x h.k (next_item h.k h.rest t u x h.runs h.size h.at e) h.kept);
     }
 
-    pub kept_by_fold : (r : B) → FoldsItems nat_range_steps g s f init r → Inv n r
+    pub kept_by_fold : (r : B) → FoldsItems steps g s f init r → Inv (length all) r
     kept_by_fold r (xs, q, (u, w), c) =
         let h = passed xs s w.0 (f, init) (q, r) stays first w.1 c in
-        let done : w.0.end - w.0.start ≡ 0 = w.2.1.0 in
-        subst (λ k. Inv k r) (omega (arith, done, h.end, h.upto)) h.kept
+        subst (λ k. Inv k r) (ended h.k h.rest w.0 u h.runs h.size w.2) h.kept

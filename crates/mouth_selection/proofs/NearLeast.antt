@@ -1,8 +1,10 @@
 -- The least of the candidates of a ramp that are left and whose inner regions are near, candidate by candidate: it is the least of the ramp's proposals that are left.
 -- Assumes nothing.
-use Rattle.mouth_proposals.specs.Listed.{proposal_in, entry_at, Filled}
+use Rattle.mouth_proposals.specs.Listed.{blank, proposal_in, entry_at, Filled}
 use Rattle.mouth_proposals.specs.declared.candidates.Candidate.{Candidate}
-use Prim.Native.Nat.{ℕ, ◌+◌}
+use Prim.Native.Nat.{ℕ, ◌+◌, ◌≤◌}
+use lib.ListN.{length, take}
+use lib.Seq.{get_or-take, length-take-le}
 use native.Mathlib.Omega.{arith}
 use mathlib.Core.Path.{◌≡◌, refl, sym, ap, ◌∙◌}
 use mathlib.Core.Bool.{Bool, true, false, not, ◌&&◌, cond}
@@ -13,6 +15,7 @@ use Rattle.definitions.specs.Context.{Context}
 use Rattle.definitions.specs.RampMouths.{MouthProposal, corners_near_lem, ranks_before}
 use Rattle.laws.specs.ListLaws.Lists.{all_filter, filter-append}
 use Rattle.laws.specs.ListLaws.Options.{OnO, absent, present}
+use Rattle.laws.specs.ListLaws.Scans.{collect_ext}
 use Rattle.laws.specs.ListLaws.ScanSteps.{collect_next}
 use Rattle.context.specs.Shown.{ShownPairs}
 use Rattle.mouth_proposals.specs.Candidates.{proposal_of, mouth_candidate}
@@ -53,6 +56,13 @@ module _ (C : Context) (T : List MouthProposal) where
       go true true e l = ap (λ c. least_from (ranks_before C) None (l ++ cond c (p ∷ []) [])) e ∙ least_last (ranks_before C) None l p
       go true false e l = ap (λ c. least_from (ranks_before C) None (l ++ cond c (p ∷ []) [])) e ∙ ap (least_from (ranks_before C) None) (append-nil l)
       go false c e l = ap (least_from (ranks_before C) None) (append-nil l)
+
+  -- of the first n entries, which are a list of their own
+  pub near_front : (entries : List Candidate) (n : ℕ) → n ≤ length entries → near_least C T (take n entries) (length (take n entries)) ≡ near_least C T entries n
+  unfolding near_least
+  near_front entries n l =
+      ap (λ m. least_among C T (filter (corners_near_lem C) (collect m (λ i. Some (entry_at C (take n entries) i))))) (length-take-le n entries l)
+      ∙ ap (λ k. least_among C T (filter (corners_near_lem C) k)) (collect_ext n (λ i. Some (entry_at C (take n entries) i)) (λ i. Some (entry_at C entries i)) (λ i h. ap (λ e. Some (proposal_in C e)) (get_or-take n entries i blank h)))
 
   pub near_none : (entries : List Candidate) → None ≡ near_least C T entries 0
   unfolding near_least least_among collect filter least_from

@@ -37,7 +37,9 @@ fn least_best(
     requires safe { (a : ℕ) → a < count → OnO (SafeKey boundaries.now) (get_or bests.now a None) }
     ensures { result ≡ least_of boundaries.now bests.now count }
 {
-    (0..count).fold(None, |least, a| better_of(boundaries, least, bests[a]))
+    bests[..count]
+        .iter()
+        .fold(None, |least, &best| better_of(boundaries, least, best))
 }
 
 // The least of the bests; none where no proposal is left.

@@ -1,5 +1,5 @@
 -- What `place_near` asks and gives at a place of a mouth, and what the parts of pass 1 ask of one another. Assumes nothing.
-use Rattle.mouth_proposals.specs.Listed.{Listed, Filled, proposal_in, proposal_as, proposal_form}
+use Rattle.mouth_proposals.specs.Listed.{blank, Listed, Filled, proposal_in, proposal_as, proposal_form}
 use Rattle.mouth_proposals.specs.Candidates.{is_broad, Numbered, mouth_candidate}
 use Rattle.mouth_proposals.specs.Rows.{is_outer}
 use Rattle.mouth_proposals.specs.declared.candidates.Candidate.{Candidate}
@@ -10,7 +10,8 @@ use mathlib.Core.Path.{◌≡◌, refl, sym, ap, subst, ◌∙◌}
 use mathlib.Core.Bool.{Bool, true, false, not, ◌&&◌, cond}
 use Rattle.std.specs.Prelude.{Option, None, Some}
 use mathlib.Core.List.{List, []}
-use lib.ListN.{length, get_or}
+use lib.ListN.{length, take, get_or}
+use lib.Seq.{get_or-take, length-take-le}
 use lib.Dec.{eqb}
 use Rattle.definitions.specs.Context.{Context}
 use Rattle.definitions.specs.Scan.{collect}
@@ -160,6 +161,17 @@ module _ {C : Context} {records : List Region} {boundaries tallies pairs starts 
   pub ramp-best : {entries : List Candidate} {n : ℕ} → Filled C entries n (collect count (mouth_candidate C a)) → {T : List MouthProposal} {best : Option Candidate} → NearBest C T entries n best → BestOf C T a best
   ramp-best F {T} N =
       best_of C T A.shows.rows (record { listed = F.listed; proposed = F.proposed ∙ ap (λ n. collect n (mouth_candidate C a)) (sym A.shows.counted) }) N.known N.least
+
+-- the first n entries, as a list of their own
+pub entries-front : {C : Context} {records : List Region} {boundaries pairs starts marks : List ℕ} {entries : List Candidate} {n : ℕ} → n ≤ length entries → NearAsked C records boundaries pairs starts marks entries n
+    → NearAsked C records boundaries pairs starts marks (take n entries) (length (take n entries))
+entries-front {C} {records} {boundaries} {pairs} {starts} {marks} {entries} {n} l N =
+    record {
+      few = omega (arith, N.few, length-take-le n entries l);
+      entry = λ k h.
+          let below : k < n = omega (arith, h, length-take-le n entries l) in
+          subst (EntryAsked C records boundaries pairs starts marks) (sym (get_or-take n entries k blank below)) (N.entry k below);
+    }
 
 -- ---- the parts of the pass
 

@@ -1,5 +1,5 @@
 // Pass 1 over the lent slice of region records.
-ghost use Rattle.std.specs.Prelude.{◌≡◌, false, List, ℕ, ◌<◌};
+ghost use Rattle.std.specs.Prelude.{◌≡◌, false, List, ℕ, ◌<◌, length};
 ghost use Rattle.definitions.specs.Context.{Context};
 ghost use Rattle.definitions.specs.RampMouths.{corners_near_lem};
 ghost use Rattle.definitions.specs.RampMouths as definition;
@@ -81,24 +81,23 @@ fn better_near(
     best
 }
 
-// The least of the first n entries that conflict with none taken and have their inner regions near, the first of level ones.
+// The least of the entries that conflict with none taken and have their inner regions near, the first of level ones.
 fn best_near(
     records: &[Region],
     context: PartitionContext,
     taken: &Taken,
-    entries: &[Candidate; 256],
-    n: usize,
+    entries: &[Candidate],
 ) -> Option<Candidate>
-    requires { (C : Context) × ((chosen : List definition.MouthProposal) × (PassNearAsked C records.now context taken.now.marks.now entries.now n
+    requires { (C : Context) × ((chosen : List definition.MouthProposal) × (PassNearAsked C records.now context taken.now.marks.now entries.now (length entries.now)
         × TakenState C chosen taken.now.removed taken.now.ramp_ends taken.now.marks.now)) }
     ensures least { (C : Context) (chosen : List definition.MouthProposal) →
-        PassNearAsked C records.now context.entry taken.now.marks.now entries.now n →
+        PassNearAsked C records.now context.entry taken.now.marks.now entries.now (length entries.now) →
         TakenState C chosen taken.now.removed taken.now.ramp_ends taken.now.marks.now →
-        NearBest C chosen entries.now n result }
+        NearBest C chosen entries.now (length entries.now) result }
     ensures left { is_stale context.entry.pairs.now context.entry.starts.now taken.now.marks.now taken.now.removed taken.now.ramp_ends result ≡ false }
 {
-    (0..n).fold(None, |best, k| {
-        better_near(records, context, taken, best, entries[k])
+    entries.iter().fold(None, |best, &entry| {
+        better_near(records, context, taken, best, entry)
     })
 }
 
@@ -124,7 +123,7 @@ fn best_of_ramp(
         marks: &*taken.marks,
     };
     let n = push_ramp(context, regions, &mut entries, a);
-    best_near(records, context, taken, &entries, n)
+    best_near(records, context, taken, &entries[..n])
 }
 
 // Finds the best of each ramp.

@@ -1,7 +1,7 @@
 -- `junction_proposals::bridges::bridge_of` meets its contract, from what its callees ensure: each return by the tests that led there. Assumes nothing.
 use Prim.Native.Nat.{ℕ}
 use native.Mathlib.Omega.{arith}
-use mathlib.Core.Path.{◌≡◌, sym, ap, ◌∙◌}
+use mathlib.Core.Path.{sym, ap, ◌∙◌}
 use mathlib.Core.List.{List}
 use Rattle.junction_proposals.specs.Bridges.{bridge_form, is_pocket_port}
 use Rattle.junction_proposals.proofs.FirstFound.{none_found, one_found, two_found, three-found, more_found}

@@ -1,6 +1,6 @@
 -- `candidates::push_ramp` meets its contract, by its tests. Assumes nothing.
 use native.Mathlib.Omega.{arith}
-use mathlib.Core.Path.{sym, ap, ◌∙◌}
+use mathlib.Core.Path.{sym, ◌∙◌}
 use borrow.Author.Tests.{not-true, not-false}
 use Rattle.mouth_proposals.specs.Candidates.{mouth_candidate}
 use Rattle.mouth_proposals.proofs.SafeLists.{below, stretch_at, tallies_at, rows-counted, kind-shown}

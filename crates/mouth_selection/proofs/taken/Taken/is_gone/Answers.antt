@@ -2,7 +2,7 @@
 use Prim.Native.Nat.{◌+◌, ◌<◌}
 use mathlib.Core.Path.{sym, ap, ◌∙◌}
 use mathlib.Core.Logic.{⊎_elim}
-use mathlib.Core.Bool.{false, not, ◌||◌}
+use mathlib.Core.Bool.{false, ◌||◌}
 use lib.ListN.{get_or}
 use lib.Arith.{lt_of_le-ne}
 use lib.Dec.{eqb}
