@@ -31,6 +31,7 @@ same_rule bytes = refl
 
 module _ {reading : Reading} {run : SheetRun} {output : List ℕ} (R : RunOf reading run output) where
   pub run-left : CallLeft run.pass 0 run.kept output
+  unfolding lent_for
   run-left = subst (λ k. CallLeft k 0 run.kept output) (sym R.pass_is) (call-left (lent_for R.sheet) R.called.answer R.called.output_left)
 
   run-added : {Q : Report} {x : Reported} → ReportedCall Q run.pass 0 run.kept run.boundaries output x → AddedReading Q reading x
