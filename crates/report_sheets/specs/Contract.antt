@@ -1,18 +1,12 @@
 -- What is answered and added for a sheet. Definitions only; assumes nothing.
-use Rattle.std.specs.Prelude.{ℕ, ◌≡◌, cond, List, ltb}
-use Rattle.definitions.specs.Sheet.{Reading, well_formed, refused}
-use Rattle.definitions.specs.Verdict.{Answer, verdict}
-use Rattle.definitions.specs.Printed.{lent_for}
+use Rattle.std.specs.Prelude.{◌≡◌, cond, List, ℕ, ltb}
+use Rattle.definitions.specs.Sheet.{Reading}
+use Rattle.definitions.specs.Verdict.{Answer}
 use Rattle.report.specs.Runs.{reading_run, sheet_reading, sheet_run}
 use Rattle.report.specs.Report.{Report, max_runs, sum64, added_by, add_run}
 use Rattle.report_figures.specs.declared.Reported.{Reported}
 use Rattle.report_figures.specs.Forms.{report_form}
-
--- what is answered to a reading: why it is no sheet, or what the call answers
-unfoldable pub reading_answer : Reading → Answer
-unfolding verdict lent_for
-reading_answer (well_formed s) = verdict (lent_for s)
-reading_answer (refused number place) = record { number = number; value = place }
+use Rattle.sheet_answer.specs.Contract.{reading_answer}
 
 abbrev pub answer_in : Reported → Answer
 answer_in r = record { number = r.number; value = r.value }

@@ -1,4 +1,3 @@
-pub mod BeforeCall
-mod AfterCall
-pub mod Whole
-mod Ran
+pub mod Reading
+pub mod Printing
+mod Calling

@@ -1,14 +1,14 @@
--- What is answered before the call that runs a pass and after it, and what the lent lists hold then. Definitions only; assumes nothing.
-use Rattle.std.specs.Prelude.{ℕ, zero, suc, ◌+◌, ◌*◌, ◌≤◌, ◌≡◌, cond, List, length, take, ltb, Result, Ok, Err}
-use Rattle.definitions.specs.Limits.{max_entries, numbers_per_span, numbers_per_boundary, numbers_per_anchor, numbers_per_row}
-use Rattle.definitions.specs.Lists.{overwrite}
-use Rattle.definitions.specs.Sheet.{Sheet, Reading, well_formed, refused, read_sheet, at_exit, keptlist_cell_limit}
-use Rattle.definitions.specs.Printed.{max_sheet_bytes, refused_line}
-use Rattle.sheet.specs.Contract.{header_of}
+-- What a sheet is answered that is read and run as `keptlist` does it. Definitions only; assumes nothing.
+use Rattle.std.specs.Prelude.{ℕ, ◌*◌, ◌/◌, ◌≤◌, ◌≡◌, cond, List, length, take, ltb, Result, Ok, Err}
+use Rattle.definitions.specs.Limits.{max_entries, numbers_per_span, numbers_per_boundary, numbers_per_anchor}
+use Rattle.definitions.specs.Sheet.{Sheet, Reading, well_formed, refused, read_sheet, keptlist_cell_limit}
+use Rattle.definitions.specs.Verdict.{Answer, verdict}
+use Rattle.definitions.specs.AtExit.{call_exit}
+use Rattle.definitions.specs.Printed.{max_sheet_bytes, lent_for}
+use Rattle.refusals.specs.Answers.{answer_of}
+use Rattle.refusals.specs.declared.Refusal.{Refusal}
 use Rattle.sheet.specs.declared.Header.{Header}
-use Rattle.printed.specs.Contract.{line_room, row_room, Printed, KeptPrinted}
-
--- ---- before the call
+use Rattle.sheet_answer.specs.declared.runs.SheetRun.{SheetRun}
 
 -- what the program makes of its bytes: "A sheet over 65,536 bytes is `refused 14 at 65536` before any other check."
 unfoldable pub keptlist_reading : List ℕ → Reading
@@ -22,40 +22,7 @@ pub record ListsLong (cells spans boundaries anchors : ℕ) : Type 0 where
   pub for_boundaries : numbers_per_boundary * max_entries ≤ boundaries
   pub for_anchors : numbers_per_anchor * max_entries ≤ anchors
 
--- room for the longest list that is printed, 26,944 bytes
-abbrev pub out_room : ℕ
-out_room = line_room + row_room * max_entries
-
-abbrev pub before_of : Reading → Result Header ℕ
-before_of (well_formed s) = Ok (header_of s)
-before_of (refused number place) = Err (length (refused_line number place))
-
--- a refusal is printed, a sheet not yet answered
-abbrev pub printed_at_exit : Reading → List ℕ → List ℕ
-printed_at_exit (well_formed s) out = out
-printed_at_exit (refused number place) out = overwrite (refused_line number place) out
-
--- The answer to a reading, and each lent list at exit. Lists at entry come first, those at exit after the answer.
-pub record Begun (reading : Reading) (cells spans boundaries anchors out : List ℕ) (answer : Result Header ℕ) (cells' spans' boundaries' anchors' out' : List ℕ) : Type 0 where
-  pub said : answer ≡ before_of reading
-  pub cells_left : cells' ≡ at_exit (λ s. s.cells) reading cells
-  pub spans-left : spans' ≡ at_exit (λ s. s.spans) reading spans
-  pub boundaries-left : boundaries' ≡ at_exit (λ s. s.boundaries) reading boundaries
-  pub anchors-left : anchors' ≡ at_exit (λ s. s.anchors) reading anchors
-  pub out-left : out' ≡ printed_at_exit reading out
-
--- ---- after the call
-
--- where the answer's number is 0, its rows stand in an output of this length
-abbrev pub RowsFit : ℕ → ℕ → ℕ → Type 0
-RowsFit number value output = number ≡ 0 → (value ≤ max_entries) × (numbers_per_row * value ≤ output)
-
--- by the answer's number: the kept list of the rows that the output begins with, or the refusal
-abbrev pub AnswerPrinted : ℕ → ℕ → List ℕ → ℕ → List ℕ → List ℕ → ℕ → Type 0
-AnswerPrinted zero value output count old new answer = KeptPrinted output value count old new answer
-AnswerPrinted (suc number) value output count old new answer = Printed (refused_line (suc number) value) old new answer
-
--- ---- the whole
+-- ---- a sheet in lists
 
 -- a sheet from its parts
 abbrev pub sheet_from : ℕ → ℕ → ℕ → List ℕ → List ℕ → List ℕ → List ℕ → Sheet
@@ -82,3 +49,33 @@ pub record SheetHeld (header : Header) (cells spans boundaries anchors : List �
   pub spans-inside : Inside (numbers_per_span * header.spans) spans
   pub boundaries-inside : Inside (numbers_per_boundary * header.boundaries) boundaries
   pub anchors-inside : Inside (numbers_per_anchor * header.anchors) anchors
+
+-- ---- what is answered
+
+-- the call was lent what the program lends for a sheet
+pub record SheetCalled (s : Sheet) (a : Answer) (output : List ℕ) : Type 0 where
+  pub answer : a ≡ verdict (lent_for s)
+  pub output_left : output ≡ (call_exit (lent_for s) a.number).output
+
+-- what is answered to a reading: why it is no sheet, or what the call answers
+unfoldable pub reading_answer : Reading → Answer
+unfolding verdict lent_for
+reading_answer (well_formed s) = verdict (lent_for s)
+reading_answer (refused number place) = record { number = number; value = place }
+
+-- so many boundaries were kept of a sheet that was read
+abbrev pub kept_of : Result SheetRun Refusal → Result ℕ Refusal
+kept_of (Ok run) = Ok run.kept
+kept_of (Err refusal) = Err refusal
+
+-- the sheet of a run, and what its call left
+pub record RunOf (reading : Reading) (run : SheetRun) (output : List ℕ) : Type 0 where
+  pub sheet : Sheet
+  pub read : reading ≡ well_formed sheet
+  pub pass_is : run.pass ≡ sheet.pass
+  pub counted : run.boundaries ≡ length sheet.boundaries / numbers_per_boundary
+  pub called : SheetCalled sheet (record { number = 0; value = run.kept }) output
+
+pub record SheetRan (reading : Reading) (ran : Result SheetRun Refusal) (output : List ℕ) : Type 0 where
+  pub answer : answer_of (kept_of ran) ≡ reading_answer reading
+  pub run_of : (run : SheetRun) → ran ≡ Ok run → RunOf reading run output

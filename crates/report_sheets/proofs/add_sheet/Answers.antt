@@ -1,16 +1,24 @@
--- `report_sheets::add_sheet` meets its contract: the lists have room for every sheet that is read. Assumes nothing.
-use Rattle.report_sheets.proofs.Sheets.{sheet-held, sheet-added, refusal-added}
-use Rattle.std.proofs.Common.{rules}
+-- `report_sheets::add_sheet` meets its contract: what is added is the run of a sheet, or a refusal. Assumes nothing.
+use Rattle.std.proofs.Common.{sym, ap, arith, ◌∙◌}
+use Rattle.refusals.proofs.Steps.{positive}
+use Rattle.sheet_answer.specs.Contract.{kept_of}
+use Rattle.refusals.specs.Answers.{answer_of}
+use Rattle.report_sheets.proofs.Sheets.{run-left, kept-added, none_added}
+use Rattle.refusals.specs.Answers.{answer_in as said}
+use Rattle.report_figures.specs.declared.Reported.{Reported}
+use Rattle.report_figures.specs.Forms.{report_form}
+use Rattle.report_sheets.specs.Contract.{answer_in as given}
 use Rattle.report_sheets.proofs.add_sheet.Goals as goal
 
-pub add_held-requires : goal.add_held-requires
-add_held-requires c =
-    sheet-held c.args.bytes.now _ _ _ _ (search rules) c.read_limited.ensures c.in-Ok.is
+pub answered-requires : goal.answered-requires
+answered-requires c = run-left (c.run_sheet.ensures.run_of c.in-Ok.run' c.in-Ok.is)
 
 pub returns-in-Ok : goal.returns-in-Ok
-returns-in-Ok c =
-    sheet-added _ _ _ _ _ (search rules) c.read_limited.ensures c.in-Ok.is c.add_held.ensures
+returns-in-Ok c = kept-added c.args.bytes.now (c.run_sheet.ensures.run_of c.in-Ok.run' c.in-Ok.is) c.answered.ensures
 
 pub returns-in-Err : goal.returns-in-Err
 returns-in-Err c =
-    refusal-added _ _ _ _ _ (search rules) c.read_limited.ensures _ c.in-Err.is (rw c.number.ensures at c.refuse.ensures)
+    let answer = sym (ap (λ r. answer_of (kept_of r)) c.in-Err.is) ∙ c.run_sheet.ensures.answer in
+    none_added c.args.bytes.now answer (λ z. omega (arith, positive c.in-Err.refusal.cause, z))
+    (ap given c.new.ensures ∙ ap said c.from.ensures)
+    (ap (λ (x : Reported). report_form x.report) c.new.ensures ∙ c.with_refused.ensures)

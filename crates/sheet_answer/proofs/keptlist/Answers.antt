@@ -1,18 +1,23 @@
--- `sheet_answer::keptlist` meets its contract: what is printed before the call, or what is printed for the sheet that was read, is what `keptlist` prints.
--- Assumes nothing.
-use Rattle.sheet_answer.proofs.Whole.{printed-inside, begun-printed, begun-ready, keptlist-printed}
+-- `sheet_answer::keptlist` meets its contract: the rows of a sheet that was run are printed, or the refusal. Assumes nothing.
+use Rattle.std.proofs.Common.{ap, sym, subst, arith, ◌∙◌, List, ℕ}
+use Rattle.std.proofs.Math.Seq.{length-take-le}
+use Rattle.refusals.specs.Answers.{answer_of}
+use Rattle.printed.specs.Contract.{Printed}
+use Rattle.sheet_answer.specs.Contract.{kept_of}
+use Rattle.sheet_answer.proofs.Printing.{rows_left, kept-printed, refused-printed}
 use Rattle.sheet_answer.proofs.keptlist.Goals as goal
 
-pub answer_held-requires-clause-sheet_held : goal.answer_held-requires-clause-sheet_held
-answer_held-requires-clause-sheet_held c = (begun-ready _ c.read.ensures c.in-Ok.is).held
+pub slice_bounds-print_kept-end-in-Ok : goal.slice_bounds-print_kept-end-in-Ok
+slice_bounds-print_kept-end-in-Ok c =
+    let run = c.run_sheet.ensures.run_of c.in-Ok.run' c.in-Ok.is in
+    sym (length-take-le c.in-Ok.run'.kept c.as_chunks.result.0.now (omega (arith, c.as_chunks.ensures.front_len, (rows_left c.args.bytes.now run).held)))
 
-pub returns-in-Err : goal.returns-in-Err
-returns-in-Err c =
-    let printed = begun-printed _ c.read.ensures c.in-Err.is in
-    record { prints = printed; inside = printed-inside printed }
+pub returns-in-Ok-clause-prints : goal.returns-in-Ok-clause-prints
+returns-in-Ok-clause-prints c =
+    let run = c.run_sheet.ensures.run_of c.in-Ok.run' c.in-Ok.is in
+    subst (λ (l : List ℕ). Printed l c.args.out.now c.print_kept.new.out c.print_kept.result) (sym (kept-printed c.args.bytes.now run c.as_chunks.ensures.front)) c.print_kept.ensures.printed
 
-pub returns-in-Ok : goal.returns-in-Ok
-returns-in-Ok c =
-    let ready = begun-ready _ c.read.ensures c.in-Ok.is in
-    let printed = keptlist-printed ready c.answer_held.ensures in
-    record { prints = printed; inside = printed-inside printed }
+pub returns-in-Err-clause-prints : goal.returns-in-Err-clause-prints
+returns-in-Err-clause-prints c =
+    let answer = sym (ap (λ r. answer_of (kept_of r)) c.in-Err.is) ∙ c.run_sheet.ensures.answer in
+    subst (λ (l : List ℕ). Printed l c.args.out.now c.print_refused.new.out c.print_refused.result) (sym (refused-printed c.args.bytes.now c.in-Err.refusal answer)) c.print_refused.ensures.printed
