@@ -19,15 +19,3 @@ module _ (l : List ℕ) where
   ascends_next (suc i) h =
       let e : suc i - 1 ≡ i = omega arith in
       ap (λ j. ltb (accession_at l j).own (accession_at l (suc i)).own) e
-
-  pub follows_none : (i k : ℕ) → k ≡ 0 → eqb (accession_at l i).superseded 0 ≡ follows l i k
-  unfolding follows
-  follows_none i k e = ap (follows l i) (sym e)
-
-  pub follows_last : (i k : ℕ) → 0 < k
-      → (leb (accession_at l (k - 1)).day (accession_at l i).day && eqb (accession_at l i).superseded (accession_at l (k - 1)).own) ≡ follows l i k
-  unfolding follows
-  follows_last i zero h = absurd (omega arith)
-  follows_last i (suc k) h =
-      let e : suc k - 1 ≡ k = omega arith in
-      ap (λ j. leb (accession_at l j).day (accession_at l i).day && eqb (accession_at l i).superseded (accession_at l j).own) e

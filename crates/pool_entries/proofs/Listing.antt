@@ -39,9 +39,6 @@ module _ {A : Type 0} (f : ℕ → Option A) where
 
 -- ---- counting
 
-pub on_day : (terms : List ℕ) (day i : ℕ) {r : Bool} → r ≡ contains day (days_of (term_at terms i)) → r ≡ true → length (to_list (map_at_lem terms day i)) ≡ 1
-on_day terms day i e t = ap (λ b. length (to_list (only_if b (term_at terms i).on_map))) (sym e ∙ t)
-
 module _ {A : Type 0} (f : ℕ → Bool) (g : ℕ → A) where
   as_many : (n : ℕ) → count_below n f ≡ length (collect n (λ i. only_if (f i) (g i)))
   unfolding count_below collect

@@ -43,9 +43,6 @@ module _ (l : List ℕ) {chunks : List (List ℕ)} (E : chunks ≡ first_chunks 
   pub record-inside : {i : ℕ} → i < length chunks → i < accession_count l
   record-inside h = omega (arith, h, ap length E, chunk-count (length l / 4) l)
 
-  pub records-end : {i : ℕ} → length chunks ≤ i → accession_count l ≤ i
-  records-end h = omega (arith, h, ap length E, chunk-count (length l / 4) l)
-
 -- chunk i is record i
 pub record-at : (l : List ℕ) (i : ℕ) {chunks : List (List ℕ)} → chunks ≡ first_chunks 4 (length l / 4) l → i < accession_count l → record_in (get_or chunks i []) ≡ accession_at l i
 unfolding accession_at

@@ -214,6 +214,3 @@ module _ {old records : List ℕ} {day : ℕ} where
 
     pub showing_late : (r : Accession) → r ≡ accession_at records i → i < accession_count records → day < r.day → Showing old records day new (i + 1)
     showing_late r e h d = goes_on h (record_late records i day (omega (arith, d, ap (λ x. x.day) e)))
-
-    pub showing_ends : accession_count records ≤ i → RecordsShown old records day new
-    showing_ends h M R B = S.so_far M R B ∙ ap (λ k. entries_of records day k M) (le_antisymm S.within h)

@@ -1,6 +1,6 @@
 -- Why it is enough to compare neighbours: terms that precede each other do so at any distance, and two terms of which one precedes the other are apart. The
 -- sorted keys have the positions of the keys. Assumes nothing.
-use Prim.Native.Nat.{ℕ, zero, suc, ◌+◌, ◌-◌, ◌*◌, ◌≤◌, ◌<◌}
+use Prim.Native.Nat.{ℕ, zero, suc, ◌<◌}
 use native.Mathlib.Omega.{arith}
 use mathlib.Core.Path.{◌≡◌, refl, sym, ap, subst, ◌∙◌}
 use mathlib.Core.Bool.{Bool, true, false, ◌&&◌, ◌||◌, false≢true, and-false}
@@ -38,23 +38,6 @@ module _ (l : List ℕ) where
       go true e ih = subst (λ k. Precedes l (position_in (get_or keys k 0)) (position_in (get_or keys (suc q) 0))) (sym (eqb-true p q e)) (F q h)
       go false e ih = precedes_more (ih (omega (arith, eqb-false p q e))) (F q h)
 
-  pub following_starts : (keys : List ℕ) → Following l keys 1
-  following_starts keys k b = absurd (omega arith)
-
-  pub following_more : (keys : List ℕ) (n : ℕ) {i j : ℕ} → i ≡ position_in (get_or keys (n - 1) 0) → j ≡ position_in (get_or keys n 0) → Following l keys n → Precedes l i j
-      → Following l keys (n + 1)
-  following_more keys n {i} {j} p q F P k b = go (eqb (suc k) n) refl
-    where
-      last : Precedes l (position_in (get_or keys (n - 1) 0)) (position_in (get_or keys n 0))
-      last = subst (λ m. Precedes l m (position_in (get_or keys n 0))) p (subst (Precedes l i) q P)
-
-      go : (t : Bool) → eqb (suc k) n ≡ t → Precedes l (position_in (get_or keys k 0)) (position_in (get_or keys (suc k) 0))
-      go true e =
-          let here : suc k ≡ n = eqb-true (suc k) n e in
-          let front : k ≡ n - 1 = omega arith in
-          rw (here, front) last
-      go false e = F k (omega (arith, eqb-false (suc k) n e))
-
   -- ---- a term that precedes another is apart from it, and the other from it
 
   apart-before : {i j : ℕ} → Precedes l i j → Apart l i j
@@ -82,9 +65,6 @@ module _ (l : List ℕ) where
 module _ (keys : List ℕ) (until k : ℕ) {r : ℕ} (P : Positions keys until) (h : k < length keys) (e : r ≡ position_in (get_or keys k 0)) where
   pub position-below : r < until
   position-below = omega (arith, P k h, e)
-
-  pub position-inside : (n : ℕ) → 7 * until ≤ n → 7 * (r + 1) ≤ n
-  position-inside n m = omega (arith, position-below)
 
 -- ---- the sorted keys
 

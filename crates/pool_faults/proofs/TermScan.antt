@@ -62,9 +62,6 @@ module _ (terms : List ℕ) (i : ℕ) (ends : List ℕ) (L : Latest terms i ends
   free-after : (d : Days) → get_or ends s 0 ≤ d.from → overlaps_earlier terms i d ≡ false
   free-after d h = none_earlier terms i ends L d (omega (arith, ap (λ n. get_or ends n 0) q))
 
-  pub end-none : days_of (term_at terms i) ≡ None → Latest terms (i + 1) ends
-  end-none e = latest-kept terms i ends L (omega (arith, ap end_in e))
-
   pub end-stored : (v : ℕ) → end_in (days_of (term_at terms i)) ≤ v → get_or ends s 0 ≤ v → Latest terms (i + 1) (set ends s v)
   end-stored v e h = subst (λ n. Latest terms (i + 1) (set ends n v)) (sym q) (latest-set terms i ends L v e (omega (arith, h, ap (λ n. get_or ends n 0) q)))
 
