@@ -46,7 +46,7 @@ pub fn fill(
     clear_records(records, regions);
     let end = cells.len();
     let mut c = 0;
-    // Kept: each stretch says where the next begins, so no range or chain has these turns as its items.
+    // Kept: each stretch says where the next begins; `iter::from_fn` would hold c in a closure and end by the same test.
     while c < end {
         let s = stretch_at(labels, queue, c);
         add_stretch(records, width, cells, c, s.end, s.label);
