@@ -343,9 +343,7 @@ pub extern "C" fn jenwyllt_run_to_rest(
         tallies,
         pairs,
     };
-    RestAnswer::from(topology::to_rest::topology_run_to_rest(
-        asked, &mut lists, records, output,
-    ))
+    RestAnswer::from(topology::to_rest::topology_run_to_rest(asked, &mut lists, records, output))
 }
 
 // The call for two desks, for callers in any language. The records are filled from the queue before the desks work in it.

@@ -63,14 +63,7 @@ pub fn run_kept(
     let removed = mark_asked(
         pass, asked, ready, records, &*labels, &*tallies, &*pairs, masks, queue,
     );
-    let graph = divide_kept(
-        asked.grid(),
-        asked.spans,
-        &removed,
-        ready.rows,
-        room,
-        lists,
-    );
+    let graph = divide_kept(asked.grid(), asked.spans, &removed, ready.rows, room, lists);
     let labels = &mut *lists.labels;
     let queue = &mut *lists.queue;
     renew(

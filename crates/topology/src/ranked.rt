@@ -131,7 +131,14 @@ pub fn topology_ranked_junctions(
     let queue = &mut *lists.queue;
     let tallies = &mut *lists.tallies;
     let pairs = &mut *lists.pairs;
-    fill(records, ready.regions, columns, asked.cells, &*labels, &*queue);
+    fill(
+        records,
+        ready.regions,
+        columns,
+        asked.cells,
+        &*labels,
+        &*queue,
+    );
     let n = mark_ranked(
         asked,
         ready,

@@ -59,10 +59,7 @@ pub fn clear_records(records: &mut [Region], needed: usize)
     requires { needed ≤ length records.old }
     ensures { Emptied needed records.old records.new }
 {
-    let empty = Region::empty();
-    for i in 0..needed {
-        put_record(records, i, empty);
-    }
+    records[..needed].fill(Region::empty());
 }
 
 // The records of a partition in place of an earlier one's: the first records, as many as an earlier partition filled, are emptied before.

@@ -190,14 +190,7 @@ pub fn topology_two_desks(
             let queue = &mut *lists.queue;
             let tallies = &mut *lists.tallies;
             let pairs = &mut *lists.pairs;
-            fill(
-                records,
-                ready.regions,
-                columns,
-                cells,
-                &*labels,
-                &*queue,
-            );
+            fill(records, ready.regions, columns, cells, &*labels, &*queue);
             clear_scratch(masks, queue, height as usize * columns);
             run_desks(
                 order,
