@@ -65,9 +65,9 @@ pub extern "C" fn jenwyllt_runner_and_guard(
         tallies,
         pairs,
     };
-    topology::games::topology_runner_and_guard(
+    GameAnswer::from(topology::games::topology_runner_and_guard(
         pass, asked, goal, &mut lists, records, output, verdicts,
-    )
+    ))
 }
 
 // The call that runs a pass (SPECIFICATION 3), for callers in any language.
@@ -153,7 +153,9 @@ pub extern "C" fn jenwyllt_ranked_junctions(
         tallies,
         pairs,
     };
-    topology::ranked::topology_ranked_junctions(asked, &mut lists, records, output, ranked)
+    RankedAnswer::from(topology::ranked::topology_ranked_junctions(
+        asked, &mut lists, records, output, ranked,
+    ))
 }
 
 // Makes the call and adds what it answered. A run beyond the last is refused before anything else, and every list is then as it was.
@@ -237,7 +239,7 @@ pub extern "C" fn jenwyllt_run_to_rest(
         tallies,
         pairs,
     };
-    topology::to_rest::topology_run_to_rest(asked, &mut lists, records, output)
+    RestAnswer::from(topology::to_rest::topology_run_to_rest(asked, &mut lists, records, output))
 }
 
 // The call for two desks, for callers in any language. The records are filled from the queue before the desks work in it.
@@ -307,7 +309,7 @@ pub extern "C" fn jenwyllt_two_desks(
         tallies,
         pairs,
     };
-    topology::two_desks::topology_two_desks(
+    DesksAnswer::from(topology::two_desks::topology_two_desks(
         order,
         width,
         height,
@@ -319,5 +321,5 @@ pub extern "C" fn jenwyllt_two_desks(
         records,
         route_output,
         coaching_output,
-    )
+    ))
 }

@@ -1,4 +1,4 @@
--- Records written in numbers: one more number of a record, one more record, and as many as there is room for. Assumes nothing.
+-- Records written in numbers: one more record, and as many as there is room for. Assumes nothing.
 use Prim.Native.Nat.{ℕ, zero, suc, ◌+◌, ◌*◌, ◌/◌, ◌≤◌, ◌<◌, min}
 use native.Mathlib.Omega.{arith}
 use mathlib.Core.Path.{◌≡◌, refl, sym, ap, ◌∙◌}
@@ -30,21 +30,6 @@ module _ (s : def.Region) where
       ∙ ap (λ n. listed (bits s.min_x_lem) n c d) y
       ∙ ap (λ n. listed (bits s.min_x_lem) (bits s.min_y_lem) n d) z
       ∙ ap (listed (bits s.min_x_lem) (bits s.min_y_lem) (bits s.max_x_lem)) w
-
--- ---- one more number
-
-pub number_more : (l : List ℕ) (at : ℕ) (n : List ℕ) (i : ℕ) → i < length n → set (sets l at (take i n)) (at + i) (get_or n i 0) ≡ sets l at (take (i + 1) n)
-number_more l at n i h =
-    ap (λ k. set (sets l at (take i n)) (at + k) (get_or n i 0)) (sym (length-take-le i n (omega arith)))
-    ∙ sym (sets_append l at (take i n) (get_or n i 0 ∷ []))
-    ∙ ap (sets l at) (sym (take-suc n i 0 h) ∙ ap (λ k. take k n) next)
-  where
-    next : suc i ≡ i + 1
-    next = omega arith
-
--- all of them
-pub numbers-all : (l : List ℕ) (at : ℕ) {n r : List ℕ} (i : ℕ) → n ≡ r → length r ≤ i → sets l at (take i n) ≡ sets l at r
-numbers-all l at {n} i e h = ap (sets l at) (take_all i n (omega (arith, ap length e)) ∙ e)
 
 -- ---- one more record
 

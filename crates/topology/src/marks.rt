@@ -106,7 +106,7 @@ pub fn mark_removed(
 }
 
 // The marks of the boundaries that the pass removes of what a call is asked: labels, tallies and pairs are those of its partition.
-pub fn mark_asked(
+pub(crate) fn mark_asked(
     pass: Pass,
     asked: Asked,
     ready: Ready,

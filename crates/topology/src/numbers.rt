@@ -52,9 +52,7 @@ fn put_numbers(numbers: &mut [u64], at: usize, r: Region)
     ensures { numbers.new ≡ sets numbers.old at (record_numbers (record_of r)) }
 {
     let n = numbers_of(r);
-    for i in 0..NUMBERS_PER_RECORD {
-        numbers[at + i] = n[i];
-    }
+    numbers[at..at + NUMBERS_PER_RECORD].copy_from_slice(&n);
 }
 
 // Writes the first records in numbers, as many as there is room for.

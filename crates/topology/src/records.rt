@@ -46,7 +46,7 @@ pub fn fill(
     clear_records(records, regions);
     let end = cells.len();
     let mut c = 0;
-    // Kept: each stretch says where the next begins, so no range or chain has these turns as its items.
+    // Kept: each stretch says where the next begins; `iter::from_fn` would hold c in a closure and end by the same test.
     while c < end {
         let s = stretch_at(labels, queue, c);
         add_stretch(records, width, cells, c, s.end, s.label);
@@ -59,10 +59,7 @@ pub fn clear_records(records: &mut [Region], needed: usize)
     requires { needed ≤ length records.old }
     ensures { Emptied needed records.old records.new }
 {
-    let empty = Region::empty();
-    for i in 0..needed {
-        put_record(records, i, empty);
-    }
+    records[..needed].fill(Region::empty());
 }
 
 // The records of a partition in place of an earlier one's: the first records, as many as an earlier partition filled, are emptied before.

@@ -1,4 +1,4 @@
-// Into the lent slice of region records: no other function reads or stores a record there.
+// Into the lent slice of region records: no other function reads or stores a single record there.
 ghost use Rattle.std.specs.Prelude.{◌≡◌, ◌<◌, length, get_or, set};
 ghost use Rattle.context.specs.declared.Region.{Region};
 

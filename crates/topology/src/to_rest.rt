@@ -64,7 +64,7 @@ impl From<Result<RestKept, Refusal>> for RestAnswer {
 }
 
 // Marks which of the kept boundaries the pass removes. What is lent is the partition of what is kept.
-pub fn mark_kept(
+fn mark_kept(
     pass: Pass,
     records: &[Region],
     grid: TerrainGrid,

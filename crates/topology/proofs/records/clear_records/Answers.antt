@@ -1,10 +1,9 @@
-use Rattle.std.proofs.Common.{arith}
-use Rattle.topology.proofs.Emptying.{emptying_more, emptying_ends}
+use Rattle.std.proofs.Common.{rules, ◌≡◌, length, take}
+use lib.ListN.{replicate}
+use Rattle.topology.proofs.Emptying.{emptied}
 use Rattle.topology.proofs.records.clear_records.Goals as goal
 
-pub loop-i-preserved : goal.loop-i-preserved
-loop-i-preserved c =
-    (omega arith, emptying_more c.loop-i.invariant.1 (omega arith) c.put_record.ensures)
-
 pub returns : goal.returns
-returns c = emptying_ends c.loop-i.invariant.1 (omega arith) c.empty-empty.ensures
+returns c =
+    let t : c.fill.new.self ≡ replicate (length (take c.args.needed c.args.records.now)) c.empty.result = search rules in
+    emptied c.empty.result c.args.needed c.args.records.now c.requires t c.empty.ensures
