@@ -1,11 +1,7 @@
 -- `grid_steps::is_step` meets its contract: each of the two tests that end it shows a cell of the four that is not walkable, and past them the last cell decides.
 -- Assumes nothing.
-use Prim.Native.Nat.{ℕ}
-use native.Mathlib.Omega.{arith}
-use mathlib.Core.List.{List}
 use mathlib.Core.Path.{sym, ◌∙◌}
-use Rattle.grid_steps.specs.Inner.{Stepping}
-use Rattle.grid_steps.proofs.StepTests.{Cells, cells_in, far-blocked, side-blocked, under-decides}
+use Rattle.grid_steps.proofs.StepTests.{far-blocked, side-blocked, under-decides}
 use Rattle.grid_steps.proofs.grid.TerrainGrid.is_step.Goals as goal
 
 pub returns-then-not-is_walkable : goal.returns-then-not-is_walkable
