@@ -18,10 +18,10 @@ ghost use Rattle.assessments.specs.Assessing.{Keeps, CountingIn, AssessesIn, Ass
 ghost use Rattle.assessments.specs.Contract.{AssessAsked, SpansAssessed};
 
 use ascending_rows::{Rows, put_pair};
-use cut_steps::cell::is_set;
 use cut_steps::span_at;
 use cut_steps::walk::{SpanWalk, StepVisitor, walk_span};
 use definitions::limits::{NUMBERS_PER_PAIR, NUMBERS_PER_SPAN, TALLIES_PER_SPAN};
+use grid_steps::is_set;
 use grid_steps::grid::{Direction, EAST, SOUTH, SOUTH_EAST, SOUTH_WEST, TerrainGrid, WalkPosition};
 use region_pairs::Pair;
 use span_geometry::SpanGeometry;

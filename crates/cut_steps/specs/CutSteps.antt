@@ -3,6 +3,7 @@ use Rattle.std.specs.Prelude.{Bool, ◌&&◌, cond, List, [], ◌∷◌, map, �
 use Rattle.definitions.specs.Scan.{filter, concat_map}
 use Rattle.definitions.specs.Grid.{Map, Position, Segment, Pair, directions, toward, is_step, index, edge}
 use Rattle.definitions.specs.Spans.{cuts, candidate_positions}
+pub use Rattle.grid_steps.specs.Masks.{is_set}
 
 -- the step from p in direction d leads to a cell of larger number, and the canonical segment g cuts it
 unfoldable pub is_cut_onward : Map → Segment → Position → Position → Bool
@@ -22,7 +23,3 @@ cut_span M g = concat_map (cut_from M g) (candidate_positions M.width M.height g
 unfoldable pub cut_toward : Map → Segment → Position → Position → List Pair
 unfolding is_cut_onward
 cut_toward M g p d = cond (is_cut_onward M g p d) (edge M p (toward p d) ∷ []) []
-
--- bit k of a mask
-abbrev pub is_set : ℕ → ℕ → Bool
-is_set mask k = eqb (mask / 2 ^ k % 2) 1

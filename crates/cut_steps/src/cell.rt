@@ -5,12 +5,15 @@ ghost use Rattle.definitions.specs.Grid.{at, walkable, is_step};
 ghost use Rattle.span_geometry.specs.Shapes.{Sound, segment_of};
 ghost use Rattle.grid_steps.specs.Grids.{terrain_of};
 ghost use Rattle.grid_steps.specs.Inner.{Inner};
-ghost use Rattle.cut_steps.specs.CutSteps.{is_cut_onward, is_set};
+ghost use Rattle.cut_steps.specs.CutSteps.{is_cut_onward};
 ghost use Rattle.cut_steps.specs.Crossed.{InGrid, Crossed, steps_onward, changes_at, SideWord};
 ghost use Rattle.cut_steps.specs.Cell.{CellAsked, OnwardAsked, CutDirections, side_of, Uncut, Far, max_reach, onward_mask};
 
 use definitions::limits::PIXELS_PER_WALK_CELL;
-use grid_steps::grid::{Direction, EAST, SOUTH, SOUTH_EAST, SOUTH_WEST, TerrainGrid, WalkPosition};
+use grid_steps::grid::{
+    Direction, EAST, EAST_BIT, SOUTH, SOUTH_BIT, SOUTH_EAST, SOUTH_EAST_BIT, SOUTH_WEST,
+    SOUTH_WEST_BIT, TerrainGrid, WalkPosition,
+};
 use span_geometry::SpanGeometry;
 use span_geometry::numbers::not_negative;
 use span_geometry::segments::{cell_center, cross};
@@ -58,7 +61,7 @@ fn is_walkable(grid: TerrainGrid, x: usize, y: usize) -> bool
     requires { InGrid grid.width grid.height grid.cells.now x y }
     ensures { result ≡ walkable (terrain_of grid.entry) (at x y) }
 {
-    grid.cells[y * grid.width + x] % 2 == 1
+    grid_steps::is_walkable(grid.cells[y * grid.width + x])
 }
 
 // Whether the cell south of a cell is there and walkable. Every step to the next row asks for it.
@@ -137,11 +140,22 @@ fn value_if(test: bool, value: u16) -> u16
     if test { value } else { 0 }
 }
 
+const EAST_MASK: u16 = 1 << EAST_BIT;
+
+const SOUTH_WEST_MASK: u16 = 1 << SOUTH_WEST_BIT;
+
+const SOUTH_MASK: u16 = 1 << SOUTH_BIT;
+
+const SOUTH_EAST_MASK: u16 = 1 << SOUTH_EAST_BIT;
+
 // A bit for each of the four directions that lead to larger numbers.
 fn onward_mask(east: bool, south_west: bool, south: bool, south_east: bool) -> u16
     ensures { result ≡ onward_mask east south_west south south_east }
 {
-    value_if(east, 32) + value_if(south_west, 64) + value_if(south, 128) + value_if(south_east, 256)
+    value_if(east, EAST_MASK)
+        + value_if(south_west, SOUTH_WEST_MASK)
+        + value_if(south, SOUTH_MASK)
+        + value_if(south_east, SOUTH_EAST_MASK)
 }
 
 // The directions of a walkable cell in which a step leads to a cell of larger number and is cut, a bit for each.
@@ -269,12 +283,4 @@ pub fn crossed_directions(
         return 0;
     }
     changes & steps_onward(grid, cell)
-}
-
-// Whether bit k of a mask is set.
-pub fn is_set(mask: u16, k: usize) -> bool
-    requires { k < 9 }
-    ensures { result ≡ is_set mask k }
-{
-    (mask >> k) % 2 == 1
 }

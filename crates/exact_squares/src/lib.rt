@@ -91,23 +91,12 @@ fn point_square(p: PixelPosition, a: PixelPosition, b: PixelPosition) -> Square
     Square { num: c * c, den: n }
 }
 
-// Whether a / b is at most c / d: as it stands where b is d, which most have, and else by the whole parts, and where these are equal by what remains.
+// Whether a / b is at most c / d.
 fn at_most(a: u64, b: u64, c: u64, d: u64) -> bool
     requires { (0 < b) × (0 < d) × (b ≤ 2 ^ 27) × (d ≤ 2 ^ 27) }
     ensures { result ≡ leb (a * d) (c * b) }
 {
-    if b == d {
-        return a <= c;
-    }
-    let first = a / b;
-    let second = c / d;
-    if first < second {
-        return true;
-    }
-    if second < first {
-        return false;
-    }
-    (a % b) * d <= (c % d) * b
+    u128::from(a) * u128::from(d) <= u128::from(c) * u128::from(b)
 }
 
 // The lesser of two, the first where they are equal.

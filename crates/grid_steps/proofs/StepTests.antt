@@ -9,8 +9,8 @@ use mathlib.Core.List.{List}
 use lib.ListN.{get_or}
 use lib.Arith.{digits_lt}
 use lib.Dec.{eqb, leb}
-use borrow.Author.Tests.{leb-true, leb-false, le-leb, lt-ltb, eqb-true, eq-eqb}
-use Rattle.definitions.specs.Grid.{Map, Position, at, walkable, is_step}
+use borrow.Author.Tests.{leb-true, leb-false, le-leb, lt-ltb}
+use Rattle.definitions.specs.Grid.{Map, Position, at, is_walkable, walkable, is_step}
 use Rattle.grid_steps.specs.Walk.{grid_of}
 use Rattle.grid_steps.specs.Inner.{Nearby, Inside, Inner, Says}
 use Rattle.grid_steps.proofs.Square.{Four, four, walkable_in}
@@ -73,13 +73,13 @@ module _ (w h : ℕ) (cells : List ℕ) where
   walkable_at_lem x y a b = rw (lt-ltb x w a, lt-ltb y h b) refl
 
   module _ (x y dx dy : ℕ) where
-    pub far-blocked : (get_or cells ((y + dy - 1) * w + (x + dx - 1)) 0 % 2 ≡ 1 → ⊥) → false ≡ is_step (grid_of w h cells) (at x y) (at dx dy)
-    far-blocked n = not_step (grid_of w h cells) (at x y) (at dx dy) (λ f. n (eqb-true _ _ (walkable_in (grid_of w h cells) _ f.far).walks))
+    pub far-blocked : is_walkable (get_or cells ((y + dy - 1) * w + (x + dx - 1)) 0) ≡ false → false ≡ is_step (grid_of w h cells) (at x y) (at dx dy)
+    far-blocked n = not_step (grid_of w h cells) (at x y) (at dx dy) (λ f. true≢false (sym (walkable_in (grid_of w h cells) _ f.far).walks ∙ n))
 
-    pub side-blocked : (get_or cells (y * w + (x + dx - 1)) 0 % 2 ≡ 1 → ⊥) → false ≡ is_step (grid_of w h cells) (at x y) (at dx dy)
-    side-blocked n = not_step (grid_of w h cells) (at x y) (at dx dy) (λ f. n (eqb-true _ _ (walkable_in (grid_of w h cells) _ f.side).walks))
+    pub side-blocked : is_walkable (get_or cells (y * w + (x + dx - 1)) 0) ≡ false → false ≡ is_step (grid_of w h cells) (at x y) (at dx dy)
+    side-blocked n = not_step (grid_of w h cells) (at x y) (at dx dy) (λ f. true≢false (sym (walkable_in (grid_of w h cells) _ f.side).walks ∙ n))
 
-    pub under-decides : Nearby w h x y dx dy → Inside w h x y dx dy → walkable (grid_of w h cells) (at x y) ≡ true → get_or cells ((y + dy - 1) * w + (x + dx - 1)) 0 % 2 ≡ 1 → get_or cells (y * w + (x + dx - 1)) 0 % 2 ≡ 1 → eqb (get_or cells ((y + dy - 1) * w + x) 0 % 2) 1 ≡ is_step (grid_of w h cells) (at x y) (at dx dy)
+    pub under-decides : Nearby w h x y dx dy → Inside w h x y dx dy → walkable (grid_of w h cells) (at x y) ≡ true → is_walkable (get_or cells ((y + dy - 1) * w + (x + dx - 1)) 0) ≡ true → is_walkable (get_or cells (y * w + (x + dx - 1)) 0) ≡ true → is_walkable (get_or cells ((y + dy - 1) * w + x) 0) ≡ is_step (grid_of w h cells) (at x y) (at dx dy)
     unfolding is_step
     under-decides N I near far side =
         rw (
@@ -87,9 +87,9 @@ module _ (w h : ℕ) (cells : List ℕ) where
           le-leb dy 2 N.near_y,
           le-leb 1 (x + dx) I.left,
           le-leb 1 (y + dy) I.up,
-          walkable_at_lem (x + dx - 1) (y + dy - 1) x_in y_in ∙ eq-eqb _ _ far,
+          walkable_at_lem (x + dx - 1) (y + dy - 1) x_in y_in ∙ far,
           near,
-          walkable_at_lem (x + dx - 1) y x_in N.in_y ∙ eq-eqb _ _ side,
+          walkable_at_lem (x + dx - 1) y x_in N.in_y ∙ side,
         )
         (sym (walkable_at_lem x (y + dy - 1) N.in_x y_in))
       where

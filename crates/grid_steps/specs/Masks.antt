@@ -12,6 +12,10 @@ bit_of d = d.y * 3 + d.x
 abbrev pub opposite : Position → Position
 opposite d = at (2 - d.x) (2 - d.y)
 
+-- bit k of a mask is set
+abbrev pub is_set : ℕ → ℕ → Bool
+is_set mask k = eqb (mask / 2 ^ k % 2) 1
+
 -- bit k of the mask of cell c is set
 unfoldable pub cut_bit : List ℕ → ℕ → ℕ → Bool
 cut_bit masks c k = eqb (get_or masks c 0 / 2 ^ k % 2) 1

@@ -4,6 +4,8 @@ ghost use Rattle.definitions.specs.Grid.{at, is_step};
 ghost use Rattle.grid_steps.specs.Grids.{terrain_of};
 ghost use Rattle.grid_steps.specs.Inner.{Nearby, Inner, Inside, Says, Stepping};
 
+use crate::is_walkable;
+
 // `TerrainGrid` of lib.rs: its sides, and a byte for each cell, row by row.
 #[derive(Clone, Copy)]
 pub struct TerrainGrid<'a> {
@@ -34,6 +36,15 @@ pub const SOUTH_WEST: Direction = Direction { dx: 0, dy: 2 };
 pub const SOUTH: Direction = Direction { dx: 1, dy: 2 };
 
 pub const SOUTH_EAST: Direction = Direction { dx: 2, dy: 2 };
+
+// The bit of each in a mask of cut steps: its place in the three by three square around the cell, row by row from 0.
+pub const EAST_BIT: usize = EAST.dy * 3 + EAST.dx;
+
+pub const SOUTH_WEST_BIT: usize = SOUTH_WEST.dy * 3 + SOUTH_WEST.dx;
+
+pub const SOUTH_BIT: usize = SOUTH.dy * 3 + SOUTH.dx;
+
+pub const SOUTH_EAST_BIT: usize = SOUTH_EAST.dy * 3 + SOUTH_EAST.dx;
 
 impl TerrainGrid<'_> {
     // Whether every neighbour of a cell is in the grid.
@@ -74,12 +85,12 @@ impl TerrainGrid<'_> {
         let WalkPosition { x, y } = cell;
         let i = x + direction.dx - 1;
         let j = y + direction.dy - 1;
-        if self.cells[j * self.width + i] % 2 != 1 {
+        if !is_walkable(self.cells[j * self.width + i]) {
             return false;
         }
-        if self.cells[y * self.width + i] % 2 != 1 {
+        if !is_walkable(self.cells[y * self.width + i]) {
             return false;
         }
-        self.cells[j * self.width + x] % 2 == 1
+        is_walkable(self.cells[j * self.width + x])
     }
 }

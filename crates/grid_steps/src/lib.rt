@@ -5,7 +5,8 @@
 pub mod grid;
 
 ghost use Rattle.std.specs.Prelude.{◌≡◌, ◌<◌, length};
-ghost use Rattle.grid_steps.specs.Masks.{cut_bit};
+ghost use Rattle.definitions.specs.Grid.{is_walkable};
+ghost use Rattle.grid_steps.specs.Masks.{cut_bit, is_set};
 ghost use Rattle.grid_steps.specs.Walk.{direction_at};
 ghost use Rattle.grid_steps.specs.Inner.{placed};
 
@@ -24,11 +25,26 @@ pub fn place_at(d: usize) -> usize
     ((DIRECTIONS >> (8 * d)) % 256) as usize
 }
 
+// Whether a cell is walkable: the lowest bit of its byte.
+pub fn is_walkable(cell: u8) -> bool
+    ensures { result ≡ is_walkable cell }
+{
+    cell % 2 == 1
+}
+
+// Whether bit k of a mask is set.
+pub fn is_set(mask: u16, k: usize) -> bool
+    requires { k < 9 }
+    ensures { result ≡ is_set mask k }
+{
+    (mask >> k) % 2 == 1
+}
+
 // Whether bit k of cell c's mask is set.
 pub fn is_cut(masks: &[u16], c: usize, k: usize) -> bool
     requires masks_room { c < length masks.now }
     requires k_within { k < 9 }
     ensures { result ≡ cut_bit masks.now c k }
 {
-    (masks[c] >> k) % 2 == 1
+    is_set(masks[c], k)
 }

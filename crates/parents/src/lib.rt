@@ -48,7 +48,7 @@ pub fn alone(parents: &mut [u32], n: usize)
     requires { (n ≤ length parents.old) × (n ≤ 1048576) }
     ensures { Left n (λ c. c) parents.old parents.new }
 {
-    for c in 0..n {
-        parents[c] = c as u32;
+    for (c, parent) in parents[..n].iter_mut().enumerate() {
+        *parent = c as u32;
     }
 }

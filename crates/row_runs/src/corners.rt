@@ -6,13 +6,9 @@ ghost use Rattle.row_runs.specs.South.{SouthLevel};
 ghost use Rattle.row_runs.specs.Corners.{is_square, StepAsked, StepJoined, CornersAsked, CornersJoined, DiagonalsAsked, DiagonalsJoined};
 
 use crate::grid::CutGrid;
-use crate::tests::is_walkable;
-use grid_steps::is_cut;
+use grid_steps::grid::{SOUTH_EAST_BIT, SOUTH_WEST_BIT};
+use grid_steps::{is_cut, is_walkable};
 use parents::join;
-
-pub const SOUTH_WEST: usize = 6;
-
-pub const SOUTH_EAST: usize = 8;
 
 // Whether no step from cell c or from the next is cut.
 fn is_plain(masks: &[u16], c: usize) -> bool
@@ -28,16 +24,16 @@ fn is_square(grid: CutGrid, c: usize) -> bool
     ensures { result ≡ is_square grid.entry.width grid.entry.cells.now c }
 {
     let CutGrid { width, cells, .. } = grid;
-    if !is_walkable(cells, c) {
+    if !is_walkable(cells[c]) {
         return false;
     }
-    if !is_walkable(cells, c + 1) {
+    if !is_walkable(cells[c + 1]) {
         return false;
     }
-    if !is_walkable(cells, c + width) {
+    if !is_walkable(cells[c + width]) {
         return false;
     }
-    is_walkable(cells, c + width + 1)
+    is_walkable(cells[c + width + 1])
 }
 
 // Joins a and b, the cells of the step with bit k of a's mask, where it is not cut.
@@ -70,8 +66,8 @@ fn join_corners(grid: CutGrid, parents: &mut [u32], c: usize)
         return;
     }
     let below = c + grid.width;
-    join_step(grid.masks, parents, c, SOUTH_EAST, below + 1);
-    join_step(grid.masks, parents, c + 1, SOUTH_WEST, below);
+    join_step(grid.masks, parents, c, SOUTH_EAST_BIT, below + 1);
+    join_step(grid.masks, parents, c + 1, SOUTH_WEST_BIT, below);
 }
 
 // All squares of the rows from `up` and from `up` + `width` on.

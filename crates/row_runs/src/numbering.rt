@@ -3,14 +3,14 @@ ghost use Rattle.std.specs.Prelude.{◌≡◌, ℕ, ◌≤◌, length};
 ghost use Rattle.row_runs.specs.Numbered.{label_at, LabelAsked, Named, NumberAsked, Numbered};
 
 use crate::run::put_alike;
-use crate::tests::is_walkable;
+use grid_steps::is_walkable;
 
 // The label of the stretch whose first cell is c, where `id` labels are given before it. Who is his own parent gets the next.
 fn label_at(cells: &[u8], labels: &[u32], c: usize, id: u32) -> u32
     requires { LabelAsked cells.now labels.now c id }
     ensures { result ≡ label_at cells.now labels.now c id }
 {
-    if !is_walkable(cells, c) {
+    if !is_walkable(cells[c]) {
         return 0;
     }
     let p = labels[c] as usize;

@@ -4,9 +4,10 @@ ghost use Rattle.grid_steps.specs.Masks.{cut_bit};
 ghost use Rattle.row_runs.specs.Stretch.{walks_as, goes_on, Clear, Until, Stretch, StretchAsked};
 
 use crate::grid::CutGrid;
-use crate::tests::{SOUTH, goes_on, is_walkable};
+use crate::tests::goes_on;
 use crate::words::{first_flag, unlike_flags};
-use grid_steps::is_cut;
+use grid_steps::grid::SOUTH_BIT;
+use grid_steps::{is_cut, is_walkable};
 
 // Whether a step from a cell of the row is cut. Of most rows none is.
 pub fn has_marks(masks: &[u16], from: usize, end: usize) -> bool
@@ -22,7 +23,7 @@ fn alike_rest(cells: &[u8], from: usize, end: usize, walkable: bool) -> usize
     ensures { Until (walks_as walkable cells.now) from end result }
 {
     (from..end)
-        .find(|&c| is_walkable(cells, c) != walkable)
+        .find(|&c| is_walkable(cells[c]) != walkable)
         .unwrap_or(end)
 }
 
@@ -57,7 +58,7 @@ pub fn south_end(masks: &[u16], from: usize, end: usize) -> usize
     ensures { Until (λ c. cut_bit masks.now c 7) from end result }
 {
     (from..end)
-        .find(|&c| !is_cut(masks, c, SOUTH))
+        .find(|&c| !is_cut(masks, c, SOUTH_BIT))
         .unwrap_or(end)
 }
 
@@ -66,7 +67,7 @@ pub fn stretch_end(grid: CutGrid, from: usize, end: usize, marked: bool) -> usiz
     requires { StretchAsked grid.cells.now grid.masks.now from end marked }
     ensures { Stretch grid.entry.cells.now grid.entry.masks.now end from result }
 {
-    let walkable = is_walkable(grid.cells, from);
+    let walkable = is_walkable(grid.cells[from]);
     if walkable & marked {
         return run_end(grid, from + 1, end);
     }

@@ -6,7 +6,7 @@ ghost use Rattle.row_runs.specs.Names.{Fresh, RunAsked, RunPut, PutAsked, Stretc
 
 use crate::grid::CutGrid;
 use crate::row::stretch_end;
-use crate::tests::is_walkable;
+use grid_steps::is_walkable;
 
 // One value for all entries of a stretch.
 pub fn put_alike(list: &mut [u32], from: usize, end: usize, value: u32)
@@ -36,7 +36,7 @@ pub fn put_stretch(cells: &[u8], parents: &mut [u32], from: usize, end: usize)
         end ≤ n →
         StretchPut cells.now n name from end parents.old parents.new }
 {
-    if !is_walkable(cells, from) {
+    if !is_walkable(cells[from]) {
         return;
     }
     put_run(parents, from, end);

@@ -6,7 +6,7 @@ ghost use Rattle.row_runs.specs.South.{OverlapAsked, OverlapJoined, RowsAsked, R
 
 use crate::grid::CutGrid;
 use crate::row::south_end;
-use crate::tests::is_walkable;
+use grid_steps::is_walkable;
 use parents::join;
 
 // The end of the stretch that has cell c: what is known, unless a stretch begins at c.
@@ -28,10 +28,10 @@ fn join_overlap(grid: CutGrid, parents: &mut [u32], from: usize, end: usize)
         end + grid.entry.width ≤ n →
         OverlapJoined grid.entry.width grid.entry.cells.now grid.entry.masks.now n name from end parents.old parents.new }
 {
-    if !is_walkable(grid.cells, from) {
+    if !is_walkable(grid.cells[from]) {
         return;
     }
-    if !is_walkable(grid.cells, from + grid.width) {
+    if !is_walkable(grid.cells[from + grid.width]) {
         return;
     }
     let c = south_end(grid.masks, from, end);

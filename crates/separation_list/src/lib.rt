@@ -36,11 +36,7 @@ fn put_row(output: &mut [u64], k: usize, i: u64, j: u64, bits: u64, num: u64, de
     requires { k + 4 < length output.old }
     ensures { output.new ≡ sets output.old k (i ∷ j ∷ bits ∷ num ∷ den ∷ []) }
 {
-    output[k] = i;
-    output[k + 1] = j;
-    output[k + 2] = bits;
-    output[k + 3] = num;
-    output[k + 4] = den;
+    output[k..k + NUMBERS_PER_SEPARATION].copy_from_slice(&[i, j, bits, num, den]);
 }
 
 // The row of boundaries i and j. That they share a point need not be found out twice: the separation is zero just then, by the theorem of the bound.

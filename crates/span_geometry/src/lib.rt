@@ -49,11 +49,7 @@ impl SpanGeometry {
     {
         let first = PixelPosition { x: x0, y: y0 };
         let second = PixelPosition { x: x1, y: y1 };
-        if precedes(second, first) {
-            between(second, first)
-        } else {
-            between(first, second)
-        }
+        between(first.min(second), first.max(second))
     }
 
     // Whether the span cuts the step between two cells. Most steps near a span lie on one side of it, and need no more than that test.

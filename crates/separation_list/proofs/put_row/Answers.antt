@@ -1,19 +1,13 @@
--- `put_row` meets its contract: five stores, one behind the other. Assumes nothing.
+-- `put_row` meets its contract: the row's five numbers are stored at once. Assumes nothing.
+use Prim.Native.Nat.{◌+◌, ◌-◌}
 use native.Mathlib.Omega.{arith}
-use lib.ListN.{length-set}
-use Rattle.laws.specs.ListLaws.Stores.{five-stored}
+use mathlib.Core.List.{[], ◌∷◌}
+use mathlib.Core.Path.{ap, ◌∙◌}
+use borrow.Rule.Slice.PartMut.{put_mid}
+use Rattle.laws.specs.ListLaws.Stores.{part_stored}
 use Rattle.separation_list.proofs.put_row.Goals as goal
-
-pub bounds-output-k-2 : goal.bounds-output-k-2
-bounds-output-k-2 c = simp length-set (omega arith)
-
-pub bounds-output-k-3 : goal.bounds-output-k-3
-bounds-output-k-3 c = simp length-set (omega arith)
-
-pub bounds-output-k-4 : goal.bounds-output-k-4
-bounds-output-k-4 c = simp length-set (omega arith)
 
 pub returns : goal.returns
 returns c =
     let a = c.args in
-    five-stored a.output.now a.k a.i a.j a.bits a.num a.den
+    ap (put_mid a.k (a.k + 5 - a.k) a.output.now) c.copy_from_slice.ensures.after ∙ part_stored a.output.now (a.i ∷ a.j ∷ a.bits ∷ a.num ∷ a.den ∷ []) a.k (a.k + 5) (omega arith) (omega arith)
