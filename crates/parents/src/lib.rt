@@ -16,7 +16,7 @@ pub fn find(parents: &mut [u32], from: usize) -> usize
 {
     let mut c = from;
     let mut p = parents[c] as usize;
-    // Kept: the way goes from a number to its parent, and no range or chain has these numbers.
+    // Kept: `iter::successors` could give the way from a number to its parent only in a list that no turn writes.
     while p != c {
         let q = parents[p];
         parents[c] = q;

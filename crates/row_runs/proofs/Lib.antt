@@ -16,3 +16,4 @@ mod GridSteps
 mod SameRoots
 mod EveryStretch
 mod Labels
+pub mod MappedRanges

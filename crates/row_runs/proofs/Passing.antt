@@ -1,8 +1,8 @@
 -- The first place of which a test does not hold: what `find` gives over the places, and a loop over several at a time, where at place c the test holds of all places
 -- passed. Assumes nothing.
-use Prim.Native.Nat.{ℕ, ◌≤◌, ◌<◌}
+use Prim.Native.Nat.{ℕ, zero, suc, ◌+◌, ◌*◌, ◌≤◌, ◌<◌}
 use native.Mathlib.Omega.{arith}
-use mathlib.Core.Path.{◌≡◌, refl}
+use mathlib.Core.Path.{◌≡◌, refl, subst}
 use mathlib.Core.Bool.{Bool, true, false}
 use lib.Dec.{ltb}
 use borrow.Author.Tests.{ltb-true, ltb-false}
@@ -36,3 +36,9 @@ passing-stops_on P h U l =
 
 pub passing-ends_on : {f : ℕ → Bool} {from end c r : ℕ} → Passing f from end c → Until f c end r → Until f from end r
 passing-ends_on P U = let Q = passing_on P (omega arith) U in record { low = Q.low; ends = Q.ends; all = Q.all; stop = U.stop }
+
+-- eight at a time, n times
+pub passing_eights : {f : ℕ → Bool} {from end : ℕ} (n : ℕ) → from + 8 * n ≤ end → ((k : ℕ) → k < n → Until f (from + 8 * k) (from + 8 * k + 8) (from + 8 * k + 8)) → Passing f from end (from + 8 * n)
+passing_eights {f} {from} {end} zero h each = subst (Passing f from end) (omega arith) (passing-starts f from end (omega arith))
+passing_eights {f} {from} {end} (suc n) h each =
+    subst (Passing f from end) (omega arith) (passing_on (passing_eights n (omega arith) (λ k l. each k (omega arith))) (omega arith) (each n (omega arith)))

@@ -1,38 +1,45 @@
--- Words of bytes: two halves make one, its lowest bits by an `and`, and where the first flag stands by the zeros below it. Assumes nothing.
+-- Words of bytes: the lowest bits of one by an `and`, and where the first flag stands by the zeros below it. Assumes nothing.
 use Prim.Native.Nat.{ℕ, zero, suc, ◌+◌, ◌*◌, ◌-◌, ◌/◌, ◌%◌, ◌^◌, ◌≤◌, ◌<◌}
 use native.Mathlib.Omega.{arith}
 use mathlib.Core.Path.{◌≡◌, refl, sym, ap, ap₂, ◌∙◌, subst}
 use mathlib.Core.Bool.{Bool, true, false, not}
-use mathlib.Core.List.{List}
+use mathlib.Core.List.{List, [], ◌∷◌}
 use lib.ListN.{get_or}
+use mir.Syntax.{w64}
+use Rattle.std.specs.Int.{from_le_bytes}
 use lib.Bits.{bit_and, and_block, and_mask}
 use lib.Count.{count_trailing_zeros, under, trailing_of_zero}
 use lib.Dec.{eqb, ltb}
 use borrow.Author.Tests.{eqb-true, eqb-false, ltb-true, ltb-false}
 use Rattle.definitions.specs.Scan.{bit}
 use Rattle.row_runs.specs.Stretch.{walks, Until}
-use Rattle.row_runs.specs.Words.{word_at, stops}
+use Rattle.row_runs.specs.Words.{stops}
 
--- ---- halves
+-- ---- bytes
+
+-- the bytes of n cells from c on
+unfoldable word_at : ℕ → List ℕ → ℕ → ℕ
+word_at zero cells c = 0
+word_at (suc n) cells c = get_or cells c 0 + 256 * word_at n cells (c + 1)
 
 module _ (cells : List ℕ) (c : ℕ) where
-  pub word_two : word_at 2 cells c ≡ get_or cells c 0 + 256 * get_or cells (c + 1) 0
-  unfolding word_at
-  word_two = omega arith
+  abbrev pub eight : List ℕ
+  eight =
+      get_or cells c 0 ∷ get_or cells (c + 1) 0 ∷ get_or cells (c + 2) 0 ∷ get_or cells (c + 3) 0 ∷ get_or cells (c + 4) 0 ∷ get_or cells (c + 5) 0 ∷ get_or cells (c + 6) 0 ∷ get_or cells (c + 7) 0 ∷ []
 
-  pub word-four : word_at 4 cells c ≡ word_at 2 cells c + 65536 * word_at 2 cells (c + 2)
+  word_eight : from_le_bytes w64 eight ≡ word_at 8 cells c
   unfolding word_at
-  word-four =
-      let e : c + 1 + 1 ≡ c + 2 = omega arith in
-      let d : c + 1 + 1 + 1 ≡ c + 2 + 1 = omega arith in
-      omega (arith, ap (λ x. get_or cells x 0) e, ap (λ x. get_or cells x 0) d)
-
-  pub word-eight : word_at 8 cells c ≡ word_at 4 cells c + 4294967296 * word_at 4 cells (c + 4)
-  unfolding word_at
-  word-eight =
-      let e : c + 1 + 1 + 1 + 1 ≡ c + 4 = omega arith in
-      let high : word_at 4 cells (c + 1 + 1 + 1 + 1) ≡ word_at 4 cells (c + 4) = ap (word_at 4 cells) e in
-      omega arith
+  word_eight =
+      let at : (m n : ℕ) → m ≡ n → get_or cells m 0 ≡ get_or cells n 0 = λ m n e. ap (λ x. get_or cells x 0) e in
+      omega (
+        arith,
+        at (c + 1 + 1) (c + 2) (omega arith),
+        at (c + 1 + 1 + 1) (c + 3) (omega arith),
+        at (c + 1 + 1 + 1 + 1) (c + 4) (omega arith),
+        at (c + 1 + 1 + 1 + 1 + 1) (c + 5) (omega arith),
+        at (c + 1 + 1 + 1 + 1 + 1 + 1) (c + 6) (omega arith),
+        at (c + 1 + 1 + 1 + 1 + 1 + 1 + 1) (c + 7) (omega arith),
+      )
 
 -- ---- lowest bits
 
@@ -63,11 +70,9 @@ module _ (cells : List ℕ) (bytes : (d : ℕ) → get_or cells d 0 < 256) where
       let turn : bit_and x y * 2 ^ 8 + bit_and b 1 ≡ b % 2 + 256 * bit_and x y = omega arith in
       ap₂ bit_and e d ∙ and_block 8 x y b 1 (bytes c) (omega arith) ∙ turn ∙ ap₂ (λ v w. v + 256 * w) (sym (walkable-bit b)) (and_flags n (c + 1))
 
-  pub open_flags_are : (c low high : ℕ) → low ≡ word_at 4 cells c → high ≡ word_at 4 cells (c + 4) → bit_and (low + 4294967296 * high) 72340172838076673 ≡ stops 8 (λ d. not (walks cells d)) c
+  pub open_flags_are : (c : ℕ) → bit_and (from_le_bytes w64 (eight cells c)) 72340172838076673 ≡ stops 8 (λ d. not (walks cells d)) c
   unfolding ones
-  open_flags_are c low high e d =
-      let word : low + 4294967296 * high ≡ word_at 8 cells c = omega (arith, e, d, word-eight cells c) in
-      ap (λ w. bit_and w 72340172838076673) word ∙ and_flags 8 c
+  open_flags_are c = ap (λ w. bit_and w 72340172838076673) (word_eight cells c) ∙ and_flags 8 c
 
 -- a flag stands where f holds or where it does not
 stops-both : (f : ℕ → Bool) (n c : ℕ) → stops n (λ d. not (f d)) c + stops n f c ≡ ones n

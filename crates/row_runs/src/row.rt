@@ -5,7 +5,7 @@ ghost use Rattle.row_runs.specs.Stretch.{walks_as, goes_on, Clear, Until, Stretc
 
 use crate::grid::CutGrid;
 use crate::tests::goes_on;
-use crate::words::{first_flag, unlike_flags};
+use crate::words::first_unlike;
 use grid_steps::grid::SOUTH_BIT;
 use grid_steps::{is_cut, is_walkable};
 
@@ -33,15 +33,11 @@ fn alike_end(cells: &[u8], from: usize, end: usize, walkable: bool) -> usize
     ensures { Until (walks_as walkable cells.now) from end result }
 {
     let words = (end - from) / 8;
-    // Kept: `find` would give the word and not its flags, which would then be asked for twice.
-    for k in 0..words {
-        let c = from + 8 * k;
-        let flags = unlike_flags(cells, c, walkable);
-        if flags != 0 {
-            return c + first_flag(flags);
-        }
+    let found = (0..words).find_map(|k| first_unlike(cells, from + 8 * k, walkable));
+    match found {
+        Some(c) => c,
+        None => alike_rest(cells, from + 8 * words, end, walkable),
     }
-    alike_rest(cells, from + 8 * words, end, walkable)
 }
 
 // The first cell from `from` on that the run of the cell before `from` has not.

@@ -60,7 +60,7 @@ pub fn scan_row(
         parents.new queue.new }
 {
     let mut c = from;
-    // Kept: each stretch begins where the one before it ends, and no range or chain has these places.
+    // Kept: `iter::from_fn` could give the stretches, with the place in its closure, and is no plainer.
     while c < end {
         let e = stretch_end(grid, c, end, marked);
         queue[c] = e as u32;

@@ -56,7 +56,7 @@ pub fn join_rows(grid: CutGrid, parents: &mut [u32], queue: &[u32], up: usize)
     let mut c = up;
     let mut a = up;
     let mut b = row;
-    // Kept: the places are where stretches of two rows end, and no range or chain has them.
+    // Kept: `iter::from_fn` could give the places where stretches of two rows end, with all three in its closure, and is no plainer.
     while c < row {
         a = end_at(queue, c, a);
         b = end_at(queue, c + width, b);

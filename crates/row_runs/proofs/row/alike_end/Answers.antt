@@ -1,39 +1,36 @@
--- `row_runs::row::alike_end` meets its contract. The loop's invariant is `Passing`: all cells of the words before are as walkable as asked. Assumes nothing.
-use Prim.Native.Nat.{ℕ, ◌+◌, ◌-◌, ◌*◌, ◌/◌, ◌<◌}
-use native.Mathlib.Omega.{arith}
-use mathlib.Core.Bool.{Bool}
-use mathlib.Core.Path.{◌≡◌, subst}
-use Rattle.row_runs.specs.Stretch.{walks_as}
-use Rattle.row_runs.proofs.Passing.{Passing, passing_on, passing-stops_on, passing-ends_on}
-use Rattle.row_runs.proofs.WordLaws.{eight-passed, eight-until, eight-stops}
+-- `row_runs::row::alike_end` meets its contract: the first word that has one, or the cells behind the words. Assumes nothing.
+use Rattle.std.proofs.Common.{rules, tests, arith, ℕ, ◌≡◌, ◌+◌, ◌-◌, ◌*◌, ◌/◌, ◌≤◌, ◌<◌, Bool, subst}
+use Rattle.std.specs.Prelude.{Option, None, Some, MatchOption}
+use Rattle.row_runs.specs.Stretch.{Until, walks_as}
+use Rattle.row_runs.specs.Words.{FirstOfEight}
+use Rattle.row_runs.proofs.Passing.{Passing, passing_eights, passing-stops_on, passing-ends_on}
+use Rattle.row_runs.proofs.MappedRanges.{first_given_from_Range}
 use Rattle.row_runs.proofs.row.alike_end.Goals as goal
 
-pub overflow_add-result : goal.overflow_add-result
-overflow_add-result c =
-    let test : ℕ → Bool = walks_as c.args.walkable c.args.cells.now in
-    let at : ℕ = c.args.from + 8 * c.loop-k.k in
-    let inside : c.first_flag.result < 8 = eight-stops test at c.unlike_flags-flags.ensures c.if-flags-ne0.true c.first_flag.ensures in
-    omega (arith, inside, c.loop-k-test.true, c.requires.0)
+module _ (test : ℕ → Bool) (from end : ℕ) (order : from ≤ end) where
+  abbrev Word : ℕ → Option ℕ → Type 0
+  Word k r = FirstOfEight test (from + 8 * k) r
 
-pub returns-then-flags-ne0 : goal.returns-then-flags-ne0
-returns-then-flags-ne0 c =
-    let test : ℕ → Bool = walks_as c.args.walkable c.args.cells.now in
-    let at : ℕ = c.args.from + 8 * c.loop-k.k in
-    let inside : c.first_flag.result < 8 = eight-stops test at c.unlike_flags-flags.ensures c.if-flags-ne0.true c.first_flag.ensures in
-    passing-stops_on c.loop-k.invariant (omega (arith, c.loop-k-test.true, c.requires.0))
-    (eight-until test at c.unlike_flags-flags.ensures c.if-flags-ne0.true c.first_flag.ensures) (omega (arith, inside))
+  -- what is found in the words
+  abbrev Found : Option ℕ → Type 0
+  Found r = MatchOption r (Passing test from end (from + 8 * ((end - from) / 8))) (Until test from end)
 
-pub loop-k-preserved : goal.loop-k-preserved
-loop-k-preserved c =
+  found_is : (r : Option ℕ)
+      → MatchOption r ((k : ℕ) → 0 ≤ k → k < (end - from) / 8 → Word k None) (λ y. (i : ℕ) × (0 ≤ i) × (i < (end - from) / 8) × Word i (Some y) × ((k : ℕ) → 0 ≤ k → k < i → Word k None))
+      → Found r
+  found_is None all = passing_eights ((end - from) / 8) (omega arith) (λ k l. all k (omega arith) l)
+  found_is (Some y) (i, low, high, hit, before) = passing-stops_on (passing_eights i (omega arith) (λ k l. before k (omega arith) l)) (omega arith) hit.0 hit.1
+
+pub returns-in-Some : goal.returns-in-Some
+returns-in-Some c =
     let a = c.args in
     let test : ℕ → Bool = walks_as a.walkable a.cells.now in
-    let at : ℕ = a.from + 8 * c.loop-k.k in
-    let next : at + 8 ≡ a.from + 8 * (c.loop-k.k + 1) = omega arith in
-    subst (Passing test a.from a.end) next
-    (passing_on c.loop-k.invariant (omega (arith, c.loop-k-test.true, c.requires.0)) (eight-passed test at c.unlike_flags-flags.ensures c.if-flags-ne0.false))
+    let first = first_given_from_Range _ _ (λ x r q k. search (rules, tests)) (λ k. Word test a.from a.end c.requires.0 k None) (λ k r. Word test a.from a.end c.requires.0 k (Some r)) (λ x k. search (rules, tests)) (λ x y k. search (rules, tests)) c.find_map-found.result c.find_map-found.ensures.runs in
+    subst (Found test a.from a.end c.requires.0) c.in-Some.is (found_is test a.from a.end c.requires.0 c.find_map-found.result first)
 
-pub returns : goal.returns
-returns c =
+pub returns-in-None : goal.returns-in-None
+returns-in-None c =
     let a = c.args in
-    let done : c.loop-k.k ≡ (a.end - a.from) / 8 = omega (arith, c.loop-k-test.false, c.loop-k.auto.k-end) in
-    passing-ends_on (subst (λ k. Passing (walks_as a.walkable a.cells.now) a.from a.end (a.from + 8 * k)) done c.loop-k.invariant) c.alike_rest.ensures
+    let test : ℕ → Bool = walks_as a.walkable a.cells.now in
+    let first = first_given_from_Range _ _ (λ x r q k. search (rules, tests)) (λ k. Word test a.from a.end c.requires.0 k None) (λ k r. Word test a.from a.end c.requires.0 k (Some r)) (λ x k. search (rules, tests)) (λ x y k. search (rules, tests)) c.find_map-found.result c.find_map-found.ensures.runs in
+    passing-ends_on (subst (Found test a.from a.end c.requires.0) c.in-None.is (found_is test a.from a.end c.requires.0 c.find_map-found.result first)) c.alike_rest.ensures
