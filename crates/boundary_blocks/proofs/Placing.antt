@@ -6,7 +6,8 @@ use mathlib.Core.Path.{◌≡◌, refl, sym, ap, ap₂, subst, ◌∙◌}
 use mathlib.Core.Bool.{true, false, not}
 use mathlib.Core.List.{List, [], ◌∷◌, ◌++◌, append_assoc, append-nil}
 use lib.ListN.{length, get_or, set, take, drop, replicate, length-append}
-use lib.Seq.{sets, drop-cons}
+use lib.Seq.{sets, drop-cons, length-take-le}
+use Rattle.std.proofs.lemmas.List.{drop_all}
 use Rattle.definitions.specs.Scan.{collect, concat_map, only_if}
 use Rattle.definitions.specs.Sort.{sort, list_lt}
 use Rattle.definitions.specs.Grid.{canonical, boundary_at}
@@ -25,7 +26,7 @@ use Rattle.rows.specs.Contract.{not_removed, kept_rows}
 use Rattle.rest.specs.FlatLists.{flat_segment, flat_boundary}
 use Rattle.rest.specs.StartMaps.{count-all}
 use Rattle.boundary_blocks.specs.Blocks.{part}
-use Rattle.boundary_blocks.specs.Start.{rows_of_all, NamedIn, turned_in, place_row, rows_at}
+use Rattle.boundary_blocks.specs.Start.{rows_of_all, numbers_of, NamedIn, turned_in, place_row, rows_at}
 use Rattle.boundary_blocks.proofs.Copying.{part_length}
 
 -- ---- parts, number by number
@@ -94,6 +95,16 @@ module _
           ∙ ap (concat_map f) (rows_next k rows)
           ∙ concat-append f (rows_in_lem k rows) (row_at rows (5 * k) ∷ [])
           ∙ ap (λ t. concat_map f (rows_in_lem k rows) ++ t) (append-nil (f (row_at rows (5 * k))))
+
+pub numbers-length : (k : ℕ) (rows : List ℕ) → length (numbers_of (rows_in_lem k rows)) ≡ k
+unfolding numbers_of
+numbers-length k rows = concat-length (λ (r : Row). r.number ∷ []) 1 (λ r. refl) (λ n. omega arith) refl (rows_in_lem k rows) ∙ omega (arith, rows-length k rows)
+
+-- as many numbers as the front of a list has, written over that front
+pub front_written : (vs l : List ℕ) (n : ℕ) → length vs ≡ n → n ≤ length l → overwrite vs (take n l) ++ drop n l ≡ overwrite vs l
+front_written vs l n e h =
+    let none : drop (length vs) (take n l) ≡ [] = drop_all (length vs) (take n l) (omega (arith, e, length-take-le n l h)) in
+    ap (λ r. vs ++ r ++ drop n l) none ∙ ap (λ w. w ++ drop n l) (append-nil vs) ∙ ap (λ m. vs ++ drop m l) (sym e)
 
 -- ---- what a row's block is
 

@@ -10,21 +10,19 @@ ghost use Rattle.rest.specs.FlatLists.{flat_boundary};
 ghost use Rattle.boundary_blocks.specs.Start.{rows_of_all, numbers_of, ends_of_lem, turned_in, turned_of, NamedIn, rows_at};
 
 use crate::blocks::copy_block;
-use definitions::limits::{NUMBERS_PER_BOUNDARY, NUMBERS_PER_ROW, NUMBERS_PER_SPAN};
+use definitions::limits::{MAX_ENTRIES, NUMBERS_PER_BOUNDARY, NUMBERS_PER_ROW, NUMBERS_PER_SPAN};
 use rows::canonical_output;
 
 // What stands behind a boundary's endpoints.
-const BEHIND_SIZE: usize = 5;
-
-const MOST_ROWS: usize = 256;
+const BEHIND_SIZE: usize = NUMBERS_PER_BOUNDARY - NUMBERS_PER_SPAN;
 
 // The numbers of the first rows.
 fn put_numbers(rows: &[u64], count: usize, numbers: &mut [u64])
     requires { (5 * count ≤ length rows.now) × (count ≤ length numbers.old) }
     ensures { numbers.new ≡ overwrite (numbers_of (rows_in_lem count rows.now)) numbers.old }
 {
-    for k in 0..count {
-        numbers[k] = rows[NUMBERS_PER_ROW * k];
+    for (k, number) in numbers[..count].iter_mut().enumerate() {
+        *number = rows[NUMBERS_PER_ROW * k];
     }
 }
 
@@ -33,6 +31,7 @@ fn put_spans(rows: &[u64], count: usize, spans: &mut [u64])
     requires { (5 * count ≤ length rows.now) × (4 * count ≤ length spans.old) }
     ensures { spans.new ≡ overwrite (ends_of_lem (rows_in_lem count rows.now)) spans.old }
 {
+    // Kept: of a list that `chunks_exact_mut` lends in parts a proof knows no element behind the loop.
     for k in 0..count {
         copy_block(
             rows,
@@ -68,6 +67,7 @@ fn put_boundaries(lent: &[u64], rows: &[u64], count: usize, boundaries: &mut [u6
     requires { (5 * count ≤ length rows.now) × (9 * count ≤ length boundaries.old) × All (NamedIn lent.now) (rows_in_lem count rows.now) }
     ensures { boundaries.new ≡ overwrite (turned_of lent.now (rows_in_lem count rows.now)) boundaries.old }
 {
+    // Kept: as in `put_spans`.
     for k in 0..count {
         put_boundary(lent, rows, k, boundaries);
     }
@@ -88,8 +88,8 @@ pub fn start_lists(
     ensures boundaries { boundaries.new
         ≡ overwrite (turned_of lent.now (rows_of_all lent.now count)) boundaries.old }
 {
-    let none = [false; MOST_ROWS];
-    let mut rows = [0u64; NUMBERS_PER_ROW * MOST_ROWS];
+    let none = [false; MAX_ENTRIES];
+    let mut rows = [0u64; NUMBERS_PER_ROW * MAX_ENTRIES];
     canonical_output(lent, count, &none, &mut rows);
     put_numbers(&rows, count, numbers);
     put_spans(&rows, count, spans);
@@ -101,6 +101,7 @@ pub fn put_rows(numbers: &[u64], spans: &[u64], kept: usize, output: &mut [u64])
     requires { (kept ≤ length numbers.now) × (4 * kept ≤ length spans.now) × (5 * kept ≤ length output.old) }
     ensures { output.new ≡ overwrite (flat_rows (rows_at numbers.now spans.now kept)) output.old }
 {
+    // Kept: as in `put_spans`.
     for k in 0..kept {
         let at = NUMBERS_PER_ROW * k;
         output[at] = numbers[k];

@@ -32,6 +32,7 @@ pub fn mark_anchored(width: usize, labels: &[u32], anchors: &[u64], marks: &mut 
         (anchor_cells width anchors.now (length anchors.now / numbers_per_anchor)) }
 {
     let count = anchors.len() / NUMBERS_PER_ANCHOR;
+    // Kept: `anchor_cell` takes the list and a number, as the definition of that name does.
     for i in 0..count {
         let cell = anchor_cell(width, anchors, i);
         mark_label(&mut *marks, labels[cell] as usize);

@@ -12,7 +12,9 @@ ghost use Rattle.context.specs.Packed.{pack_unit, counted_entry, count_region, c
 
 use crate::PartitionContext;
 use crate::pairs::row_at;
+use std::ops::Range;
 
+// Kept: two numbers in one, since of a region the lent list has one entry, and there is no heap for a second list.
 const PACK_UNIT: u32 = 512;
 
 // A region's entry once `span` names it.
@@ -46,14 +48,14 @@ fn count_pair(pairs: &[u32], k: usize, span: u32, counts: &mut [u32])
     count_region(&mut *counts, pair.hi, span);
 }
 
-// The regions that the rows from `first` on, before `end`, name.
-fn count_rows(pairs: &[u32], first: usize, end: usize, span: u32, counts: &mut [u32])
-    requires ordered { first ≤ end }
-    requires named_rows { (k : ℕ) → first ≤ k → k < end → NamedRow pairs.now (length counts.old) k }
+// The regions that the rows name.
+fn count_rows(pairs: &[u32], rows: Range<usize>, span: u32, counts: &mut [u32])
+    requires ordered { rows.start ≤ rows.end }
+    requires named_rows { (k : ℕ) → rows.start ≤ k → k < rows.end → NamedRow pairs.now (length counts.old) k }
     requires places { (span < max_entries) × Packed span counts.old }
-    ensures { counts.new ≡ count_pairs span counts.old (pairs_between pairs.now first end) }
+    ensures { counts.new ≡ count_pairs span counts.old (pairs_between pairs.now rows.start rows.end) }
 {
-    for k in first..end {
+    for k in rows.start..rows.end {
         count_pair(pairs, k, span, &mut *counts);
     }
 }
@@ -83,9 +85,8 @@ impl PartitionContext<'_> {
         ensures { counts.new ≡ count_spans (span_pairs self.entry.pairs.now self.entry.starts.now) self.entry.count counts.old }
     {
         for i in 0..self.count {
-            let first = self.starts[i];
-            let end = self.starts[i + 1];
-            count_rows(self.pairs, first, end, i as u32, &mut *counts);
+            let rows = self.starts[i]..self.starts[i + 1];
+            count_rows(self.pairs, rows, i as u32, &mut *counts);
         }
     }
 

@@ -78,8 +78,8 @@ impl PartitionContext<'_> {
             ShownPairs C self.entry.pairs.now self.entry.starts.now →
             ShownFullPairs C full.new }
     {
-        for i in 0..self.count {
-            full[i] = self.full_pair(i);
+        for (i, pair) in full[..self.count].iter_mut().enumerate() {
+            *pair = self.full_pair(i);
         }
     }
 }

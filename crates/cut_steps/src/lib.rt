@@ -73,6 +73,7 @@ pub fn mark_spans(grid: TerrainGrid, spans: &[u64], masks: &mut [u16])
     ensures { SpansMarked grid.entry.width grid.entry.height grid.entry.cells.now spans.now masks.old masks.new }
 {
     let count = spans.len() / NUMBERS_PER_SPAN;
+    // Kept: `span_at` reads a span by its number here as where spans are assessed, which is done by number.
     for i in 0..count {
         mark_span(grid, span_at(spans, i), masks);
     }

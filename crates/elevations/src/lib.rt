@@ -68,6 +68,7 @@ pub fn dominance_of(cells: usize, counts: [usize; 4]) -> Dominance
 }
 
 // Percent and remainder are 0 where there is no share.
+// Kept: a flag beside the values, since C takes no Option.
 #[repr(C)]
 #[derive(Clone, Copy)]
 pub struct ElevationsAnswer {

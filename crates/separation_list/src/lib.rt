@@ -69,6 +69,7 @@ fn put_rows(boundaries: &[u64], output: &mut [u64], n: usize)
     ensures { output.new ≡ sets output.old 0 (separation_rows boundaries.now n) }
 {
     let mut k = 0;
+    // Kept: where the rows of j begin, `pair_count(j)` would give too, by a product at each turn in place of a sum.
     for j in 0..n {
         put_column(boundaries, output, k, j);
         k += j * NUMBERS_PER_SEPARATION;
@@ -80,7 +81,7 @@ fn pair_count(n: usize) -> usize
     requires { n ≤ max_entries }
     ensures { (result ≡ pair_count n) × (result ≤ max_pairs) }
 {
-    if n == 0 { 0 } else { n * (n - 1) / 2 }
+    n * n.saturating_sub(1) / 2
 }
 
 // The count of rows, unless a check refuses the call: 1, 3, 7, or 10 for an output of so few numbers.

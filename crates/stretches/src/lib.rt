@@ -12,6 +12,7 @@ ghost use Rattle.stretches.specs.Stretches.{region_up_to, Read, Adding};
 use context::Region;
 
 // Where a stretch ends, and the label of its cells: 0 where it is of no region.
+// Kept: the label as the list has it and no Option, which `add_stretch` of topology, the only reader, would take apart by the test that it makes of 0.
 #[derive(Clone, Copy)]
 pub struct Stretch {
     pub end: usize,

@@ -1,5 +1,5 @@
 -- `boundary_blocks::start::put_numbers` meets its contract. The loop's invariant: the numbers of the first k rows are stored, and nothing else. Assumes nothing.
-use Prim.Native.Nat.{◌-◌, ◌≤◌}
+use Prim.Native.Nat.{◌≤◌}
 use mathlib.Core.Path.{◌≡◌}
 use lib.ListN.{length}
 use Rattle.definitions.specs.Lists.{overwrite}
@@ -8,7 +8,4 @@ use Rattle.boundary_blocks.specs.Start.{numbers_of}
 use Rattle.boundary_blocks.proofs.start.put_numbers.Given as goal
 
 abbrev pub invariant-loop-k : goal.invariant-loop-k
-invariant-loop-k l = (l.k ≤ l.count) × (length l.numbers ≡ length l.initial.numbers) × (l.numbers ≡ overwrite (numbers_of (rows_in_lem l.k l.rows)) l.initial.numbers)
-
-abbrev pub decreases-loop-k : goal.decreases-loop-k
-decreases-loop-k l = l.count - l.k
+invariant-loop-k l = (l.k ≤ l.count) × (length l.number-items ≡ l.count) × (l.number-items ≡ overwrite (numbers_of (rows_in_lem l.k l.rows)) l.initial.number-items)

@@ -5,4 +5,4 @@ use Rattle.context.specs.Packed.{count_pairs}
 use Rattle.context.proofs.incidents.count_rows.Given as goal
 
 abbrev pub invariant-loop-k : goal.invariant-loop-k
-invariant-loop-k l = l.counts ≡ count_pairs l.span l.initial.counts (pairs_between l.pairs l.first l.k)
+invariant-loop-k l = l.counts ≡ count_pairs l.span l.initial.counts (pairs_between l.pairs l.initial.k l.k)
