@@ -1,5 +1,5 @@
 -- The cut steps of one cell, direction by direction. Definitions only; assumes nothing.
-use Rattle.std.specs.Prelude.{Bool, ◌&&◌, cond, List, [], ◌∷◌, map, ℕ, ◌/◌, ◌%◌, ◌^◌, eqb, ltb}
+use Rattle.std.specs.Prelude.{Bool, ◌&&◌, cond, List, [], ◌∷◌, map, ltb}
 use Rattle.definitions.specs.Scan.{filter, concat_map}
 use Rattle.definitions.specs.Grid.{Map, Position, Segment, Pair, directions, toward, is_step, index, edge}
 use Rattle.definitions.specs.Spans.{cuts, candidate_positions}

@@ -8,7 +8,7 @@ use Rattle.std.specs.Prelude.{Option, None, Some, MatchOption, IfSome, IsSomeAnd
 use Rattle.std.specs.declared.ops.Range.{Range}
 use Rattle.std.proofs.lemmas.Option.{none-some, same_Some}
 use Rattle.std.specs.Option.{option_map}
-use Rattle.std.specs.Iterator.Runs.{Run, SomeRun, CallKeepsClosure, ItemsCountUp, AllItemsGive, IsFirstToGive}
+use Rattle.std.specs.Iterator.Runs.{SomeRun, CallKeepsClosure, ItemsCountUp, AllItemsGive, IsFirstToGive}
 use Rattle.std.proofs.iter.Yields.{nat_range_steps}
 use Rattle.std.proofs.iter.runs.Sources.{range_runs}
 
@@ -52,8 +52,8 @@ module _ {F B : Type 0} {g : Mut F (ℕ × Unit {0}) (Option B)} (s : Range ℕ)
         omega (arith, within, counted.0, start, end),
         hit' (p.from.start + i) y (item_at (λ x. Called g f (x, tt) (Some y) f) (p.at i) (p.from.start + i) (counted.3 i within) (first keeps).0),
         λ k a b.
-        let n = k - s.start in
-        no' k
-        (placed (λ x. Called g f (x, tt) None f) k a
-        (item_at (λ x. Called g f (x, tt) None f) (p.at n) (p.from.start + n) (counted.3 n (omega (arith, within, start))) ((first keeps).1 n (omega (arith, start))))),
+            let n = k - s.start in
+            no' k
+            (placed (λ x. Called g f (x, tt) None f) k a
+            (item_at (λ x. Called g f (x, tt) None f) (p.at n) (p.from.start + n) (counted.3 n (omega (arith, within, start))) ((first keeps).1 n (omega (arith, start))))),
       )

@@ -1,6 +1,5 @@
 -- `parents::alone` meets its contract: the numbers before c are their own parents. Assumes nothing.
 use native.Mathlib.Omega.{arith}
-use lib.ListN.{length, take}
 use lib.Seq.{length-take-le}
 use Rattle.parents.proofs.OwnParents.{all-own}
 use Rattle.parents.proofs.alone.Goals as goal

@@ -5,12 +5,6 @@ use lib.ListN.{get_or, length-set}
 use Rattle.parents.proofs.Finding.{Places, finding-starts, places, finding-goes_on, finding-ends}
 use Rattle.parents.proofs.find.Goals as goal
 
-pub offset_bounds-parents-c : goal.offset_bounds-parents-c
-offset_bounds-parents-c c = omega (arith, c.requires.inside, c.requires.forest.few)
-
-pub bounds-parents-c : goal.bounds-parents-c
-bounds-parents-c c = omega (arith, c.requires.inside, c.requires.forest.long)
-
 pub loop-p-init : goal.loop-p-init
 loop-p-init c = finding-starts _ _ _ refl
 

@@ -3,18 +3,6 @@ use native.Mathlib.Omega.{arith}
 use Rattle.parents.proofs.Joining.{Names, join-idle, placed_first, placed-second, names, join-long, join-linked}
 use Rattle.parents.proofs.join.Goals as goal
 
-pub offset_bounds-parents-a : goal.offset_bounds-parents-a
-offset_bounds-parents-a c = omega (arith, c.requires.first, c.requires.forest.few)
-
-pub bounds-parents-a : goal.bounds-parents-a
-bounds-parents-a c = omega (arith, c.requires.first, c.requires.forest.long)
-
-pub offset_bounds-parents-b : goal.offset_bounds-parents-b
-offset_bounds-parents-b c = omega (arith, c.requires.second, c.requires.forest.few)
-
-pub bounds-parents-b : goal.bounds-parents-b
-bounds-parents-b c = omega (arith, c.requires.second, c.requires.forest.long)
-
 pub returns-then-parents-a : goal.returns-then-parents-a
 returns-then-parents-a c = join-idle c.if-parents-a.true
 

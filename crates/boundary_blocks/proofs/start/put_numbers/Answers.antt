@@ -3,9 +3,8 @@ use Prim.Native.Nat.{◌*◌}
 use native.Mathlib.Omega.{arith}
 use mathlib.Core.Path.{◌≡◌, refl, sym, ap, ◌∙◌}
 use mathlib.Core.List.{[], ◌∷◌, ◌++◌}
-use lib.ListN.{get_or, set, length-set, take, drop, length}
+use lib.ListN.{get_or, set, length-set, take, drop}
 use lib.Seq.{length-take-le}
-use borrow.Author.Rules.{rules}
 use Rattle.definitions.specs.Scan.{concat_map}
 use Rattle.definitions.specs.Lists.{overwrite}
 use Rattle.laws.specs.ListLaws.FlatRows.{rows_in_lem}

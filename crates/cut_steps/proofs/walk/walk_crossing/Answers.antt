@@ -42,14 +42,8 @@ four_few here = omega arith
 pub overflow_add-back : goal.overflow_add-back
 overflow_add-back g c = omega (arith, (sizes c.requires.follows).before_small)
 
-pub overflow_sub-back : goal.overflow_sub-back
-overflow_sub-back g c = omega (arith, c.requires.follows.follows.close-before.up)
-
 pub overflow_add-ahead : goal.overflow_add-ahead
 overflow_add-ahead g c = omega (arith, (sizes c.requires.follows).after_small)
-
-pub overflow_sub-ahead : goal.overflow_sub-ahead
-overflow_sub-ahead g c = omega (arith, c.requires.follows.follows.close-after.down)
 
 pub loop-j-init : goal.loop-j-init
 loop-j-init g c =

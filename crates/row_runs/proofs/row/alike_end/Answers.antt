@@ -1,5 +1,5 @@
 -- `row_runs::row::alike_end` meets its contract: the first word that has one, or the cells behind the words. Assumes nothing.
-use Rattle.std.proofs.Common.{rules, tests, arith, ℕ, ◌≡◌, ◌+◌, ◌-◌, ◌*◌, ◌/◌, ◌≤◌, ◌<◌, Bool, subst}
+use Rattle.std.proofs.Common.{rules, tests, arith, ℕ, ◌+◌, ◌-◌, ◌*◌, ◌/◌, ◌≤◌, ◌<◌, Bool, subst}
 use Rattle.std.specs.Prelude.{Option, None, Some, MatchOption}
 use Rattle.row_runs.specs.Stretch.{Until, walks_as}
 use Rattle.row_runs.specs.Words.{FirstOfEight}

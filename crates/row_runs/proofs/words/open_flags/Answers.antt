@@ -1,5 +1,4 @@
 -- `row_runs::words::open_flags` meets its contract: the lowest bits of a word's bytes are those of the cells. Assumes nothing.
-use Prim.Native.Nat.{ℕ}
 use native.Mathlib.Omega.{arith}
 use lib.Bits.{bit_and}
 use mathlib.Core.Path.{ap, ◌∙◌}
