@@ -21,8 +21,8 @@ use ascending_rows::{Rows, put_pair};
 use cut_steps::span_at;
 use cut_steps::walk::{SpanWalk, StepVisitor, walk_span};
 use definitions::limits::{NUMBERS_PER_PAIR, NUMBERS_PER_SPAN, TALLIES_PER_SPAN};
-use grid_steps::is_set;
 use grid_steps::grid::{Direction, EAST, SOUTH, SOUTH_EAST, SOUTH_WEST, TerrainGrid, WalkPosition};
+use grid_steps::is_set;
 use region_pairs::Pair;
 use span_geometry::SpanGeometry;
 
