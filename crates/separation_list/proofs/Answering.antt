@@ -1,7 +1,7 @@
 -- What the checks leave, and the output at exit by the answer's number. Assumes nothing.
-use mathlib.Core.Path.{◌≡◌, sym, ap, ◌∙◌}
+use mathlib.Core.Path.{◌≡◌, refl, sym, ap, ◌∙◌}
 use mathlib.Core.Bool.{Bool, true, cond}
-use mathlib.Core.List.{List}
+use mathlib.Core.List.{List, [], ◌∷◌}
 use Prim.Native.Nat.{ℕ, ◌-◌, ◌*◌, ◌%◌, ◌≤◌}
 use native.Mathlib.Nat.{le_trans, mul-le-mul, div-le_self}
 use native.Mathlib.Omega.{arith}
@@ -11,10 +11,13 @@ use lib.Seq.{sets}
 use borrow.Author.Tests.{leb-true, eq-eqb, ne_eqb}
 use Rattle.definitions.specs.Limits.{max_entries, numbers_per_boundary}
 use Rattle.definitions.specs.Lists.{overwrite}
-use Rattle.definitions.specs.Refusals.{is_whole}
+use Rattle.std.specs.Prelude.{Option, None, Some}
+use Rattle.definitions.specs.Refusals.{unless, sides_fault, is_whole, boundaries_fault}
+use Rattle.definitions.specs.Verdict.{refusal, first_refusal}
+use Rattle.laws.specs.ListLaws.NoFault.{no_fault_lem}
 use Rattle.laws.specs.ListLaws.Tests.{both}
 use Rattle.laws.specs.ListLaws.Overwritten.{sets_overwrite}
-use Rattle.separations.specs.Listing.{boundary_count, pair_count, separation_rows, list_at_exit}
+use Rattle.separations.specs.Listing.{numbers_per_separation, boundary_count, pair_count, separation_rows, list_verdict, list_at_exit}
 use Rattle.separation_list.specs.Contract.{max_pairs}
 
 pub entries-le : (boundaries : List ℕ) {b : Bool} → b ≡ is_whole numbers_per_boundary boundaries → b ≡ true → boundary_count boundaries ≤ max_entries
@@ -26,6 +29,18 @@ pairs-le n h = le_trans (div-le_self (n * (n - 1)) 2) (mul-le-mul h (le_trans (o
   where
     one_less : (n : ℕ) → n - 1 ≤ n
     one_less n = omega arith
+
+-- an accepted call has at most as many
+second_passed : (a b c d : Option ℕ) (n : ℕ) → (first_refusal (refusal 1 a ∷ refusal 3 b ∷ refusal 7 c ∷ refusal 10 d ∷ []) n).number ≡ 0 → b ≡ None
+second_passed None None c d n h = refl
+second_passed None (Some p) c d n h = absurd (omega arith)
+second_passed (Some p) b c d n h = absurd (omega arith)
+
+pub few_entries : (w h : ℕ) (boundaries : List ℕ) (room : ℕ) → (list_verdict w h boundaries room).number ≡ 0 → boundary_count boundaries ≤ max_entries
+unfolding list_verdict
+few_entries w h boundaries room success =
+    let whole = no_fault_lem (is_whole numbers_per_boundary boundaries) 0 (second_passed (sides_fault w h) (unless (is_whole numbers_per_boundary boundaries)) (boundaries_fault w h boundaries) (unless (leb (numbers_per_separation * pair_count (boundary_count boundaries)) room)) (pair_count (boundary_count boundaries)) success) in
+    entries-le boundaries refl whole
 
 -- ---- the output at exit
 

@@ -16,8 +16,8 @@ use Rattle.laws.specs.ListLaws.Overwritten.{sets_append}
 use Rattle.laws.specs.FloatLaws.Pixels.{PixelSegment}
 use Rattle.laws.specs.FloatLaws.FiniteSeparations.{separation-clear}
 use Rattle.separations.specs.Distance.{Fraction, exact_square}
-use Rattle.separations.specs.Listing.{ends_of_lem, separation_row, column, separation_rows}
-use Rattle.separations.specs.ListingLaws.{column-length, rows-room}
+use Rattle.separations.specs.Listing.{ends_of_lem, separation_row, column, separation_rows, pair_count}
+use Rattle.separations.specs.ListingLaws.{column-length, rows-length, rows-room}
 
 -- what is stored for a pair
 pub row_is : {s t s' t' : Segment} {x : Float} {f : Fraction} (i j : ℕ) → x ≡ segment_distance s t → f ≡ exact_square s t → s ≡ s' → t ≡ t'
@@ -87,29 +87,27 @@ rows_more boundaries output n at e =
     ap (λ p. sets (sets output 0 (separation_rows boundaries n)) p (column boundaries n n)) (e ∙ sym (zero-add (length (separation_rows boundaries n))))
     ∙ sym (sets_append output 0 (separation_rows boundaries n) (column boundaries n n))
 
--- the rows of the first j boundaries are stored, and k is where they end
-pub record RowsFilled (boundaries output₀ : List ℕ) (n : ℕ) (output : List ℕ) (j k : ℕ) : Type 0 where
+-- the rows of the first j boundaries are stored
+pub record RowsFilled (boundaries output₀ : List ℕ) (n : ℕ) (output : List ℕ) (j : ℕ) : Type 0 where
   pub upto : j ≤ n
-  pub place : k ≡ length (separation_rows boundaries j)
   pub is : output ≡ sets output₀ 0 (separation_rows boundaries j)
   pub long : length output ≡ length output₀
 
-pub rows_start : (boundaries output : List ℕ) (n : ℕ) → RowsFilled boundaries output n output 0 0
+pub rows_start : (boundaries output : List ℕ) (n : ℕ) → RowsFilled boundaries output n output 0
 unfolding separation_rows
-rows_start boundaries output n = record { upto = zero-le; place = refl; is = refl; long = refl }
+rows_start boundaries output n = record { upto = zero-le; is = refl; long = refl }
 
-pub next_room : {boundaries output₀ output : List ℕ} {n j k : ℕ} → RowsFilled boundaries output₀ n output j k → j < n → length (separation_rows boundaries n) ≤ length output₀
-    → k + 5 * j ≤ length output
-next_room {boundaries} {output₀} {output} {n} {j} {k} h l r = omega (arith, h.long, h.place, rows-room boundaries j n l)
+pub next_room : {boundaries output₀ output : List ℕ} {n j k : ℕ} → RowsFilled boundaries output₀ n output j → j < n → length (separation_rows boundaries n) ≤ length output₀
+    → k ≡ pair_count j → 5 * k + 5 * j ≤ length output
+next_room {boundaries} {output₀} {output} {n} {j} {k} h l r e = omega (arith, h.long, e, rows-length boundaries j, rows-room boundaries j n l)
 
-pub rows-go_on : {boundaries output₀ output output' : List ℕ} {n j k : ℕ} → RowsFilled boundaries output₀ n output j k → j < n
-    → output' ≡ sets output k (column boundaries j j) → length output' ≡ length output → RowsFilled boundaries output₀ n output' (j + 1) (k + j * 5)
-rows-go_on {boundaries} {output₀} {output} {output'} {n} {j} {k} h l e s =
+pub rows-go_on : {boundaries output₀ output output' : List ℕ} {n j k : ℕ} → RowsFilled boundaries output₀ n output j → j < n → k ≡ pair_count j
+    → output' ≡ sets output (5 * k) (column boundaries j j) → length output' ≡ length output → RowsFilled boundaries output₀ n output' (j + 1)
+rows-go_on {boundaries} {output₀} {output} {output'} {n} {j} {k} h l c e s =
     record {
       upto = omega arith;
-      place = omega (arith, h.place, more, column-length boundaries j j) ∙ ap (λ m. length (separation_rows boundaries m)) next;
       is =
-          e ∙ ap (λ o. sets o k (column boundaries j j)) h.is ∙ rows_more boundaries output₀ j k h.place
+          e ∙ ap (λ o. sets o (5 * k) (column boundaries j j)) h.is ∙ rows_more boundaries output₀ j (5 * k) (ap (λ m. 5 * m) c ∙ sym (rows-length boundaries j))
           ∙ ap (λ m. sets output₀ 0 (separation_rows boundaries m)) next;
       long = s ∙ h.long;
     }
@@ -117,10 +115,7 @@ rows-go_on {boundaries} {output₀} {output} {output'} {n} {j} {k} h l e s =
     next : suc j ≡ j + 1
     next = omega arith
 
-    more : length (separation_rows boundaries (suc j)) ≡ length (separation_rows boundaries j) + length (column boundaries j j)
-    more = unfold separation_rows in length-append (separation_rows boundaries j) (column boundaries j j)
-
-pub rows_end : {boundaries output₀ output : List ℕ} {n j k : ℕ} → RowsFilled boundaries output₀ n output j k → n ≤ j → output ≡ sets output₀ 0 (separation_rows boundaries n)
-rows_end {boundaries} {output₀} {output} {n} {j} {k} h l =
+pub rows_end : {boundaries output₀ output : List ℕ} {n j : ℕ} → RowsFilled boundaries output₀ n output j → n ≤ j → output ≡ sets output₀ 0 (separation_rows boundaries n)
+rows_end {boundaries} {output₀} {output} {n} {j} h l =
     let e : j ≡ n = le_antisymm h.upto l in
     h.is ∙ ap (λ m. sets output₀ 0 (separation_rows boundaries m)) e

@@ -24,6 +24,7 @@ pub record ColumnFits (boundaries output : List ℕ) (k j : ℕ) : Type 0 where
 pub record RowsFit (boundaries output : List ℕ) (n : ℕ) : Type 0 where
   pub pixels : OnPixels boundaries
   pub listed : n ≤ boundary_count boundaries
+  pub few : n ≤ max_entries
   pub room : length (separation_rows boundaries n) ≤ length output
 
 -- no fewer than the pairs of 256 boundaries

@@ -68,11 +68,8 @@ fn put_rows(boundaries: &[u64], output: &mut [u64], n: usize)
     requires { RowsFit boundaries.now output.old n }
     ensures { output.new ≡ sets output.old 0 (separation_rows boundaries.now n) }
 {
-    let mut k = 0;
-    // Kept: where the rows of j begin, `pair_count(j)` would give too, by a product at each turn in place of a sum.
     for j in 0..n {
-        put_column(boundaries, output, k, j);
-        k += j * NUMBERS_PER_SEPARATION;
+        put_column(boundaries, output, NUMBERS_PER_SEPARATION * pair_count(j), j);
     }
 }
 

@@ -6,7 +6,7 @@ use Rattle.separations.specs.Listing.{boundary_count, separation_rows, list_verd
 use Rattle.separations.specs.ListingLaws.{rows-length, listed-pixel, listed-room}
 use Rattle.refusals.proofs.Steps.{positive}
 use Rattle.refusals.specs.Answers.{answer_of}
-use Rattle.separation_list.proofs.Answering.{at_success, at_refusal}
+use Rattle.separation_list.proofs.Answering.{few_entries, at_success, at_refusal}
 use Rattle.separation_list.proofs.list_separations.Goals as goal
 
 -- where there is a count of rows, they have room
@@ -30,6 +30,7 @@ put_rows-requires c =
     record {
       pixels = record { ends = listed-pixel a.width a.height a.boundaries.now (length a.output.now) success };
       listed = le_refl _;
+      few = few_entries a.width a.height a.boundaries.now (length a.output.now) success;
       room = rows_fit a.width a.height a.boundaries.now a.output.now success;
     }
 
