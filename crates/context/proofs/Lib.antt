@@ -13,3 +13,4 @@ pub mod RunCounting
 pub mod RunLaws
 pub mod ShownLaws
 pub mod RowChains
+mod Chunks

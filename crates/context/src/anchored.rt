@@ -5,15 +5,13 @@ ghost use Rattle.context.specs.Anchors.{anchor_cell, anchor_cells, mark_label, m
 
 use definitions::limits::NUMBERS_PER_ANCHOR;
 
-// The number of anchor i's cell.
-fn anchor_cell(width: usize, anchors: &[u64], i: usize) -> usize
-    requires sizes { (width ≤ max_side) × (numbers_per_anchor * i + 1 < length anchors.now) }
-    requires places { (get_or anchors.now (numbers_per_anchor * i) 0 < max_side) × (get_or anchors.now (numbers_per_anchor * i + 1) 0 < max_side) }
-    ensures { result ≡ anchor_cell width anchors.now i }
+// The number of an anchor's cell.
+fn anchor_cell(width: usize, anchor: [u64; NUMBERS_PER_ANCHOR]) -> usize
+    requires { (width ≤ max_side) × (get_or anchor 0 0 < max_side) × (get_or anchor 1 0 < max_side) }
+    ensures { result ≡ get_or anchor 1 0 * width + get_or anchor 0 0 }
 {
-    let x = anchors[NUMBERS_PER_ANCHOR * i] as usize;
-    let y = anchors[NUMBERS_PER_ANCHOR * i + 1] as usize;
-    y * width + x
+    let [x, y] = anchor;
+    y as usize * width + x as usize
 }
 
 // Marks a region; label 0, of a cell that is not walkable, is no region's.
@@ -31,10 +29,8 @@ pub fn mark_anchored(width: usize, labels: &[u32], anchors: &[u64], marks: &mut 
     ensures { marks.new ≡ mark_cells labels.now marks.old
         (anchor_cells width anchors.now (length anchors.now / numbers_per_anchor)) }
 {
-    let count = anchors.len() / NUMBERS_PER_ANCHOR;
-    // Kept: `anchor_cell` takes the list and a number, as the definition of that name does.
-    for i in 0..count {
-        let cell = anchor_cell(width, anchors, i);
+    for anchor in anchors.as_chunks::<NUMBERS_PER_ANCHOR>().0 {
+        let cell = anchor_cell(width, *anchor);
         mark_label(&mut *marks, labels[cell] as usize);
     }
 }

@@ -3,5 +3,5 @@ use mathlib.Core.Path.{◌≡◌}
 use Rattle.context.specs.Anchors.{anchor_cells, mark_cells}
 use Rattle.context.proofs.anchored.mark_anchored.Given as goal
 
-abbrev pub invariant-loop-i : goal.invariant-loop-i
-invariant-loop-i l = l.marks ≡ mark_cells l.labels l.initial.marks (anchor_cells l.width l.anchors l.i)
+abbrev pub invariant-loop-anchor : goal.invariant-loop-anchor
+invariant-loop-anchor l = l.marks ≡ mark_cells l.labels l.initial.marks (anchor_cells l.width l.anchors l.anchor-index)
