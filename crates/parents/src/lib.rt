@@ -16,7 +16,7 @@ pub fn find(parents: &mut [u32], from: usize) -> usize
 {
     let mut c = from;
     let mut p = parents[c] as usize;
-    // Kept: `iter::successors` could give the way from a number to its parent only in a list that no turn writes.
+    // Kept: `iter::successors` would hold the list in which each turn writes.
     while p != c {
         let q = parents[p];
         parents[c] = q;
