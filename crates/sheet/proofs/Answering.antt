@@ -4,7 +4,7 @@ use mathlib.Core.Path.{◌≡◌, refl, sym, ap, subst, ◌∙◌}
 use native.Mathlib.Omega.{arith}
 use mathlib.Core.Bool.{Bool, true, false, ◌&&◌, cond}
 use mathlib.Core.List.{List}
-use lib.ListN.{length, drop, length-append, get_or-append}
+use lib.ListN.{length, drop, get_or-append}
 use lib.Dec.{leb}
 use borrow.Author.Tests.{leb-true}
 use Rattle.definitions.specs.Limits.{numbers_per_span, numbers_per_boundary, numbers_per_anchor}
@@ -43,10 +43,6 @@ room-known {parts} {n} {stated} {cells} {spans} {boundaries} {anchors} e h =
     }
 
 -- ---- the spans
-
--- a list is as long as what is stored in it
-pub stored-long : {stored : List ℕ} (l old : List ℕ) → stored ≡ overwrite l old → length l ≤ length stored
-stored-long l old e = omega (arith, ap length e, length-append l (drop (length l) old))
 
 -- what is stored of the boundaries, read as spans, is what the sheet states
 pub spans-stored : (own : Bool) (bytes : List ℕ) (spans boundaries : Part) (lent : List ℕ) → Held number bytes boundaries.first boundaries.count

@@ -1,9 +1,8 @@
--- Endpoints of boundaries stored as spans: four stores, one behind the other, and one span more; and which spans are stored, by the kind. Assumes nothing.
+-- Endpoints of boundaries stored as spans: four stores, one behind the other, and one span more. Assumes nothing.
 use Prim.Native.Nat.{ℕ, ◌+◌, ◌-◌, ◌*◌, ◌≤◌, ◌<◌}
 use native.Mathlib.Omega.{arith}
 use native.Mathlib.Numerals.{add-one}
-use mathlib.Core.Path.{◌≡◌, sym, ap, subst, ◌∙◌}
-use mathlib.Core.Bool.{Bool, true, false, cond}
+use mathlib.Core.Path.{◌≡◌, sym, ap, ◌∙◌}
 use mathlib.Core.List.{List, ◌∷◌}
 use lib.ListN.{length, take, drop, get_or}
 use lib.Seq.{sets, drop-cons}
@@ -35,19 +34,3 @@ endpoints-stored i boundaries old h =
     ap (λ n. sets (overwrite before old) n span) (sym long)
     ∙ overwrite_more before span old (omega arith)
     ∙ ap (λ l. overwrite l old) (sym (endpoints_more i boundaries))
-
--- ---- by the kind
-
-module _ {A : Type 0} {own : Bool} (t : Bool) (mine other : A) (e : t ≡ own) where
-  pub of_own : t ≡ true → cond own mine other ≡ mine
-  of_own h = ap (λ t. cond t mine other) (sym e ∙ h)
-
-  pub of_shared : t ≡ false → cond own mine other ≡ other
-  of_shared h = ap (λ t. cond t mine other) (sym e ∙ h)
-
-module _ {own : Bool} (t : Bool) (mine other : ℕ) {room : ℕ} (e : t ≡ own) (h : cond own mine other ≤ room) where
-  pub own-fit : t ≡ true → mine ≤ room
-  own-fit k = subst (λ n. n ≤ room) (of_own t mine other e k) h
-
-  pub other-fit : t ≡ false → other ≤ room
-  other-fit k = subst (λ n. n ≤ room) (of_shared t mine other e k) h

@@ -24,11 +24,6 @@ pub record Judging (item : Reader ℕ) (bytes : List ℕ) (at count next i : ℕ
   pub same : (answer : Result ℕ Refusal) → Told bytes (items_at item bytes next (count - i)) answer → Told bytes (items_at item bytes at count) answer
 
 module _ {item : Reader ℕ} {bytes : List ℕ} {at : ℕ} where
-  pub judging_starts : {count : ℕ} → at ≤ length bytes → Judging item bytes at count at 0
-  judging_starts {count} h =
-      let e : count - 0 ≡ count = omega arith in
-      record { few = omega arith; inside = h; same = λ answer k. rw e at k }
-
   module _ {count next i : ℕ} (J : Judging item bytes at count next i) where
     -- nothing is left
     pub judging_ends : count ≤ i → Told bytes (items_at item bytes at count) (Ok next)

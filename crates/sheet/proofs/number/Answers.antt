@@ -1,6 +1,6 @@
 -- `sheet::number` meets its contract. The loop's invariant: the groups read so far have the value so far, below 2 ^ (7 * group), and reading on from here
 -- gives what the number is. Assumes nothing.
-use Prim.Native.Nat.{◌+◌, ◌-◌}
+use Prim.Native.Nat.{◌+◌}
 use mathlib.Core.Path.{◌≡◌, sym, ◌∙◌}
 use native.Mathlib.Omega.{arith}
 use Rattle.sheet.proofs.Groups.{behind-inside, behind-ends, behind-byte, start, early-end, bad, fits, last, more, scale-fits}

@@ -1,5 +1,5 @@
 -- `sheet::opening` meets its contract: the kind is 1 or 3 and the pass follows, or the first of the two that is not so is the fault. Assumes nothing.
-use Rattle.std.proofs.Common.{rules, sym, ◌∙◌}
+use Rattle.std.proofs.Common.{rules}
 use Rattle.laws.specs.SheetReading.SheetLaws.{keeps-number, ends-inside}
 use Rattle.sheet.proofs.Items.{as_number}
 use Rattle.sheet.proofs.Passed.{passed}

