@@ -2,11 +2,9 @@
 use Prim.Native.Nat.{ℕ, zero, suc, ◌-◌, ◌<◌}
 use native.Mathlib.Omega.{arith}
 use mathlib.Core.Path.{◌≡◌, sym, ap}
-use mathlib.Core.Bool.{◌&&◌}
 use mathlib.Core.List.{List}
-use lib.Dec.{eqb, ltb, leb}
+use lib.Dec.{ltb}
 use Rattle.catalogue.specs.Accession.{accession_at, own_ascends}
-use Rattle.catalogue.specs.AccessionLaws.Chain.{follows}
 
 module _ (l : List ℕ) where
   pub ascends_first : (i : ℕ) → i ≡ 0 → ltb 0 (accession_at l 0).own ≡ own_ascends l i

@@ -2,7 +2,6 @@
 -- records each entry then shows the last that is of its map and of the day or earlier (`Showing`). Assumes nothing.
 use Prim.Native.Nat.{ℕ, zero, suc, ◌+◌, ◌-◌, ◌*◌, ◌≤◌, ◌<◌}
 use native.Mathlib.Omega.{arith}
-use native.Mathlib.Nat.{le_antisymm}
 use native.Mathlib.Numerals.{add-one}
 use mathlib.Core.Path.{◌≡◌, refl, sym, ap, ap₂, subst, ◌∙◌}
 use mathlib.Core.Bool.{Bool, true, false, ◌&&◌, cond, false≢true}
@@ -16,7 +15,7 @@ use Rattle.definitions.specs.Scan.{concat_map}
 use Rattle.catalogue.specs.Accession.{Accession, accession_at, accession_count}
 use Rattle.catalogue.specs.Pool.{entry_of, newest, entries_of}
 use Rattle.catalogue.specs.PoolLaws.{Rising}
-use Rattle.pool_entries.specs.Steps.{entries_by, blank, Behind, Found, Shown, RecordsShown}
+use Rattle.pool_entries.specs.Steps.{entries_by, blank, Behind, Found, Shown}
 use Rattle.pool_entries.proofs.Spreading.{entries-length}
 
 -- ---- entries, one by one
