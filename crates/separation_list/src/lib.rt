@@ -69,7 +69,12 @@ fn put_rows(boundaries: &[u64], output: &mut [u64], n: usize)
     ensures { output.new ≡ sets output.old 0 (separation_rows boundaries.now n) }
 {
     for j in 0..n {
-        put_column(boundaries, output, NUMBERS_PER_SEPARATION * pair_count(j), j);
+        put_column(
+            boundaries,
+            output,
+            NUMBERS_PER_SEPARATION * pair_count(j),
+            j,
+        );
     }
 }
 
