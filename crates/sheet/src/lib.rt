@@ -172,6 +172,7 @@ pub fn fill_numbers(bytes: &[u8], at: usize, count: usize, out: &mut [u64])
     ensures { out.new ≡ overwrite (values_at grammar.number bytes.now at count) out.old }
 {
     let mut next = at;
+    // Kept: i is also the place from which `fill_rest` goes on.
     for i in 0..count {
         let Some(read) = short_at(bytes, next) else {
             fill_rest(bytes, next, &mut out[i..count]);
@@ -475,6 +476,7 @@ pub fn fill_endpoints(boundaries: &[u64], count: usize, spans: &mut [u64])
     requires { (9 * count ≤ length boundaries.now) × (4 * count ≤ length spans.old) }
     ensures { spans.new ≡ overwrite (endpoints_in count boundaries.now) spans.old }
 {
+    // Kept: both lists may have more behind these, so that their chunks, zipped, would be cut off by a third adapter.
     for i in 0..count {
         put_endpoints(boundaries, i, &mut *spans);
     }
