@@ -82,7 +82,9 @@ fn last_edge(owners: &[FoundRegions; 256], count: usize, name: u32) -> Option<us
     requires { count ≤ max_entries }
     ensures { LastEdge owners.now count name result }
 {
-    (0..count).rev().find(|&j| owners[j] == FoundRegions::One(name))
+    (0..count)
+        .rev()
+        .find(|&j| owners[j] == FoundRegions::One(name))
 }
 
 // What stands at boundary i, if ports were found. It is the first edge, and each region of the interior stands in a row of an edge or of a port.
