@@ -1,5 +1,5 @@
-// The first part of the call that runs a pass, over plain lists: the checks in the order of the table of SPECIFICATION 4, labels, tallies and pairs. Of records and output
-// only the lengths matter here.
+// The first part of the call that runs a pass, over plain lists: the checks in the order of the table of SPECIFICATION 4, labels, tallies and pairs. Of records
+// and output only the lengths matter here.
 
 #![tactic(auto)]
 
@@ -31,8 +31,8 @@ pub struct Ready {
     pub rows: usize,
 }
 
-// Labels, tallies and pairs of lists that no check before 11 refuses. Where there are more regions than records, the answer is refusal 11; where there are more pairs
-// than rows, 12. Otherwise the queue is left with the stretches, from the first cell on.
+// Labels, tallies and pairs of lists that no check before 11 refuses. Where there are more regions than records, the answer is refusal 11; where there are more
+// pairs than rows, 12. Otherwise the queue is left with the stretches, from the first cell on.
 pub fn divide(
     grid: TerrainGrid,
     spans: &[u64],

@@ -1,4 +1,4 @@
-// Two desks over one partition (document 02, request 9), over plain lists: a desk's own checks, and what comes before the records that both share.
+// Two desks over one partition (SPECIFICATION 19.13), over plain lists: a desk's own checks, and what comes before the records that both share.
 
 #![tactic(auto)]
 

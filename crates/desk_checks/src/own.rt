@@ -40,7 +40,7 @@ fn lies_on(spans: &[u64], boundaries: &[u64], i: usize) -> bool
         )
 }
 
-// 20: "if a desk's boundary is not its shared span up to endpoint order, or one of them is missing"
+// 20: a boundary of the desk is not its shared span up to the order of endpoints, or one of the two is missing.
 pub fn desk_fault(spans: &[u64], boundaries: &[u64]) -> Option<usize>
     ensures { result ≡ desk_fault spans.now boundaries.now }
 {

@@ -1,4 +1,5 @@
-// What comes before the records that both desks share: the checks of the shared lists, labels, tallies and pairs. The boundaries and anchors of neither desk are looked at.
+// What comes before the records that both desks share: the checks of the shared lists, labels, tallies and pairs. The boundaries and anchors of neither desk
+// are looked at.
 ghost use Rattle.areas.specs.Lists.{of_lists, SameLists};
 ghost use Rattle.desk_checks.specs.Shared.{SharedAs};
 

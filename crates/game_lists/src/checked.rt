@@ -12,11 +12,9 @@ use call_partition::asked::Asked;
 use call_partition::checked::{check_lists, check_sizes};
 use call_partition::{Ready, divide};
 use checks::passes::Pass;
+use game_solver::VERDICTS_ROOM;
 use refusals::{Cause, Refusal, ensure, no_fault};
 use rest_lists::lists::lists_fault;
-
-// Room for the verdicts of the largest graph.
-const VERDICTS_ROOM: usize = 6144;
 
 // Of the lists that are filled, only the lengths matter. The pass of the number that is asked for is given.
 pub fn game_checks(

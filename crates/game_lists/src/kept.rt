@@ -9,11 +9,11 @@ use areas::lists::PartitionLists;
 use areas::scratch::clear_assessed;
 use boundary_blocks::blocks::{copy_block, keep_blocks};
 use call_partition::{Ready, divide};
-use definitions::limits::{NUMBERS_PER_PAIR, NUMBERS_PER_SPAN, TALLIES_PER_SPAN};
+use definitions::limits::{MAX_ENTRIES, NUMBERS_PER_PAIR, NUMBERS_PER_SPAN, TALLIES_PER_SPAN};
 use grid_steps::grid::TerrainGrid;
 
-// 256 spans.
-const SPANS_LONG: usize = 1024;
+// As many numbers as the spans of a call at most are.
+const SPANS_LONG: usize = NUMBERS_PER_SPAN * MAX_ENTRIES;
 
 // The spans that are not removed, in list order, and how many there are.
 fn kept_spans(spans: &[u64], removed: &[bool; 256], kept: &mut [u64]) -> usize
@@ -27,8 +27,8 @@ fn kept_spans(spans: &[u64], removed: &[bool; 256], kept: &mut [u64]) -> usize
     keep_blocks(kept, NUMBERS_PER_SPAN, removed, lent / NUMBERS_PER_SPAN)
 }
 
-// Labels, tallies and pairs of the kept graph, in the lists of the first partition, which has `rows` rows of pairs; beyond them, as far as the first filled, zero. It
-// is not refused: there are no more regions and pairs than in the first.
+// Labels, tallies and pairs of the kept graph, in the lists of the first partition, which has `rows` rows of pairs; beyond them, as far as the first filled,
+// zero. It is not refused: there are no more regions and pairs than in the first.
 pub fn divide_kept(
     grid: TerrainGrid,
     spans: &[u64],

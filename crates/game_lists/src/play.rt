@@ -7,10 +7,9 @@ ghost use Rattle.refusals.specs.Refusals.{refusal_in};
 ghost use Rattle.game.specs.Graph.{graph_of, edges_in, verdicts_room, graph_fault, goal_fault, verdicts_at_exit};
 ghost use Rattle.game_lists.specs.Forms.{answer_in, game_answer_of, late_answer};
 
+use game_sets::board::MAX_REGIONS;
 use game_solver::solve_rows;
 use refusals::{Cause, Refusal, ensure};
-
-const MAX_REGIONS: usize = 32;
 
 // How many rows are kept, and the regions of the kept graph.
 #[derive(Clone, Copy)]
@@ -28,6 +27,7 @@ pub struct GameAnswer {
     pub regions: u64,
 }
 
+// Kept: C has a struct of its own for each of these calls, so that three structs are converted to.
 impl From<Result<GameKept, Refusal>> for GameAnswer {
     ghost from_gives = { λ given answer. answer_in answer ≡ game_answer_of given };
 

@@ -14,7 +14,8 @@ use context::anchored::mark_anchored;
 use context::pairs::{Pair, pair_starts};
 use rows::canonical_output;
 
-// A partitioned map as a pass is given it. The boundaries and anchors are as lent: `needed` cells in rows of `width`, `count` spans, and of these `rows` rows of pairs.
+// A partitioned map as a pass is given it. The boundaries and anchors are as lent: `needed` cells in rows of `width`, `count` spans, and of these `rows` rows
+// of pairs.
 #[derive(Clone, Copy)]
 pub struct SpanPartition<'a> {
     pub width: usize,
@@ -29,8 +30,8 @@ pub struct SpanPartition<'a> {
     pub pairs: &'a [u32],
 }
 
-// What a pass reads of a partitioned map: where the rows of each span's pairs begin, the full pair of each boundary, which regions are anchored (in masks) and how
-// many incidents each has (in the queue).
+// What a pass reads of a partitioned map: where the rows of each span's pairs begin, the full pair of each boundary, which regions are anchored (in masks) and
+// how many incidents each has (in the queue).
 pub fn view(
     partition: SpanPartition,
     masks: &mut [u16],

@@ -1,5 +1,5 @@
-// The end of the call that gives the ranked junction list, over plain lists: 21, or the rows kept and the list, once the proposals are counted and listed apart from
-// what was lent.
+// The end of the call that gives the ranked junction list, over plain lists: 21, or the rows kept and the list, once the proposals are counted and listed apart
+// from what was lent.
 
 #![tactic(auto)]
 
@@ -30,6 +30,7 @@ pub struct RankedAnswer {
     pub proposals: u64,
 }
 
+// Kept: C has a struct of its own for each of these calls, so that three structs are converted to.
 impl From<Result<RankedKept, Refusal>> for RankedAnswer {
     ghost from_gives = { λ given answer. ranked_form answer ≡ ranked_of given };
 
@@ -57,8 +58,8 @@ fn put_listed(listed: &[u32], lent: &mut [u32])
     lent[..listed.len()].copy_from_slice(listed);
 }
 
-// The list holds the rows of n proposals. Where the lent one has room for them, they are written there, the rows of the `count` boundaries that are not removed go
-// into the output, and masks and queue are cleared. Where it has not, 21: the lent list is zero, and so are masks and queue over the needed length.
+// The list holds the rows of n proposals. Where the lent one has room for them, they are written there, the rows of the `count` boundaries that are not removed
+// go into the output, and masks and queue are cleared. Where it has not, 21: the lent list is zero, and so are masks and queue over the needed length.
 pub fn finish_ranked(
     needed: usize,
     count: usize,

@@ -41,7 +41,7 @@ use Rattle.game_calls.specs.SecondPartition.{second-fewer, second-records}
 use Rattle.grid_steps.specs.declared.grid.TerrainGrid.{TerrainGrid}
 use Rattle.call_partition.specs.declared.Ready.{Ready}
 use Rattle.game_lists.specs.Kept.{Source, lent_of, Divides, DividedKept}
-use Rattle.topology.specs.declared.games.Second.{Second}
+use Rattle.rest_lists.specs.declared.kept.Standing.{Standing}
 use Rattle.topology.specs.Filled.{Fills, Filled, Renewed}
 use Rattle.topology.specs.Marks.{Lent, MarkedFor}
 use Rattle.topology.specs.Games.{Begun, RunsKept, RanKept}
@@ -187,7 +187,7 @@ module _ {B : Begun} {pass w h : ℕ} {cells spans boundaries anchors : List ℕ
 
         pub ran-kept_graph : {s₂ : List Region} {m₄ q₄ o₄ : List ℕ} {n : ℕ} → Renewed K regions s₁ s₂
             → Finished (h * w) (length boundaries / numbers_per_boundary) boundaries removed m₃ q₃ o m₄ q₄ o₄ n
-            → {r : Second} → r.kept ≡ n → r.regions ≡ g.regions → r.rows ≡ g.rows
+            → {r : Standing} → r.kept ≡ n → r.regions ≡ g.regions → r.rows ≡ g.rows
             → RanKept B pass (lends w h cells spans boundaries anchors l m q t p s o) r (leaves l₃ m₄ q₄ t₃ p₃ s₂ o₄)
         unfolding map_in
         ran-kept_graph {s₂} E Fin same_kept same_regions same_rows =

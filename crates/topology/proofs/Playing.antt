@@ -29,7 +29,7 @@ use Rattle.game_lists.specs.Forms.{late_answer}
 use Rattle.game_lists.specs.Prepared.{GameReady, GamePreparedAs}
 use Rattle.game_lists.proofs.Answering.{late_complete, played_complete}
 use Rattle.game_lists.proofs.Ready.{ready-early, kept-edges}
-use Rattle.topology.specs.declared.games.Second.{Second}
+use Rattle.rest_lists.specs.declared.kept.Standing.{Standing}
 use Rattle.topology.specs.Games.{Begun, RunsKept, RanKept, written_at, PlayedOver}
 use Rattle.topology.specs.Lent.{LentLists, LeftLists, lends, leaves}
 
@@ -73,7 +73,7 @@ module _ {pass w h : ℕ} {cells spans boundaries anchors : List ℕ} {room outp
         (subst (λ k. GameReady pass w h cells spans boundaries anchors room k verdicts l m q t p regions rows l' m' q' t' p') (sym wide) G) in
         record { ready = ready; labels_long = longL; masks_long = longM; queue_long_lem = longQ; tallies_long = longT; pairs_long = longP }
 
-    module _ {s : List Region} {o : List ℕ} {r : Second} {l₂ m₂ q₂ t₂ p₂ : List ℕ} {s₂ : List Region} {o₂ : List ℕ}
+    module _ {s : List Region} {o : List ℕ} {r : Standing} {l₂ m₂ q₂ t₂ p₂ : List ℕ} {s₂ : List Region} {o₂ : List ℕ}
         (R : RanKept (begun verdicts l m q t p) pass (lends w h cells spans boundaries anchors l' m' q' t' p' s o) r (leaves l₂ m₂ q₂ t₂ p₂ s₂ o₂)) where
       -- what `play` asks
       pub rows_fit : 3 * r.rows ≤ length p₂

@@ -16,7 +16,7 @@ use Rattle.game_calls.specs.KeptGraph.{graph_map}
 use Rattle.game_calls.specs.GameVerdict.{GameAnswer}
 use Rattle.game_calls.specs.GameExit.{game_stage, Played}
 use Rattle.game_lists.specs.Prepared.{GameReady}
-use Rattle.topology.specs.declared.games.Second.{Second}
+use Rattle.rest_lists.specs.declared.kept.Standing.{Standing}
 use Rattle.topology.specs.Lent.{LentLists, LeftLists, lent_map, lent_call}
 
 -- ---- the call
@@ -58,7 +58,7 @@ pub record RunsKept (B : Begun) (pass : ℕ) (L : LentLists) (regions rows : ℕ
   pub pairs_long : length L.pairs ≡ length B.pairs
 
 -- records and output are filled, and the other lists are those of the second partition
-pub record RanKept (B : Begun) (pass : ℕ) (L : LentLists) (r : Second) (E : LeftLists) : Type 0 where
+pub record RanKept (B : Begun) (pass : ℕ) (L : LentLists) (r : Standing) (E : LeftLists) : Type 0 where
   pub kept : r.kept ≡ length (rows_of pass (lent_map L))
   pub regions : r.regions ≡ region_count (graph_map pass (lent_map L))
   pub rows : numbers_per_pair * r.rows ≡ length (pair_rows_of (context_of (graph_map pass (lent_map L))))

@@ -1,4 +1,4 @@
-// The call that plays on the kept graph of a map (document 02, request 14): a pass, the partition by what it keeps, and the game.
+// The call that plays on the kept graph of a map: a pass, the partition by what it keeps, and the game.
 ghost use Rattle.checks.specs.Passes.{pass_number};
 ghost use Rattle.game_lists.specs.Forms.{game_answer_of};
 ghost use Rattle.areas.specs.Lists.{of_lists, SameLists};
@@ -19,16 +19,10 @@ use game_lists::kept::divide_kept;
 use game_lists::play::{GameKept, play};
 use pass_lists::finish;
 use refusals::Refusal;
+use rest_lists::kept::Standing;
 
-// How many rows are kept, and the regions and rows of pairs of the kept graph.
-#[derive(Clone, Copy)]
-pub struct Second {
-    pub kept: usize,
-    pub regions: usize,
-    pub rows: usize,
-}
-
-// Behind the first partition: runs the pass, partitions again by what it keeps, and writes the rows.
+// Behind the first partition: runs the pass, partitions again by what it keeps, and writes the rows. Gives how many rows are kept, and the regions and rows of
+// pairs of the kept graph.
 pub fn run_kept(
     pass: Pass,
     asked: Asked,
@@ -36,7 +30,7 @@ pub fn run_kept(
     lists: &mut PartitionLists,
     records: &mut [Region],
     output: &mut [u64],
-) -> Second
+) -> Standing
     requires { (B : Begun) × RunsKept B (pass_number pass) (of_lists (of_asked lends asked) lists.old records.old output.old) ready.regions ready.rows }
     ensures kept { (B : Begun)
         → RunsKept B (pass_number pass) (of_lists (of_asked lends asked.entry) lists.old records.old output.old) ready.regions ready.rows
@@ -84,7 +78,7 @@ pub fn run_kept(
         queue,
         output,
     );
-    Second {
+    Standing {
         kept,
         regions: graph.regions,
         rows: graph.rows,

@@ -6,7 +6,6 @@ ghost use Rattle.interior_regions.specs.Places.{interior_fits_lem};
 ghost use Rattle.topology.specs.Interiors.{Asks, Judges, Collapses, Collapsed};
 ghost use Rattle.topology.specs.Proposals.{Unmarked};
 
-use crate::slice::record_at;
 use context::found_regions::FoundRegions;
 use context::{PartitionContext, Region};
 use interior_proposals::fits::{reach_of, region_fits};
@@ -36,7 +35,7 @@ pub fn interior_fits(
         if !is_inside(context.pairs, names, interior.name, k) {
             continue;
         }
-        let region = record_at(records, record_place(context.pairs, k));
+        let region = records[record_place(context.pairs, k)];
         fits = fits & region_fits(reach, region);
         ramp = ramp | (0 < region.ramp_cells);
     }

@@ -2,12 +2,9 @@
 ghost use Rattle.std.specs.Prelude.{◌≡◌, ◌≤◌, length};
 ghost use Rattle.definitions.specs.Context.{Context};
 ghost use Rattle.junction_proposals.specs.Rows.{max_proposals};
-ghost use Rattle.topology.specs.Proposals.{Allows, Allowed, Passes, PassesIn, Proposed, Unmarked, Removes};
+ghost use Rattle.topology.specs.Proposals.{Allows, Allowed, PassesIn, Proposed, Unmarked, Removes};
 
-use crate::entries::put_allowed;
-use crate::slice::record_at;
 use context::Region;
-use context::pairs::Pair;
 use junction_proposals::lists::JunctionLists;
 use junction_proposals::proposals::{Candidate, Kind, MAX_PROPOSALS, find_proposals};
 use junction_regions::{first_place, is_allowed, second_place};
@@ -38,10 +35,9 @@ pub fn allow_proposals(
         Allowed C rows.now n allowed.new }
 {
     for (k, &row) in rows[..n].iter().enumerate() {
-        let first = record_at(records, first_place(row));
-        let second = record_at(records, second_place(row));
-        let fits = is_allowed(boundaries, marks, row, first, second);
-        put_allowed(allowed, k, fits);
+        let first = records[first_place(row)];
+        let second = records[second_place(row)];
+        allowed[k] = is_allowed(boundaries, marks, row, first, second);
     }
 }
 
@@ -90,29 +86,14 @@ pub fn select_junctions(
 // Pass 3: marks the boundaries that it removes. No boundary is marked before.
 pub fn remove_junction_boundaries(
     records: &[Region],
-    regions: usize,
-    count: usize,
-    boundaries: &[u64],
-    full: &[Option<Pair>; 256],
-    counts: &[u32],
-    marks: &[u16],
+    lists: &JunctionLists,
     removed: &mut [bool; 256],
 )
-    requires lists_show { (C : Context) × Passes C records.now boundaries.now full.now counts.now marks.now count regions }
-    requires none_marked { Unmarked removed.old count }
-    ensures { (C : Context) →
-        Passes C records.now boundaries.now full.now counts.now marks.now count regions →
-        Removes C count removed.new }
+    requires lists_show { (C : Context) × PassesIn C records.now lists.now }
+    requires none_marked { Unmarked removed.old lists.now.count }
+    ensures { (C : Context) → PassesIn C records.now lists.now → Removes C lists.now.count removed.new }
 {
     let mut rows = [NO_ROW; MAX_PROPOSALS];
     let mut allowed = [false; MAX_PROPOSALS];
-    let lists = JunctionLists {
-        boundaries,
-        full,
-        counts,
-        marks,
-        count,
-        regions,
-    };
-    select_junctions(records, &lists, &mut rows, &mut allowed, removed);
+    select_junctions(records, lists, &mut rows, &mut allowed, removed);
 }

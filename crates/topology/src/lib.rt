@@ -1,8 +1,7 @@
-// The call that runs a pass. The modules hold the functions that see the lent slice of region records; all other work on records is done on them by value.
+// The call that runs a pass, and the calls that are made of its parts. Each module holds one pass, one call, or what several of them share.
 
 #![tactic(auto)]
 
-pub mod entries;
 pub mod games;
 pub mod interior_pass;
 pub mod junction_pass;
@@ -13,7 +12,6 @@ pub mod own_records;
 pub mod ranked;
 pub mod records;
 pub mod runs;
-pub mod slice;
 pub mod to_rest;
 pub mod two_desks;
 

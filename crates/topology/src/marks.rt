@@ -17,6 +17,7 @@ use checks::passes::Pass;
 use context::pairs::Pair;
 use context::{PartitionContext, Region};
 use definitions::limits::{NUMBERS_PER_BOUNDARY, NUMBERS_PER_SPAN};
+use junction_proposals::lists::JunctionLists;
 use pass_lists::{SpanPartition, view};
 
 // Marks the boundaries that the pass removes. Marks and counts, which show anchored regions and incidents, are its to work in.
@@ -43,34 +44,33 @@ pub fn removed_marks(
         Pass::CollapseRampInteriors => {
             collapse_ramp_interiors(records, regions, context, marks, counts, removed)
         }
-        Pass::RemoveJunctionBoundaries => remove_junction_boundaries(
-            records,
-            regions,
-            context.count,
-            context.boundaries,
-            full,
-            counts,
-            marks,
-            removed,
-        ),
+        Pass::RemoveJunctionBoundaries => {
+            let lists = JunctionLists {
+                boundaries: context.boundaries,
+                full,
+                counts,
+                marks,
+                count: context.count,
+                regions,
+            };
+            remove_junction_boundaries(records, &lists, removed)
+        }
     }
 }
 
-// Views the partitioned map and marks what the pass removes, where there are as many boundaries as spans. The pass is lent as much of masks and queue as there are
-// regions.
+// Views the partitioned map and gives the marks of what the pass removes: none, where there are not as many boundaries as spans. The pass is lent as much of
+// masks and queue as there are regions.
 pub fn mark_removed(
     pass: Pass,
     records: &[Region],
     partition: SpanPartition,
     masks: &mut [u16],
     queue: &mut [u32],
-    removed: &mut [bool; 256],
-)
-    requires map_shown { (M : Map) × LentAs M records.now partition (length masks.old) (length queue.old) }
-    requires none_marked { NoMarks removed.old }
+) -> [bool; 256]
+    requires { (M : Map) × LentAs M records.now partition (length masks.old) (length queue.old) }
     ensures { (M : Map) → LentAs M records.now partition.entry (length masks.old) (length queue.old)
         → MarkedFor (pass_number pass) M partition.entry.needed partition.entry.count partition.entry.boundaries.now
-        masks.old queue.old masks.new queue.new removed.old removed.new }
+        masks.old queue.old masks.new queue.new (replicate max_entries false) result }
 {
     let SpanPartition {
         regions,
@@ -80,8 +80,9 @@ pub fn mark_removed(
         pairs,
         ..
     } = partition;
+    let mut removed = [false; 256];
     if boundaries.len() / NUMBERS_PER_BOUNDARY != count {
-        return;
+        return removed;
     }
     let mut starts = [0usize; 257];
     let mut full: [Option<Pair>; 256] = [None; 256];
@@ -101,8 +102,9 @@ pub fn mark_removed(
         &full,
         &mut masks[..regions],
         &mut queue[..regions],
-        removed,
+        &mut removed,
     );
+    removed
 }
 
 // The marks of the boundaries that the pass removes of what a call is asked: labels, tallies and pairs are those of its partition.
@@ -136,7 +138,5 @@ pub(crate) fn mark_asked(
         tallies,
         pairs,
     };
-    let mut removed = [false; 256];
-    mark_removed(pass, records, partition, masks, queue, &mut removed);
-    removed
+    mark_removed(pass, records, partition, masks, queue)
 }

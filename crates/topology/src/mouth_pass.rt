@@ -11,7 +11,6 @@ ghost use Rattle.mouth_selection.specs.Held.{TakenState};
 ghost use Rattle.mouth_selection.specs.Selecting.{BestOf, Progress, is_stale};
 ghost use Rattle.topology.specs.Mouths.{near_at, BetterNear, NearBest, NoMarks, Replaced, PassLocates, PassEntryAsked, PassNearAsked, PassRampAsked, PassReplaces};
 
-use crate::slice::record_at;
 use context::{PartitionContext, Region};
 use mouth_proposals::candidates::{Candidate, MouthProposal, push_ramp};
 use mouth_proposals::regions::RegionMarks;
@@ -36,7 +35,7 @@ fn place_near(
 {
     match inner_region(context, proposal, k) {
         Some(r) => {
-            let region = record_at(records, r as usize - 1);
+            let region = records[r as usize - 1];
             region_near(region, context.boundaries, proposal)
         }
         None => true,
@@ -53,7 +52,8 @@ pub fn corners_near(records: &[Region], context: PartitionContext, proposal: Mou
     (0..places(context, proposal.mouth)).all(|k| place_near(records, context, proposal, k))
 }
 
-// The better one of `best` and an entry, if that conflicts with none taken and has its inner regions near. These are asked only where it ranks before the best so far.
+// The better one of `best` and an entry, if that conflicts with none taken and has its inner regions near. These are asked only where it ranks before the best
+// so far.
 fn better_near(
     records: &[Region],
     context: PartitionContext,
@@ -146,8 +146,8 @@ fn find_bests(
     }
 }
 
-// Pass 1: marks the boundaries that it removes. No boundary is marked before, and marks say no more than that a region is anchored. The best of each ramp is found
-// once, and again where it conflicts with one taken and is the least of the bests.
+// Pass 1: marks the boundaries that it removes. No boundary is marked before, and marks say no more than that a region is anchored. The best of each ramp is
+// found once, and again where it conflicts with one taken and is the least of the bests.
 pub fn replace_ramp_mouths(
     records: &[Region],
     context: PartitionContext,

@@ -20,14 +20,14 @@ const NAN_BITS: u64 = 0x7ff8_0000_0000_0000;
 fn bits_of(x: f64) -> u64
     ensures { result ≡ to_bits binary64 x }
 {
-    if x != x {
+    if x.is_nan() {
         return NAN_BITS;
     }
     f64::to_bits(x)
 }
 
 // Cells, the bits of the four edges, ramp cells, the mask, and the count of each elevation.
-fn numbers_of(r: Region) -> [u64; 11]
+fn numbers_of(r: Region) -> [u64; NUMBERS_PER_RECORD]
     ensures { result ≡ record_numbers (record_of r) }
 {
     let counts = r.elevation_counts;
@@ -56,11 +56,12 @@ fn put_numbers(numbers: &mut [u64], at: usize, r: Region)
 }
 
 // Writes the first records in numbers, as many as there is room for.
-pub fn put_records(records: [Region; RECORDS_HERE], first: usize, numbers: &mut [u64])
-    ensures { numbers.new ≡ with_records (map record_of (take first records)) numbers.old }
+pub fn put_records(records: &[Region], first: usize, numbers: &mut [u64])
+    ensures { numbers.new ≡ with_records (map record_of (take first records.now)) numbers.old }
 {
-    let lent = first.min(RECORDS_HERE);
+    let lent = first.min(records.len());
     let count = lent.min(numbers.len() / NUMBERS_PER_RECORD);
+    // Kept: of a list that `chunks_exact_mut` lends in parts a proof knows no element behind the loop.
     for i in 0..count {
         let r = records[i];
         put_numbers(numbers, NUMBERS_PER_RECORD * i, r);

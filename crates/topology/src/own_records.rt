@@ -37,6 +37,6 @@ pub fn kept_boundaries_here(
     let lent = room.min(RECORDS_HERE);
     let mut records: [Region; RECORDS_HERE] = empty_records();
     let answer = topology_kept_boundaries(pass, asked, lists, &mut records[..lent], output);
-    put_records(records, lent, numbers);
+    put_records(&records, lent, numbers);
     answer
 }

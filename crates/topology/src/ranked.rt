@@ -1,4 +1,4 @@
-// The call that gives the ranked junction list (document 02, request 11), over the lent slice of region records.
+// The call that gives the ranked junction list, over the lent slice of region records.
 ghost use Rattle.std.specs.Prelude.{◌*◌, ◌/◌, ◌≤◌, length};
 ghost use Rattle.definitions.specs.Limits.{numbers_per_span};
 ghost use Rattle.context.specs.Records.{max_cells};
@@ -30,7 +30,8 @@ use ranked_finish::{RankedKept, finish_ranked};
 use ranked_rows::{NUMBERS_PER_RANKED, list_ranked};
 use refusals::Refusal;
 
-// Pass 3 with its list: marks the boundaries that it removes, lists the proposals that reach the ranking, and gives how many there are. No boundary is marked before.
+// Pass 3 with its list: marks the boundaries that it removes, lists the proposals that reach the ranking, and gives how many there are. No boundary is marked
+// before.
 pub fn rank_junctions(
     records: &[Region],
     lists: &JunctionLists,
@@ -54,8 +55,8 @@ pub fn rank_junctions(
     list_ranked(&found, &allowed, listed)
 }
 
-// Views the partitioned map, marks what pass 3 removes and lists its proposals, where there are as many boundaries as spans; gives how many proposals there are. Labels,
-// tallies and pairs are those of the partition of what a call is asked.
+// Views the partitioned map, marks what pass 3 removes and lists its proposals, where there are as many boundaries as spans; gives how many proposals there
+// are. Labels, tallies and pairs are those of the partition of what a call is asked.
 pub fn mark_ranked(
     asked: Asked,
     ready: Ready,
@@ -108,8 +109,8 @@ pub fn mark_ranked(
     rank_junctions(records, &lists, removed, listed)
 }
 
-// The call of pass 3 with its list: how many rows are kept and proposals there are, or the refusal. Nothing is written to the lent list before the proposals are
-// counted.
+// The call of pass 3 with its list: how many rows are kept and proposals there are, or the refusal. Nothing is written to the lent list before the proposals
+// are counted.
 pub fn topology_ranked_junctions(
     asked: Asked,
     lists: &mut PartitionLists,

@@ -3,11 +3,11 @@ ghost use Rattle.std.specs.Prelude.{◌≤◌, length};
 ghost use Rattle.definitions.specs.Grid.{Map};
 ghost use Rattle.topology.specs.Filled.{Fills, Filled, Adds, Added, Emptied, Renewed};
 
-use crate::slice::{put_record, record_at};
 use context::Region;
 use stretches::{stretch_at, with_stretch};
 
 // Adds the cells of a stretch, those from `from` to before `end`, to the record of its region. Label 0 is of no region.
+// Kept: labels are C's list, where 0 is no region; an Option made of it by `stretch_at` would only be taken apart here.
 pub fn add_stretch(
     records: &mut [Region],
     width: usize,
@@ -23,9 +23,8 @@ pub fn add_stretch(
 {
     if label > 0 {
         let i = label - 1;
-        let region = record_at(records, i);
-        let more = with_stretch(region, width, cells, from, end);
-        put_record(records, i, more);
+        let region = records[i];
+        records[i] = with_stretch(region, width, cells, from, end);
     }
 }
 

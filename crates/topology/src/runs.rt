@@ -1,4 +1,4 @@
-// The call that runs a pass, made and added to a report (document 02, request 13).
+// The call that runs a pass, made and added to a report.
 ghost use Rattle.report_figures.specs.Forms.{report_form};
 ghost use Rattle.areas.specs.Lists.{of_lists, SameLists};
 ghost use Rattle.call_partition.specs.Asking.{of_asked};

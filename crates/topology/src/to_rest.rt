@@ -1,4 +1,4 @@
-// The call that runs the passes to rest (document 02, request 4), over the lent slice of region records.
+// The call that runs the passes to rest, over the lent slice of region records.
 ghost use Rattle.std.specs.Prelude.{◌≡◌, ◌≤◌, ◌*◌, List, ℕ, false, length, replicate, take};
 ghost use Rattle.definitions.specs.Limits.{max_entries};
 ghost use Rattle.definitions.specs.Grid.{Map};
@@ -44,6 +44,7 @@ pub struct RestAnswer {
     pub rounds: u64,
 }
 
+// Kept: C has a struct of its own for each of these calls, so that three structs are converted to.
 impl From<Result<RestKept, Refusal>> for RestAnswer {
     ghost from_gives = { λ given answer. rest_answer answer ≡ rest_answer_of given };
 
@@ -87,7 +88,6 @@ fn mark_kept(
         → MarkedFor (pass_number pass) M (grid.entry.height * grid.entry.width) standing.kept (take (9 * standing.kept) kept.now.boundaries)
         masks.old queue.old masks.new queue.new (replicate max_entries false) result }
 {
-    let mut removed = [false; 256];
     let partition = SpanPartition {
         width: grid.width,
         needed: grid.height * grid.width,
@@ -100,8 +100,7 @@ fn mark_kept(
         tallies,
         pairs,
     };
-    mark_removed(pass, records, partition, masks, queue, &mut removed);
-    removed
+    mark_removed(pass, records, partition, masks, queue)
 }
 
 // One pass over what is kept: what it does not mark moves to the front. Where it removes some, the partition and the records of what is left.

@@ -1,5 +1,5 @@
-// Two desks over one partition (SPECIFICATION 19.13): the terrain is partitioned once and its records are filled, then each desk has its own checks and its pass. A desk finds
-// the shared lists as they are on success, and leaves them so.
+// Two desks over one partition (SPECIFICATION 19.13): the terrain is partitioned once and its records are filled, then each desk has its own checks and its
+// pass. A desk finds the shared lists as they are on success, and leaves them so.
 ghost use Rattle.std.specs.Prelude.{◌≡◌};
 ghost use Rattle.refusals.specs.Answers.{answer_of};
 ghost use Rattle.areas.specs.Lists.{of_lists, SameLists};
@@ -81,7 +81,6 @@ pub fn run_desk(
     let pass = check_desk(width, height, spans, desk, output.len())?;
     let columns = width as usize;
     let needed = height as usize * columns;
-    let mut removed = [false; 256];
     let partition = SpanPartition {
         width: columns,
         needed,
@@ -94,7 +93,7 @@ pub fn run_desk(
         tallies: terrain.tallies,
         pairs: terrain.pairs,
     };
-    mark_removed(pass, terrain.records, partition, masks, queue, &mut removed);
+    let removed = mark_removed(pass, terrain.records, partition, masks, queue);
     let kept = finish(
         needed,
         desk.boundaries.len() / NUMBERS_PER_BOUNDARY,
@@ -107,9 +106,26 @@ pub fn run_desk(
     Ok(kept)
 }
 
-// Both desks, in the order told: the route desk goes first where `order` is 0, the coaching desk where it is any other number.
+// Which desk goes first.
+#[derive(Clone, Copy)]
+pub enum DeskOrder {
+    RouteFirst,
+    CoachingFirst,
+}
+
+// As C tells it: 0, or any other number.
+fn order_of(number: u64) -> DeskOrder {
+    if number == 0 {
+        DeskOrder::RouteFirst
+    } else {
+        DeskOrder::CoachingFirst
+    }
+}
+
+// Both desks, in the order told.
+// Kept: with a `SharedTerrain` that the caller makes, its proof no longer knew that the lists lent to the struct are as they were (`clause-same`).
 pub fn run_desks(
-    order: u64,
+    order: DeskOrder,
     width: u64,
     height: u64,
     spans: &[u64],
@@ -146,17 +162,22 @@ pub fn run_desks(
         pairs,
         records,
     };
-    if order == 0 {
-        let route = run_desk(route_desk, terrain, masks, queue, route_output);
-        let coaching = run_desk(coaching_desk, terrain, masks, queue, coaching_output);
-        return DesksKept { route, coaching };
+    match order {
+        DeskOrder::RouteFirst => {
+            let route = run_desk(route_desk, terrain, masks, queue, route_output);
+            let coaching = run_desk(coaching_desk, terrain, masks, queue, coaching_output);
+            DesksKept { route, coaching }
+        }
+        DeskOrder::CoachingFirst => {
+            let coaching = run_desk(coaching_desk, terrain, masks, queue, coaching_output);
+            let route = run_desk(route_desk, terrain, masks, queue, route_output);
+            DesksKept { route, coaching }
+        }
     }
-    let coaching = run_desk(coaching_desk, terrain, masks, queue, coaching_output);
-    let route = run_desk(route_desk, terrain, masks, queue, route_output);
-    DesksKept { route, coaching }
 }
 
-// The call for two desks. The records are filled from the queue before the desks work in it.
+// The call for two desks: the route desk goes first where `order` is 0, the coaching desk where it is any other number. The records are filled from the queue
+// before the desks work in it.
 pub fn topology_two_desks(
     order: u64,
     width: u64,
@@ -178,7 +199,7 @@ pub fn topology_two_desks(
     ensures same { SameLists lists.old lists.new }
 {
     match prepare_shared(width, height, cells, spans, records.len(), lists) {
-        // "a refusal over the shared lists comes first and goes to both"
+        // A refusal over the shared lists comes first and goes to both desks.
         Err(refusal) => DesksKept {
             route: Err(refusal),
             coaching: Err(refusal),
@@ -193,7 +214,7 @@ pub fn topology_two_desks(
             fill(records, ready.regions, columns, cells, &*labels, &*queue);
             clear_scratch(masks, queue, height as usize * columns);
             run_desks(
-                order,
+                order_of(order),
                 width,
                 height,
                 spans,

@@ -1,5 +1,5 @@
-// Replays stored cases of the call that runs a pass. Standard input is one case after the other: the numbers of an `Opening`, and a sheet, which gives the cells,
-// the spans, the boundaries and the anchors. Of each case it writes the answer and what the lists hold; the records as numbers, eleven each.
+// Replays stored cases of the call that runs a pass. Standard input is one case after the other: the numbers of an `Opening`, and a sheet, which gives the
+// cells, the spans, the boundaries and the anchors. Of each case it writes the answer and what the lists hold; the records as numbers, eleven each.
 
 #![tactic(auto)]
 

@@ -1,5 +1,5 @@
 -- The record at a place is that of the context's region there, so whether it fits, and whether it has a ramp, is what the definition asks of the region (`InteriorLoops`).
-use Rattle.std.proofs.Common.{◌≡◌, ℕ, ◌+◌, ◌-◌, ◌≤◌, ◌<◌, Bool, true, false, ◌&&◌, ◌||◌, List, get_or, ap, arith}
+use Rattle.std.proofs.Common.{◌≡◌, ℕ, ◌+◌, ◌-◌, ◌≤◌, ◌<◌, Bool, true, false, ◌&&◌, ◌||◌, List, length, get_or, ap, arith}
 use Rattle.definitions.specs.RegionRecord.{has_ramp}
 use Rattle.definitions.specs.Context.{Context}
 use Rattle.definitions.specs.RampInteriors.{region_fits}
@@ -11,7 +11,8 @@ use Rattle.interior_proposals.specs.declared.fits.Reach.{Reach}
 use Rattle.interior_proposals.specs.Fits.{Aimed}
 use Rattle.interior_regions.specs.declared.Interior.{Interior}
 use Rattle.interior_regions.specs.Places.{region_at, Readable, is_named, interior_fits_lem}
-use Rattle.topology.specs.Held.{record_is}
+use Rattle.rest.specs.Picking.{get_d_inside}
+use Rattle.topology.specs.Held.{place_in, record_is}
 use Rattle.topology.specs.Interiors.{Asks}
 use Rattle.topology.proofs.InteriorLoops.{Looking, looking_start, looking_past, looking_more, looking_ends}
 use Rattle.topology.proofs.interior_pass.interior_fits.Goals as goal
@@ -35,6 +36,9 @@ module _ {records : List Region} {boundaries pairs names : List ℕ} {x : Interi
         past h = (omega (arith, below), λ C A. looking_past C _ _ _ (inv.1 C A) e h)
 
         module _ (h : t ≡ true) {p : ℕ} (at : p ≡ region_at pairs k - 1) where
+          place : p < length records
+          place = let w = here pre.1 in place_in pre.1.held at w.from w.upto
+
           again : {reach : Reach}
               → ((C : Context) → ShownBoundaries C boundaries → x.ports.first < C.count → x.ports.second < C.count → Aimed C x.ports.first x.ports.second reach)
               → {s : Region} → ((d : Region) → s ≡ get_or records p d)
@@ -53,7 +57,8 @@ loop-k-init c = start c.requires
 
 pub loop-k-preserved : goal.loop-k-preserved
 loop-k-preserved c =
-    again c.requires c.loop-k.invariant c.loop-k-test.true c.is_inside.ensures c.if-not-is_inside.false c.record_place.ensures c.reach_of-reach.ensures c.record_at-region.ensures
+    again c.requires c.loop-k.invariant c.loop-k-test.true c.is_inside.ensures c.if-not-is_inside.false c.record_place.ensures c.reach_of-reach.ensures
+    (λ d. get_d_inside _ _ d _ (place c.requires c.loop-k.invariant c.loop-k-test.true c.is_inside.ensures c.if-not-is_inside.false c.record_place.ensures))
     c.region_fits-fits.ensures
 
 pub loop-k-preserved-then-not-is_inside : goal.loop-k-preserved-then-not-is_inside

@@ -1,11 +1,12 @@
 -- A turn reads the row's two regions from the records, which are those of the context's regions, so the function that judges a row by two records judges it by the context.
-use Rattle.std.proofs.Common.{◌≡◌, ℕ, ◌+◌, ◌-◌, ◌≤◌, ◌<◌, Bool, List, length, get_or, set, sym, ap, ◌∙◌, subst, length-set, arith}
+use Rattle.std.proofs.Common.{◌≡◌, ℕ, ◌+◌, ◌-◌, ◌≤◌, ◌<◌, Bool, List, length, get_or, set, refl, sym, ap, ◌∙◌, subst, length-set, arith}
 use lib.ListN.{take}
 use lib.Seq.{get_or-take, length-take-le}
 use Rattle.definitions.specs.Context.{Context}
 use Rattle.context.specs.declared.Region.{Region}
 use Rattle.junction_proposals.specs.declared.proposals.Candidate.{Candidate}
 use Rattle.junction_proposals.specs.Rows.{max_proposals, nothing, form, RowFits, is_allowed}
+use Rattle.rest.specs.Picking.{get_d_inside}
 use Rattle.junction_regions.specs.Asked.{Asked}
 use Rattle.topology.specs.Held.{place_in}
 use Rattle.topology.specs.Proposals.{Allows, Allowed}
@@ -72,26 +73,26 @@ loop-k-init c = start c.requires.allowed_long
 pub first_place-requires : goal.first_place-requires
 first_place-requires c = (fits c.requires.rows_fit c.loop-k.invariant c.loop-k-test.true).first_from
 
-pub record_at-first-requires : goal.record_at-first-requires
-record_at-first-requires c = first_in_lem c.requires.rows_fit c.loop-k.invariant c.loop-k-test.true c.first_place.ensures
+pub bounds-records-first_place : goal.bounds-records-first_place
+bounds-records-first_place c = first_in_lem c.requires.rows_fit c.loop-k.invariant c.loop-k-test.true c.first_place.ensures
 
 pub second_place-requires : goal.second_place-requires
 second_place-requires c = (fits c.requires.rows_fit c.loop-k.invariant c.loop-k-test.true).second_from
 
-pub record_at-second-requires : goal.record_at-second-requires
-record_at-second-requires c = second_in_lem c.requires.rows_fit c.loop-k.invariant c.loop-k-test.true c.second_place.ensures
+pub bounds-records-second_place : goal.bounds-records-second_place
+bounds-records-second_place c = second_in_lem c.requires.rows_fit c.loop-k.invariant c.loop-k-test.true c.second_place.ensures
 
-pub is_allowed-fits-requires : goal.is_allowed-fits-requires
-is_allowed-fits-requires c =
-    judged c.requires.rows_fit c.loop-k.invariant c.loop-k-test.true c.first_place.ensures c.record_at-first.ensures c.second_place.ensures c.record_at-second.ensures
+pub is_allowed-requires : goal.is_allowed-requires
+is_allowed-requires c =
+    judged c.requires.rows_fit c.loop-k.invariant c.loop-k-test.true c.first_place.ensures (λ d. get_d_inside _ _ d _ (first_in_lem c.requires.rows_fit c.loop-k.invariant c.loop-k-test.true c.first_place.ensures)) c.second_place.ensures (λ d. get_d_inside _ _ d _ (second_in_lem c.requires.rows_fit c.loop-k.invariant c.loop-k-test.true c.second_place.ensures))
 
-pub put_allowed-requires : goal.put_allowed-requires
-put_allowed-requires c = omega (arith, c.requires.rows_fit.1.few, inside c.requires.rows_fit c.loop-k.invariant c.loop-k-test.true)
+pub bounds-allowed-k : goal.bounds-allowed-k
+bounds-allowed-k c = omega (arith, c.requires.rows_fit.1.few, inside c.requires.rows_fit c.loop-k.invariant c.loop-k-test.true)
 
 pub loop-k-preserved : goal.loop-k-preserved
 loop-k-preserved c =
-    again c.requires.rows_fit c.loop-k.invariant c.loop-k-test.true c.first_place.ensures c.record_at-first.ensures c.second_place.ensures c.record_at-second.ensures
-    c.is_allowed-fits.ensures c.put_allowed.ensures
+    again c.requires.rows_fit c.loop-k.invariant c.loop-k-test.true c.first_place.ensures (λ d. get_d_inside _ _ d _ (first_in_lem c.requires.rows_fit c.loop-k.invariant c.loop-k-test.true c.first_place.ensures)) c.second_place.ensures (λ d. get_d_inside _ _ d _ (second_in_lem c.requires.rows_fit c.loop-k.invariant c.loop-k-test.true c.second_place.ensures))
+    c.is_allowed.ensures refl
 
 pub returns : goal.returns
 returns c = done c.requires.rows_fit c.loop-k.invariant c.loop-k-test.false

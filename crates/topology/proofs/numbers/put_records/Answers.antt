@@ -1,11 +1,23 @@
 -- The loop's invariant: the first i records are written, one behind the other, and nothing else.
-use Rattle.std.proofs.Common.{◌*◌, ◌<◌, ◌≡◌, refl, ap, ◌∙◌, map, length, take, get_or, rules, arith}
+use Rattle.std.proofs.Common.{ℕ, List, ◌+◌, ◌*◌, ◌≤◌, ◌<◌, ◌≡◌, refl, ap, ◌∙◌, map, length, take, get_or, rules, arith}
 use Rattle.std.proofs.lemmas.List.Edits.{sets}
 use Rattle.definitions.specs.Lists.{overwrite}
+use Rattle.rest.specs.Picking.{get_d_inside}
+use Rattle.context.specs.declared.Region.{Region}
 use Rattle.context.specs.Records.{record_of}
 use Rattle.topology.specs.Numbers.{record_numbers, all_numbers}
 use Rattle.topology.proofs.Numbering.{record_more, all-written}
 use Rattle.topology.proofs.numbers.put_records.Goals as goal
+
+-- a record more, over plain variables
+step : (rs : List Region) (given : List ℕ) {numbers after : List ℕ} {i : ℕ} {r : Region} → after ≡ sets numbers (11 * i) (record_numbers (record_of r))
+    → ((d : Region) → r ≡ get_or rs i d) → numbers ≡ overwrite (all_numbers (map record_of (take i rs))) given → i < length rs → 11 * (i + 1) ≤ length given
+    → after ≡ overwrite (all_numbers (map record_of (take (i + 1) rs))) given
+step rs given {i = i} {r = r} stored read before inside room =
+    stored
+    ∙ ap (λ l. sets l (11 * i) (record_numbers (record_of r))) before
+    ∙ ap (λ s. sets (overwrite (all_numbers (map record_of (take i rs))) given) (11 * i) (record_numbers (record_of s))) (read r)
+    ∙ record_more rs given i r inside room
 
 pub loop-i-init : goal.loop-i-init
 loop-i-init c = (omega arith, refl, refl)
@@ -18,17 +30,15 @@ put_numbers-requires c = omega (arith, c.loop-i-test.true, c.loop-i.invariant.1,
 
 pub loop-i-preserved : goal.loop-i-preserved
 loop-i-preserved c =
-    let inside : c.loop-i.i < length c.args.records = omega (arith, c.min-count.ensures, c.min-lent.ensures) in (
+    let inside : c.loop-i.i < length c.args.records.now = omega (arith, c.min-count.ensures, c.min-lent.ensures) in (
       omega arith,
       search rules,
-      c.put_numbers.ensures
-          ∙ ap (λ l. sets l (11 * c.loop-i.i) (record_numbers (record_of (get_or c.args.records c.loop-i.i _)))) c.loop-i.invariant.2
-          ∙ record_more c.args.records c.args.numbers.now c.loop-i.i _ inside (omega (arith, c.min-count.ensures)),
+      step c.args.records.now c.args.numbers.now c.put_numbers.ensures (λ d. get_d_inside c.args.records.now _ d c.loop-i.i inside) c.loop-i.invariant.2 inside (omega (arith, c.loop-i-test.true, c.min-count.ensures)),
     )
 
 pub returns : goal.returns
 returns c =
     let all : c.loop-i.i ≡ c.min-count.result = omega arith in
     c.loop-i.invariant.2
-    ∙ ap (λ k. overwrite (all_numbers (map record_of (take k c.args.records))) c.args.numbers.now) all
-    ∙ all-written c.args.records c.args.first c.args.numbers.now (c.min-count.ensures ∙ omega (arith, c.min-lent.ensures))
+    ∙ ap (λ k. overwrite (all_numbers (map record_of (take k c.args.records.now))) c.args.numbers.now) all
+    ∙ all-written c.args.records.now c.args.first c.args.numbers.now (c.min-count.ensures ∙ omega (arith, c.min-lent.ensures))

@@ -1,9 +1,10 @@
 -- Where the label is above 0, the record that stands at label - 1 is read, and put back with the stretch added; else nothing is done.
-use Rattle.std.proofs.Common.{◌≡◌, ℕ, ◌-◌, ◌≤◌, List, get_or, slice_set, refl, sym, subst, arith}
+use Rattle.std.proofs.Common.{◌≡◌, ℕ, ◌-◌, ◌≤◌, ◌<◌, List, length, get_or, slice_set, refl, sym, subst, arith}
 use Rattle.definitions.specs.Grid.{Map}
 use Rattle.definitions.specs.Partition.{labels}
 use Rattle.context.specs.declared.Region.{Region}
 use Rattle.context.specs.Records.{record_of}
+use Rattle.rest.specs.Picking.{get_d_inside}
 use Rattle.stretches.specs.Stretches.{region_up_to, Adding}
 use Rattle.topology.specs.Filled.{Adds, Added}
 use Rattle.topology.proofs.records.add_stretch.Goals as goal
@@ -16,17 +17,15 @@ module _ {records : List Region} {width : ℕ} {cells : List ℕ} {from end labe
       → rs ≡ slice_set records (label - 1) more → (M : Map) → Adds M width cells from end label records → Added M end label records rs
   one {more} made e M A = record { none = λ z. absurd (omega (arith, z, some)); one = λ h. (more, (e, made M label (here A))) }
 
-pub record_at-region-requires : goal.record_at-region-requires
-record_at-region-requires c = omega (arith, c.requires.1.room)
-
-pub with_stretch-more-requires : goal.with_stretch-more-requires
-with_stretch-more-requires c = (_, _, here c.if-label-gt0.true c.record_at-region.ensures c.requires.1)
-
-pub put_record-requires : goal.put_record-requires
-put_record-requires c = omega (arith, c.requires.1.room)
+pub with_stretch-requires : goal.with_stretch-requires
+with_stretch-requires c =
+    let within : c.args.label - 1 < length c.args.records.now = omega (arith, c.if-label-gt0.true, c.requires.1.room) in
+    (_, _, here c.if-label-gt0.true (λ d. get_d_inside _ _ d _ within) c.requires.1)
 
 pub returns-then-label-gt0 : goal.returns-then-label-gt0
-returns-then-label-gt0 c = one c.if-label-gt0.true c.record_at-region.ensures c.with_stretch-more.ensures c.put_record.ensures
+returns-then-label-gt0 c =
+    let within : c.args.label - 1 < length c.args.records.now = omega (arith, c.if-label-gt0.true, c.requires.1.room) in
+    one c.if-label-gt0.true (λ d. get_d_inside _ _ d _ within) c.with_stretch.ensures refl
 
 pub returns-else-label-gt0 : goal.returns-else-label-gt0
 returns-else-label-gt0 c = λ M A. record { none = λ e. refl; one = λ h. absurd (omega (arith, h)) }

@@ -1,7 +1,7 @@
 -- A desk over the terrain: its own checks, then the pass and the rows of the call with its lists alone (TwoDesks).
 use Rattle.std.proofs.Common.{rules, refl, sym, ap, ◌≡◌, ◌∙◌, arith}
 use Rattle.std.specs.Prelude.{Err}
-use Rattle.topology.proofs.Calling.{no_marks, marked_as}
+use Rattle.topology.proofs.Calling.{marked_as}
 use Rattle.topology.proofs.TwoDesks.{sides-within, desk-refused, desk-few, desk-lent, desk_finishes, desk-ran}
 use Rattle.topology.proofs.two_desks.run_desk.Goals as goal
 
@@ -19,13 +19,10 @@ overflow_mul-needed c =
     let d = c.args.desk in
     record { fits = omega (arith, desk-few c.requires.1 d.pass d.boundaries.now d.anchors.now c.args.output.now (sym c.in_ok-pass.ensures.refused)) }
 
-pub mark_removed-requires-clause-map_shown : goal.mark_removed-requires-clause-map_shown
-mark_removed-requires-clause-map_shown c =
+pub mark_removed-removed-requires : goal.mark_removed-removed-requires
+mark_removed-removed-requires c =
     let d = c.args.desk in
     (_, desk-lent c.requires.1 d.pass d.boundaries.now d.anchors.now c.args.output.now (sym c.in_ok-pass.ensures.refused))
-
-pub mark_removed-requires-clause-none_marked : goal.mark_removed-requires-clause-none_marked
-mark_removed-requires-clause-none_marked c = no_marks
 
 pub finish-kept-requires : goal.finish-kept-requires
 finish-kept-requires c =
@@ -33,11 +30,11 @@ finish-kept-requires c =
     let d = c.args.desk in
     let passed = sym c.in_ok-pass.ensures.refused in
     let lent = desk-lent T d.pass d.boundaries.now d.anchors.now c.args.output.now passed in
-    desk_finishes T d.pass d.boundaries.now d.anchors.now c.args.output.now passed (marked_as _ _ _ _ c.in_ok-pass.ensures.named (c.mark_removed.ensures _ lent))
+    desk_finishes T d.pass d.boundaries.now d.anchors.now c.args.output.now passed (marked_as _ _ _ _ c.in_ok-pass.ensures.named (c.mark_removed-removed.ensures _ lent))
 
 pub returns : goal.returns
 returns c = λ G T.
     let d = c.args.desk in
     let passed = sym c.in_ok-pass.ensures.refused in
     let lent = desk-lent T d.pass d.boundaries.now d.anchors.now c.args.output.now passed in
-    desk-ran T d.pass d.boundaries.now d.anchors.now c.args.output.now passed (marked_as _ _ _ _ c.in_ok-pass.ensures.named (c.mark_removed.ensures _ lent)) c.finish-kept.ensures
+    desk-ran T d.pass d.boundaries.now d.anchors.now c.args.output.now passed (marked_as _ _ _ _ c.in_ok-pass.ensures.named (c.mark_removed-removed.ensures _ lent)) c.finish-kept.ensures

@@ -8,17 +8,17 @@ run_desk-coaching-requires c =
     let T = c.requires.1 in
     let first = c.run_desk-route.ensures _ T in (_, terrain-again T first.same_masks first.same_queue)
 
-pub returns-then-order-eq0 : goal.returns-then-order-eq0
-returns-then-order-eq0 c = λ G T.
+pub returns-in-RouteFirst : goal.returns-in-RouteFirst
+returns-in-RouteFirst c = λ G T.
     let first = c.run_desk-route.ensures G T in
     route-before (refl, refl) first (c.run_desk-coaching.ensures G (terrain-again T first.same_masks first.same_queue))
 
-pub run_desk-route-requires-2 : goal.run_desk-route-requires-2
-run_desk-route-requires-2 c =
+pub run_desk-route-requires-in-CoachingFirst : goal.run_desk-route-requires-in-CoachingFirst
+run_desk-route-requires-in-CoachingFirst c =
     let T = c.requires.1 in
-    let first = c.run_desk-coaching-2.ensures _ T in (_, terrain-again T first.same_masks first.same_queue)
+    let first = c.run_desk-coaching-in-CoachingFirst.ensures _ T in (_, terrain-again T first.same_masks first.same_queue)
 
-pub returns : goal.returns
-returns c = λ G T.
-    let first = c.run_desk-coaching-2.ensures G T in
-    coaching-before (refl, refl) first (c.run_desk-route-2.ensures G (terrain-again T first.same_masks first.same_queue))
+pub returns-in-CoachingFirst : goal.returns-in-CoachingFirst
+returns-in-CoachingFirst c = λ G T.
+    let first = c.run_desk-coaching-in-CoachingFirst.ensures G T in
+    coaching-before (refl, refl) first (c.run_desk-route-in-CoachingFirst.ensures G (terrain-again T first.same_masks first.same_queue))
