@@ -8,7 +8,7 @@ use mathlib.Core.List.{List, [], ◌∷◌, ◌++◌}
 use lib.ListN.{length, get_or, set, length-append}
 use lib.Seq.{sets}
 use lib.Dec.{eqb, ltb}
-use borrow.Author.Tests.{ne_eqb, lt-ltb, ltb-true, ltb-false, not-true, not-false, le-leb}
+use borrow.Author.Tests.{ne_eqb, lt-ltb, ltb-true, ltb-false, le-leb}
 use Rattle.definitions.specs.Scan.{gather}
 use Rattle.laws.specs.ListLaws.Tests.{eqb_same}
 use Rattle.laws.specs.ListLaws.Below.{below_none, below_at}
@@ -21,7 +21,7 @@ use Rattle.game.specs.Ranks.{is_found, serves_by, verdict_by}
 use Rattle.game.proofs.RankLaws.{verdict_by_lem}
 use Rattle.game.specs.Graph.{place_at, numbers_of, place_count, verdict_numbers}
 use Rattle.game.proofs.EntryLaws.{numbers-length}
-use Rattle.game_sets.specs.Words.{bit_at, Near, Plays}
+use Rattle.game_sets.specs.Words.{bit_at, Plays}
 use Rattle.game_search.specs.Words.{rank_place, rank_at, Ranked, at}
 use Rattle.std.specs.Prelude.{Option, None, Some, MatchOption, unwrap_or}
 use Rattle.game_verdicts.specs.declared.Side.{Side}

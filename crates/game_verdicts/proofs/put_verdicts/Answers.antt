@@ -1,5 +1,5 @@
 -- `put_verdicts` meets its contract. The loop's invariant (`Putting`): the verdicts of the first c places are stored. Assumes nothing.
-use Rattle.std.proofs.Common.{sym, ap, ◌∙◌}
+use Rattle.std.proofs.Common.{ap, ◌∙◌}
 use Rattle.game.specs.Graph.{place_at, numbers_of}
 use Rattle.game.specs.Ranks.{verdict_by}
 use Rattle.game_search.specs.Words.{rank_at}
