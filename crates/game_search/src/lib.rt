@@ -3,20 +3,18 @@
 
 #![tactic(auto)]
 
+pub mod neighbours;
+
 ghost use Rattle.std.specs.Prelude.{◌≡◌, ◌&&◌, cond, ℕ, ◌/◌, ◌%◌, ◌<◌, eqb, get_or, replicate};
 ghost use Rattle.game.specs.Game.{Game};
 ghost use Rattle.game_sets.specs.Words.{Plays};
 ghost use Rattle.game_search.specs.Words.{Sized, Swept, set_for, is_new, ranked_by, Ranked};
 
-pub mod neighbours;
-
-use game_sets::board::{Board, MAX_REGIONS};
+use game_sets::board::{Board, MAX_REGIONS, RANKS, RANKS_PER_RUNNER};
 use game_sets::sets::has;
 
-// One more than the places of 33 regions, of which each sweep but the last finds one, and one for the last.
+// One more than `sweeps` of the definitions for 32 regions: two places for each two of 33 numbers, since 0 is counted too, and one.
 const MAX_SWEEPS: u32 = 2180;
-
-const RANKS_PER_RUNNER: usize = 64;
 
 // Of each region of the guard the runner's regions from which he wins, where the runner is to move and where the guard is.
 #[derive(Clone, Copy, PartialEq, Eq)]
@@ -61,7 +59,7 @@ fn rank_of(old: u32, new: u32, r: usize, had: u32, rank: u32) -> u32
 }
 
 // Ranks the places of one guard's region and turn that are in the new set and not in the old one. `at` is where the first of them has its rank.
-fn put_row(old: u32, new: u32, at: usize, rank: u32, ranks: &mut [u32; 2048])
+fn put_row(old: u32, new: u32, at: usize, rank: u32, ranks: &mut [u32; RANKS])
     requires { at < 64 }
     ensures { (i : ℕ) → i < 2048 → get_or ranks.new i 0
         ≡ cond (eqb (i % 64) at && is_new old new (i / 64)) rank (get_or ranks.old i 0) }
@@ -76,7 +74,7 @@ fn put_row(old: u32, new: u32, at: usize, rank: u32, ranks: &mut [u32; 2048])
 }
 
 // Ranks the places that a sweep found: those in its sets, `next`, and not in those before.
-fn put_ranks(won: &Won, next: &Won, rank: u32, ranks: &mut [u32; 2048])
+fn put_ranks(won: &Won, next: &Won, rank: u32, ranks: &mut [u32; RANKS])
     ensures { (i : ℕ) → i < 2048 → get_or ranks.new i 0
         ≡ ranked_by won.now.runner won.now.guard next.now.runner next.now.guard rank ranks.old i }
 {
@@ -86,9 +84,8 @@ fn put_ranks(won: &Won, next: &Won, rank: u32, ranks: &mut [u32; 2048])
 }
 
 // The ranks of all places.
-// Kept: 0 for a place that is not won, as `rank_of` of the definitions has it; Options would take twice the room and be turned into these numbers in each
-// contract.
-pub fn search(board: &Board, ranks: &mut [u32; 2048])
+// Kept: 0 for a place that is not won, as `rank_of` of the definitions has it; Options would be turned into these numbers in each contract.
+pub fn search(board: &Board, ranks: &mut [u32; RANKS])
     requires { Sized board.now.regions board.now.goal × (ranks.old ≡ replicate 2048 0) }
     ensures { (G : Game) → Plays board.now.near board.now.regions board.now.goal G → Ranked G ranks.new }
 {

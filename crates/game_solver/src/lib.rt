@@ -5,14 +5,18 @@
 ghost use Rattle.std.specs.Prelude.{◌≡◌, List, ℕ, ◌*◌, ◌≤◌, length};
 ghost use Rattle.definitions.specs.Limits.{numbers_per_pair};
 ghost use Rattle.definitions.specs.Lists.{overwrite};
-ghost use Rattle.game.specs.Graph.{graph_of, edges_in, max_game_regions, verdicts_room, place_count, solve_answer, verdict_numbers, Solves};
+ghost use Rattle.definitions.specs.Refusals.{or_else};
+ghost use Rattle.definitions.specs.Verdict.{refusal};
+ghost use Rattle.game.specs.Graph.{graph_of, edges_in, max_game_regions, verdicts_room, place_count};
+ghost use Rattle.game.specs.Graph.{graph_fault, goal_fault, solve_answer, verdict_numbers, Solves};
 ghost use Rattle.game_search.specs.Edges.{last_two};
 ghost use Rattle.refusals.specs.Answers.{answer_in, answer_of};
+ghost use Rattle.refusals.specs.Refusals.{refusal_in};
 
 use definitions::limits::NUMBERS_PER_PAIR;
 use game_search::neighbours::find_neighbours;
 use game_search::search;
-use game_sets::board::{Board, MAX_REGIONS};
+use game_sets::board::{Board, MAX_REGIONS, RANKS};
 use game_verdicts::put_verdicts;
 use refusals::answers::Answer;
 use refusals::{Cause, Refusal, ensure};
@@ -22,14 +26,21 @@ const NUMBERS_PER_EDGE: usize = 2;
 // Room for the verdicts of the largest graph.
 pub const VERDICTS_ROOM: usize = 6144;
 
+// 23 and 24: more regions than a game has, and a goal that is none of them.
+pub fn check_graph(regions: u64, goal: u64) -> Result<(), Refusal>
+    ensures { refusal_in result ≡ or_else (refusal 23 (graph_fault regions)) (refusal 24 (goal_fault regions goal)) }
+{
+    ensure(regions <= MAX_REGIONS as u64, Cause::Graph)?;
+    ensure((1 <= goal) & (goal <= regions), Cause::Goal)
+}
+
 // How many verdicts there are, or why the operation refuses.
-fn verdict(regions: u64, pairs: usize, goal: u64, room: usize) -> Result<usize, Refusal>
+fn count_verdicts(regions: u64, pairs: usize, goal: u64, room: usize) -> Result<usize, Refusal>
     ensures { (list : List ℕ) → length list ≡ pairs → answer_of result ≡ solve_answer regions list goal room }
 {
     ensure(pairs % NUMBERS_PER_EDGE == 0, Cause::Entries)?;
     ensure(VERDICTS_ROOM <= room, Cause::Room)?;
-    ensure(regions <= MAX_REGIONS as u64, Cause::Graph)?;
-    ensure((1 <= goal) & (goal <= regions), Cause::Goal)?;
+    check_graph(regions, goal)?;
     Ok((2 * (regions * regions)) as usize)
 }
 
@@ -49,13 +60,13 @@ fn solve_edges<const N: usize>(
         regions,
         goal: goal - 1,
     };
-    let mut ranks = [0u32; 2048];
+    let mut ranks = [0u32; RANKS];
     search(&board, &mut ranks);
     put_verdicts(&board, &ranks, verdicts);
 }
 
 // Those of a graph of these pairs.
-pub fn solve(regions: usize, pairs: &[u32], goal: usize, verdicts: &mut [u32])
+fn solve(regions: usize, pairs: &[u32], goal: usize, verdicts: &mut [u32])
     requires { (regions ≤ max_game_regions) × (1 ≤ goal) × (goal ≤ regions) × (verdicts_room ≤ length verdicts.old) }
     ensures { verdicts.new
         ≡ overwrite (verdict_numbers (graph_of regions pairs.now goal) (place_count regions)) verdicts.old }
@@ -84,7 +95,7 @@ fn solve_game(
 ) -> Result<usize, Refusal>
     ensures { Solves regions pairs.now goal verdicts.old (answer_of result) verdicts.new }
 {
-    let count = verdict(regions, pairs.len(), goal, verdicts.len())?;
+    let count = count_verdicts(regions, pairs.len(), goal, verdicts.len())?;
     solve(regions as usize, pairs, goal as usize, verdicts);
     Ok(count)
 }

@@ -8,7 +8,7 @@ use mathlib.Core.List.{List, [], ◌∷◌, ◌++◌}
 use lib.ListN.{length, get_or, set, length-append}
 use lib.Seq.{sets}
 use lib.Dec.{eqb, ltb}
-use borrow.Author.Tests.{ne_eqb, lt-ltb, ltb-true, ltb-false, not-true, not-false, le-leb}
+use borrow.Author.Tests.{ne_eqb, lt-ltb, ltb-true, ltb-false, le-leb}
 use Rattle.definitions.specs.Scan.{gather}
 use Rattle.laws.specs.ListLaws.Tests.{eqb_same}
 use Rattle.laws.specs.ListLaws.Below.{below_none, below_at}
@@ -21,10 +21,13 @@ use Rattle.game.specs.Ranks.{is_found, serves_by, verdict_by}
 use Rattle.game.proofs.RankLaws.{verdict_by_lem}
 use Rattle.game.specs.Graph.{place_at, numbers_of, place_count, verdict_numbers}
 use Rattle.game.proofs.EntryLaws.{numbers-length}
-use Rattle.game_sets.specs.Words.{bit_at, Near, Plays}
+use Rattle.game_sets.specs.Words.{bit_at, Plays}
 use Rattle.game_search.specs.Words.{rank_place, rank_at, Ranked, at}
 use Rattle.std.specs.Prelude.{Option, None, Some, MatchOption, unwrap_or}
+use Rattle.game_verdicts.specs.declared.Side.{Side}
+use Rattle.game_verdicts.specs.declared.Side.TheVariants as side
 use Rattle.game_verdicts.specs.Words.{verdicts_by, Served}
+use Rattle.game_verdicts.specs.Forms.{is_runner, winner_number}
 
 -- ---- the least
 
@@ -49,6 +52,10 @@ unfolding least_below
 least_last n d f q none = q ∙ sym (ap (λ b. cond b (least_below n f) n) (below_none n f (λ e l. none e (omega arith))))
 
 -- ---- a region that serves
+
+number_by : (winner : Side) → winner_number winner ≡ cond (is_runner winner) 1 2
+number_by side.Runner = refl
+number_by side.Guard = refl
 
 pub back : (ranks : List ℕ) (r g : ℕ) (t : Bool) → rank_at ranks (at r g t) ≡ get_or ranks (rank_place r g t) 0
 back ranks r g t = λ i. get_or ranks (rank_place (one r i) (one g i) t) 0
@@ -131,18 +138,19 @@ module _ (near : List ℕ) (regions goal : ℕ) (G : Game) (P : Plays near regio
 
   -- ---- by the code's tests
 
-  module _ (r g rank : ℕ) (t : Bool) (e : rank ≡ rank_at ranks (at r g t)) where
-    pub idle-told : not (beq t (ltb 0 rank)) ≡ true → 0 ≡ (verdict_by G (rank_at ranks) (at r g t)).region
-    idle-told h = idle-unnamed r g t (ltb 0 rank) (ap (ltb 0) (sym e)) (not-true (beq t (ltb 0 rank)) h)
+  module _ (r g : ℕ) (side winner : Side) (e : is_runner winner ≡ ltb 0 (rank_at ranks (at r g (is_runner side)))) where
+    pub idle-told : beq (is_runner side) (is_runner winner) ≡ false → 0 ≡ (verdict_by G (rank_at ranks) (at r g (is_runner side))).region
+    idle-told h = idle-unnamed r g (is_runner side) (is_runner winner) (sym e) h
 
-    pub region-told : (eqb r g || eqb r goal) ≡ false → not (beq t (ltb 0 rank)) ≡ false
-        → least_below (suc regions) (serves_by G (rank_at ranks) (at r g t)) ≡ (verdict_by G (rank_at ranks) (at r g t)).region
-    region-told o h = region-named r g t (ltb 0 rank) o (ap (ltb 0) (sym e)) (not-false (beq t (ltb 0 rank)) h)
+    pub region-told : (eqb r g || eqb r goal) ≡ false → beq (is_runner side) (is_runner winner) ≡ true
+        → least_below (suc regions) (serves_by G (rank_at ranks) (at r g (is_runner side))) ≡ (verdict_by G (rank_at ranks) (at r g (is_runner side))).region
+    region-told o h = region-named r g (is_runner side) (is_runner winner) o (sym e) h
 
-  pub verdict-told : (r g : ℕ) (t : Bool) (rank region : ℕ) → rank ≡ rank_at ranks (at r g t) → region ≡ (verdict_by G (rank_at ranks) (at r g t)).region
-      → (cond (ltb 0 rank) 1 2 ∷ (rank - 1) ∷ region ∷ []) ≡ numbers_of (verdict_by G (rank_at ranks) (at r g t))
+  pub verdict-told : (r g : ℕ) (t : Bool) (winner : Side) (rank moves region : ℕ) → rank ≡ rank_at ranks (at r g t) → is_runner winner ≡ ltb 0 rank → moves ≡ rank - 1
+      → region ≡ (verdict_by G (rank_at ranks) (at r g t)).region → (winner_number winner ∷ moves ∷ region ∷ []) ≡ numbers_of (verdict_by G (rank_at ranks) (at r g t))
   unfolding verdict_by is_found
-  verdict-told r g t rank region e h = λ i. cond (ltb 0 (e i)) 1 2 ∷ (e i - 1) ∷ h i ∷ []
+  verdict-told r g t winner rank moves region e w m h =
+      (λ i. (number_by winner ∙ ap (λ b. cond b 1 2) w) i ∷ m i ∷ region ∷ []) ∙ (λ i. cond (ltb 0 (e i)) 1 2 ∷ (e i - 1) ∷ h i ∷ [])
 
 -- ---- the least region that serves: what `find` gives, whatever the game of the steps
 

@@ -22,6 +22,11 @@ report_form r =
       squared = r.squared;
     }
 
+-- a mean as quotient and remainder
+abbrev pub mean_in : Option (ℕ × ℕ) → Option def'.Mean
+mean_in None = None
+mean_in (Some (quotient, remainder)) = Some (record { quotient = quotient; remainder = remainder })
+
 -- 0 where there is no mean
 abbrev pub mean_form : Option def'.Mean → Mean
 mean_form None = record { has_mean = false; quotient = 0; remainder = 0 }

@@ -31,7 +31,7 @@ fn with_kept(report: Report, pass: Pass, rows: &[[u64; NUMBERS_PER_ROW]], count:
 }
 
 // The call answered this, of a map of `count` boundaries; accepted, it left so many rows in the output.
-pub fn with_call(
+fn with_call(
     report: Report,
     pass: u64,
     kept: Result<usize, Refusal>,

@@ -1,4 +1,4 @@
-// The year's figures (document 02, request 13) by value: what the rows of an accepted run add, a report with a run more, and the mean of a pass.
+// The figures of a report (SPECIFICATION 19.8), by value: what the rows of an accepted run add, a report with a run more, and the mean of a pass.
 
 #![tactic(auto)]
 
@@ -6,9 +6,9 @@ pub mod call_figures;
 pub mod row_lengths;
 pub mod sums;
 
-ghost use Rattle.std.specs.Prelude.{◌≡◌, None};
+ghost use Rattle.std.specs.Prelude.{◌≡◌};
 ghost use Rattle.report.specs.Report.{empty_report, mean_of, mean_kept};
-ghost use Rattle.report_figures.specs.Forms.{report_form, mean_form};
+ghost use Rattle.report_figures.specs.Forms.{report_form, mean_in, mean_form};
 
 use checks::passes::Pass;
 use refusals::answers::Answer;
@@ -77,37 +77,46 @@ pub struct Mean {
     pub remainder: u64,
 }
 
-fn no_mean() -> Mean
-    ensures { result ≡ mean_form None }
-{
-    Mean {
-        has_mean: false,
-        quotient: 0,
-        remainder: 0,
+impl From<Option<(u64, u64)>> for Mean {
+    ghost from_gives = { λ given mean. mean ≡ mean_form (mean_in given) };
+
+    fn from(given: Option<(u64, u64)>) -> Mean {
+        match given {
+            Some((quotient, remainder)) => Mean {
+                has_mean: true,
+                quotient,
+                remainder,
+            },
+            None => Mean {
+                has_mean: false,
+                quotient: 0,
+                remainder: 0,
+            },
+        }
     }
 }
 
-fn mean_of(figures: Figures) -> Mean
-    ensures { result ≡ mean_form (mean_of figures.accepted figures.kept) }
+// The mean kept for an accepted run, as quotient and remainder.
+fn mean_of(figures: Figures) -> Option<(u64, u64)>
+    ensures { mean_in result ≡ mean_of figures.accepted figures.kept }
 {
     if figures.accepted == 0 {
-        return no_mean();
+        return None;
     }
-    Mean {
-        has_mean: true,
-        quotient: figures.kept / figures.accepted,
-        remainder: figures.kept % figures.accepted,
-    }
+    Some((
+        figures.kept / figures.accepted,
+        figures.kept % figures.accepted,
+    ))
 }
 
-// The mean kept for an accepted run of a pass; there is none where no run of it was accepted, and none for a pass that is not 1, 2 or 3.
+// There is none where no run of the pass was accepted, and none for a pass that is not 1, 2 or 3.
 pub fn report_figures_mean_kept(report: Report, pass: u64) -> Mean
     ensures { result ≡ mean_form (mean_kept (report_form report) pass) }
 {
-    match Pass::try_from(pass) {
-        Err(_) => no_mean(),
+    Mean::from(match Pass::try_from(pass) {
+        Err(_) => None,
         Ok(Pass::ReplaceRampMouths) => mean_of(report.pass_1),
         Ok(Pass::CollapseRampInteriors) => mean_of(report.pass_2),
         Ok(Pass::RemoveJunctionBoundaries) => mean_of(report.pass_3),
-    }
+    })
 }

@@ -1,5 +1,5 @@
 // What the rows of an accepted run add: the numbers that none of them has, and the squares of their lengths.
-ghost use Rattle.std.specs.Prelude.{◌≡◌, ◌+◌, ◌*◌, ◌<◌, ◌≤◌, length, ◌==◌};
+ghost use Rattle.std.specs.Prelude.{◌≡◌, ◌*◌, ◌≤◌};
 ghost use Rattle.laws.specs.FloatLaws.Pixels.{max_pixel, PixelSegment};
 ghost use Rattle.laws.specs.ListLaws.FlatRows.{row_at};
 ghost use Rattle.report.specs.Runs.{square_apart, squared_length, squared_lengths};

@@ -1,13 +1,10 @@
-// A sheet that is read for a report (document 02, request 13), of any size or with the limits of `keptlist`. One of any size that is refused is a run that was
+// A sheet that is read for a report (SPECIFICATION 19.8), of any size or with the limits of `keptlist`. One of any size that is refused is a run that was
 // refused, and is added; the run of one that was read is the call, which is yet to be made.
 
 #![tactic(auto)]
 
 ghost use Rattle.std.specs.Prelude.{◌≡◌, length};
 ghost use Rattle.definitions.specs.Sheet.{read_verdict};
-ghost use Rattle.report.specs.Report.{sum64, added_by};
-ghost use Rattle.report.specs.Runs.{refused_run};
-ghost use Rattle.report_figures.specs.Forms.{report_form};
 ghost use Rattle.sheet.specs.Contract.{Answered, by_number};
 ghost use Rattle.report_reading.specs.Contract.{opened_with, limited_reading, OpenedFor, ReadFor};
 
@@ -15,11 +12,7 @@ use refusals::{Cause, Refusal};
 use report_figures::Report;
 use report_figures::call_figures::has_room;
 use report_figures::sums::with_refused;
-use sheet::{Header, read_sheet, read_within};
-
-const SHEET_BYTES_MOST: usize = 65_536;
-
-const CELLS_MOST: u64 = 4096;
+use sheet::{CELLS_MOST, Header, SHEET_BYTES_MOST, read_sheet, read_within};
 
 // Number 0, place 0 and what the sheet opens with; or a refusal's number and place, and 0 for the rest. The last three before the report are counts of entries.
 #[repr(C)]

@@ -1,4 +1,4 @@
-// A sheet that is read and run as `keptlist` does it, and added to a report (document 02, request 13).
+// A sheet that is read and run as `keptlist` does it, and added to a report (SPECIFICATION 19.8).
 
 #![tactic(auto)]
 

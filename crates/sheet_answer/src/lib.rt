@@ -12,11 +12,15 @@ ghost use Rattle.sheet_answer.specs.Contract.{Inside};
 use crate::runs::{ROWS_ROOM, run_sheet};
 use definitions::limits::NUMBERS_PER_ROW;
 use printed::{print_kept, print_refused};
+use sheet::SHEET_BYTES_MOST;
+
+// One byte more than a sheet may have: it shows that there are too many, so that no more need be read.
+pub const INPUT_ROOM: usize = SHEET_BYTES_MOST + 1;
 
 // A line of 64 bytes and 256 rows of 105.
 pub const OUTPUT_ROOM: usize = 26_944;
 
-// What `keptlist` prints for these bytes, and how many they are. The type of `out` gives room for the longest list that is printed, so that nothing is asked of it.
+// What `keptlist` prints for these bytes, and how many they are. The type of `out` gives room for the longest list.
 pub fn keptlist(bytes: &[u8], out: &mut [u8; OUTPUT_ROOM]) -> usize
     ensures prints { Printed (printing.keptlist bytes.now) out.old out.new result }
     ensures inside { Inside result out.new }
@@ -31,11 +35,11 @@ pub fn keptlist(bytes: &[u8], out: &mut [u8; OUTPUT_ROOM]) -> usize
     }
 }
 
-// One byte more than a sheet may have: it shows that there are too many, so that no more need be read.
-pub fn input_room() -> [u8; 65537]
+// Room for the bytes of a sheet.
+pub fn input_room() -> [u8; INPUT_ROOM]
     ensures { 65537 ≡ length result }
 {
-    [0; 65537]
+    [0; INPUT_ROOM]
 }
 
 // Room for the longest list that is printed.
