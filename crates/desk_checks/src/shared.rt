@@ -25,8 +25,8 @@ pub fn prepare_shared(
         height,
         cells,
         spans,
-        boundaries: &spans[..0],
-        anchors: &spans[..0],
+        boundaries: &[],
+        anchors: &[],
     };
     prepare_lists(asked, room, 0, lists)
 }

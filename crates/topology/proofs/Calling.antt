@@ -3,17 +3,13 @@ use Prim.Native.Nat.{ℕ, ◌*◌, ◌/◌, ◌≤◌}
 use native.Mathlib.Omega.{arith}
 use native.Mathlib.Nat.{mul-le-mul}
 use mathlib.Core.Path.{◌≡◌, refl, ap, ◌∙◌, subst}
-use mathlib.Core.Bool.{Bool, false, ◌&&◌}
+use mathlib.Core.Bool.{Bool, false}
 use mathlib.Core.Logic.{⊎_elim}
 use mathlib.Core.List.{List, map}
 use lib.ListN.{length, get_or, replicate, length-replicate, length-map}
-use lib.Dec.{leb}
-use borrow.Author.Tests.{leb-true}
 use Rattle.definitions.specs.Limits.{max_entries, numbers_per_span, numbers_per_boundary}
 use Rattle.definitions.specs.Grid.{Map, map_of, cell_count}
 use Rattle.definitions.specs.Context.{context_of}
-use Rattle.laws.specs.ListLaws.Tests.{both}
-use Rattle.laws.specs.ListLaws.NoFault.{no_fault_lem}
 use Rattle.laws.specs.FloatLaws.MapPixels.{side-bounds, lent-on_map, map-pixel}
 use Rattle.laws.specs.NumberLaws.Comparisons.{same_or}
 use Rattle.laws.specs.ListLaws.Flags.{none_set}

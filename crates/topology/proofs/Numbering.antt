@@ -3,13 +3,13 @@ use Prim.Native.Nat.{ℕ, zero, suc, ◌+◌, ◌*◌, ◌/◌, ◌≤◌, ◌<�
 use native.Mathlib.Omega.{arith}
 use mathlib.Core.Path.{◌≡◌, refl, sym, ap, ◌∙◌}
 use mathlib.Core.List.{List, [], ◌∷◌, ◌++◌, map}
-use lib.ListN.{length, take, get_or, set, length-map}
-use lib.Seq.{sets, length-take-le, take_all, take-suc}
+use lib.ListN.{length, take, get_or, length-map}
+use lib.Seq.{sets, length-take-le, take-suc}
 use lib.Ieee.{Float, binary64, to_bits}
 use Rattle.definitions.specs.Lists.{overwrite}
 use Rattle.definitions.specs.RegionRecord.{elevation_count}
 use Rattle.definitions.specs.RegionRecord as def
-use Rattle.laws.specs.ListLaws.Overwritten.{overwrite_more, sets_append}
+use Rattle.laws.specs.ListLaws.Overwritten.{overwrite_more}
 use Rattle.context.specs.declared.Region.{Region}
 use Rattle.context.specs.Records.{record_of}
 use Rattle.topology.specs.Numbers.{numbers_per_record, record_numbers, all_numbers, with_records}

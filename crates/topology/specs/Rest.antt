@@ -1,5 +1,5 @@
 -- The contract of the call that runs the passes to rest, over the lent records as they are declared, and the words of its parts' contracts. Definitions only; assumes nothing.
-use Rattle.std.specs.Prelude.{ℕ, zero, suc, ◌*◌, ◌≡◌, List, map, length, drop, replicate, Result, Ok, Err}
+use Rattle.std.specs.Prelude.{ℕ, zero, suc, ◌≡◌, List, map, length, drop, replicate, Result, Ok, Err}
 use Rattle.definitions.specs.Lists.{overwrite}
 use Rattle.definitions.specs.Partition.{region_count}
 use Rattle.definitions.specs.RegionRecord.{empty_region}
@@ -8,7 +8,7 @@ use Rattle.definitions.specs.AtExit.{records_of}
 use Rattle.context.specs.declared.Region.{Region}
 use Rattle.context.specs.Records.{record_of}
 use Rattle.rest_definitions.specs.RowOrder.{start_map}
-use Rattle.rest_definitions.specs.Rest.{passed, rested}
+use Rattle.rest_definitions.specs.Rest.{rested}
 use Rattle.rest_definitions.specs.RestVerdict as def
 use Rattle.rest.specs.RestCalls.{RestRan}
 use Rattle.rest_lists.specs.declared.kept.Standing.{Standing}

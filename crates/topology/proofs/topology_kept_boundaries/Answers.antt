@@ -1,7 +1,7 @@
 -- What a part of the call asks is what the parts before it leave (Calling): a refused call has left the lists as `prepare` says; of a call that is ready the records are filled, the
 -- marks are the pass's, and the rows are written.
 use Rattle.std.proofs.Common.{rules, refl, ◌≡◌, ◌∙◌, arith}
-use Rattle.std.specs.Prelude.{Ok, Err}
+use Rattle.std.specs.Prelude.{Err}
 use Rattle.pass_lists.proofs.AfterPartition.{ready_finishes}
 use Rattle.topology.proofs.Calling.{when_named, when_refused, needed-few, ready_fills, ready-lent, marked_as, ran_over}
 use Rattle.topology.proofs.topology_kept_boundaries.Goals as goal

@@ -1,5 +1,5 @@
 -- A desk over the terrain: its own checks, then the pass and the rows of the call with its lists alone (TwoDesks).
-use Rattle.std.proofs.Common.{rules, refl, sym, ap, ◌≡◌, ◌∙◌, arith}
+use Rattle.std.proofs.Common.{rules, sym, ◌≡◌, arith}
 use Rattle.std.specs.Prelude.{Err}
 use Rattle.topology.proofs.Calling.{marked_as}
 use Rattle.topology.proofs.TwoDesks.{sides-within, desk-refused, desk-few, desk-lent, desk_finishes, desk-ran}
