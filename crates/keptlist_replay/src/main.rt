@@ -5,7 +5,7 @@
 
 ghost use Rattle.std.specs.Prelude.{◌≤◌, length};
 
-use sheet_answer::{input_room, keptlist, output_room};
+use sheet_answer::{INPUT_ROOM, input_room, keptlist, output_room};
 use std::io;
 use std::io::{Read, Write};
 use streams::{read_full, write_bytes};
@@ -13,14 +13,12 @@ use streams::{read_full, write_bytes};
 // Reading ends after so many sheets at the latest.
 const SHEETS: u64 = 65536;
 
-// As many bytes as `keptlist` reads.
-const BYTES: usize = 65537;
-
+// As many bytes as `keptlist` reads at most.
 fn length_of(opening: &[u8; 3]) -> usize
     ensures { result ≤ 65537 }
 {
     let [low, middle, high] = *opening;
-    (u32::from_le_bytes([low, middle, high, 0]) as usize).min(BYTES)
+    (u32::from_le_bytes([low, middle, high, 0]) as usize).min(INPUT_ROOM)
 }
 
 // Reads a sheet as long as the list, and writes what is printed for it.
@@ -44,6 +42,7 @@ fn replay<R: Read, W: Write>(input: &mut R, output: &mut W, sheet: &mut [u8]) ->
     Ok(true)
 }
 
+// Kept: the loop of `replay_lists` over another reading; one function of both needs a closure over reader, writer and buffer, and is no shorter.
 fn replay_all<R: Read, W: Write>(input: &mut R, output: &mut W, sheet: &mut [u8]) -> io::Result<()>
     requires { 65537 ≤ length sheet.old }
 {
