@@ -1,5 +1,5 @@
 // The rows of pairs by span, and the full cuts and full pairs of boundaries (`full_cut` and `full_pair` of context.rs).
-ghost use Rattle.std.specs.Prelude.{◌≡◌, ℕ, ◌+◌, ◌*◌, ◌≤◌, ◌<◌, length};
+ghost use Rattle.std.specs.Prelude.{◌≡◌, ℕ, ◌+◌, ◌*◌, ◌≤◌, ◌<◌, length, get_or};
 ghost use Rattle.definitions.specs.Limits.{max_entries, tallies_per_span, numbers_per_pair};
 ghost use Rattle.definitions.specs.Context.{Context, full_cut, full_pair};
 ghost use Rattle.region_pairs.specs.Forms.{full_pair_of};
@@ -9,6 +9,7 @@ ghost use Rattle.context.specs.Rows.{PairRows, SpanEnd, Stretch};
 use crate::PartitionContext;
 use definitions::limits::{NUMBERS_PER_PAIR, TALLIES_PER_SPAN};
 pub use region_pairs::{Pair, row_at};
+use std::ops::Range;
 
 // The first row from `first` on whose span is another; `rows` where there is none.
 fn span_end(pairs: &[u32], rows: usize, first: usize, span: usize) -> usize
@@ -36,6 +37,14 @@ pub fn pair_starts(pairs: &[u32], rows: usize, count: usize, starts: &mut [usize
 }
 
 impl PartitionContext<'_> {
+    // The rows of boundary i's pairs.
+    pub fn rows(self, i: usize) -> Range<usize>
+        requires { i < max_entries }
+        ensures { (result.start ≡ get_or self.entry.starts.now i 0) × (result.end ≡ get_or self.entry.starts.now (i + 1) 0) }
+    {
+        self.starts[i]..self.starts[i + 1]
+    }
+
     // The Rust also asks for a pair, and that each pair's labels differ: a span with a separated edge has such pairs only (laws: FullCut).
     pub fn full_cut(self, i: usize) -> bool
         requires { tallies_per_span * i + 1 < length self.tallies.now }
