@@ -9,6 +9,7 @@ pub mod endpoints;
 pub mod numbers;
 pub mod points;
 pub mod ramp_geometry;
+pub mod widths;
 
 use span_geometry::PixelPosition;
 

@@ -1,6 +1,7 @@
 // Points and their distances.
 ghost use Rattle.std.specs.Prelude.{◌≡◌};
 ghost use Rattle.definitions.specs.Geometry.{point, center, distance, point_segment_distance};
+ghost use Rattle.definitions.specs.Junctions.{within_distance};
 ghost use Rattle.laws.specs.FloatLaws.DistanceRange.{DistanceInRange, part_before, nearest_point};
 ghost use Rattle.span_geometry.specs.Shapes.{InLimits, point_of};
 ghost use Rattle.geometry.specs.Forms.{point_form, segment_from};
@@ -34,6 +35,13 @@ pub fn distance(p: Point, q: Point) -> f64
     ensures { DistanceInRange (point_form p) (point_form q) → result ≡ distance (point_form p) (point_form q) }
 {
     hypot(p.x - q.x, p.y - q.y)
+}
+
+// Whether two points are at most a limit apart (`within_distance` of junctions.rs).
+pub fn within_distance(p: Point, q: Point, limit: f64) -> bool
+    ensures { DistanceInRange (point_form p) (point_form q) → result ≡ within_distance (point_form p) (point_form q) limit }
+{
+    distance(p, q) <= limit
 }
 
 // The part of the segment from a to b that lies before the point nearest to p.

@@ -5,6 +5,7 @@
 ghost use Rattle.std.specs.Prelude.{◌≡◌, ◌+◌, ◌*◌, ◌<◌, length};
 ghost use Rattle.definitions.specs.Limits.{numbers_per_pair};
 ghost use Rattle.definitions.specs.Grid.{contains};
+ghost use Rattle.definitions.specs.Context.{other_region};
 ghost use Rattle.laws.specs.RegionLaws.PairRows.{pair_at};
 ghost use Rattle.region_pairs.specs.Forms.{pair_form};
 
@@ -22,6 +23,13 @@ impl Pair {
         ensures { result ≡ contains r (pair_form self) }
     {
         (self.lo == r) | (self.hi == r)
+    }
+
+    // The region of the pair that is not r; the lesser where r is neither.
+    pub fn other(self, r: u32) -> u32
+        ensures { result ≡ other_region r (pair_form self) }
+    {
+        if self.lo == r { self.hi } else { self.lo }
     }
 }
 
