@@ -15,8 +15,10 @@ ghost use Rattle.sheet.specs.Parts as parts;
 ghost use Rattle.sheet.specs.Parts.{kind_number, KindAsked, opened_of, PartTold, ListsTold, SheetTold, PartsHeld, part_of, cells_in, stated_long, room_in, Room};
 ghost use Rattle.sheet.specs.Contract.{header_in, Answered, reading_within};
 
-use definitions::limits::{NUMBERS_PER_ANCHOR, NUMBERS_PER_BOUNDARY, NUMBERS_PER_SPAN};
-use refusals::{Cause, Refusal};
+use definitions::limits::{
+    MAX_ENTRIES, MAX_SIDE, NUMBERS_PER_ANCHOR, NUMBERS_PER_BOUNDARY, NUMBERS_PER_SPAN,
+};
+use refusals::{Cause, Refusal, ensure};
 
 // ---- one number
 
@@ -172,7 +174,7 @@ pub fn fill_numbers(bytes: &[u8], at: usize, count: usize, out: &mut [u64])
     ensures { out.new ≡ overwrite (values_at grammar.number bytes.now at count) out.old }
 {
     let mut next = at;
-    // Kept: i is also the place from which `fill_rest` goes on.
+    // Kept: i is also the place from which `fill_rest` goes on, and of entries that `iter_mut` lends with `enumerate` a proof knows nothing behind the loop.
     for i in 0..count {
         let Some(read) = short_at(bytes, next) else {
             fill_rest(bytes, next, &mut out[i..count]);
@@ -184,7 +186,7 @@ pub fn fill_numbers(bytes: &[u8], at: usize, count: usize, out: &mut [u64])
 }
 
 // Fills a list with cells that were judged before.
-// Kept: beside `fill_rest`: one function of both would need a trait with the greatest number and the conversion of either type, which is longer than this loop.
+// Kept: beside `fill_rest`: one function over `T: TryFrom<u64>` could promise of each entry only that the conversion gave it, and not the list of the numbers.
 fn fill_cells(bytes: &[u8], at: usize, out: &mut [u8])
     requires { Held cell bytes.now at (length out.old) }
     ensures { out.new ≡ values_at cell bytes.now at (length out.old) }
@@ -201,14 +203,24 @@ fn fill_cells(bytes: &[u8], at: usize, out: &mut [u8])
 
 // ---- the parts of a sheet
 
-// The kind of a sheet that states a map: its spans stand in it, or its boundaries serve as spans.
+// The kind of a sheet that states a map, with its number: its spans stand in it, or its boundaries serve as spans.
 #[derive(Clone, Copy)]
 pub enum Kind {
-    OwnSpans,
-    SharedSpans,
+    OwnSpans = 1,
+    SharedSpans = 3,
 }
 
+// The kind of a sheet that states what a run found.
+pub const RESULT_KIND: u64 = 2;
+
 impl Kind {
+    // The number that a sheet of this kind begins with.
+    pub fn number(self) -> u64
+        ensures { result ≡ kind_number self }
+    {
+        self as u64
+    }
+
     pub fn has_spans(self) -> bool
         ensures { result ≡ has_spans (kind_number self) }
     {
@@ -256,12 +268,10 @@ fn opening(bytes: &[u8]) -> Result<Found<Heading>, Refusal>
     })
 }
 
-const SIDE_MOST: u64 = 1024;
-
 fn is_side(side: u64) -> bool
     ensures { result ≡ is_side side }
 {
-    (1..=SIDE_MOST).contains(&side)
+    (1..=MAX_SIDE).contains(&side)
 }
 
 // Both sides are in range, and the cells are not too many.
@@ -285,12 +295,7 @@ fn sides(bytes: &[u8], at: usize, limit: u64) -> Result<Found<Extent>, Refusal>
 {
     let width = item(bytes, at, u64::MAX)?;
     let height = item(bytes, width.next, u64::MAX)?;
-    if !area_allowed(width.value, height.value, limit) {
-        return Err(Refusal {
-            cause: Cause::Sides,
-            place: 0,
-        });
-    }
+    ensure(area_allowed(width.value, height.value, limit), Cause::Sides)?;
     Ok(Found {
         value: Extent {
             width: width.value as usize,
@@ -308,20 +313,13 @@ pub struct Part {
     pub count: usize,
 }
 
-const ENTRIES_MOST: u64 = 256;
-
 // A count and so many entries, each of `size` numbers.
 fn entries(bytes: &[u8], at: usize, size: usize) -> Result<Found<Part>, Refusal>
     requires { (at ≤ length bytes.now) × (size ≤ 9) }
     ensures { PartTold (entries size) bytes.now at result }
 {
     let count = item(bytes, at, u64::MAX)?;
-    if ENTRIES_MOST < count.value {
-        return Err(Refusal {
-            cause: Cause::Entries,
-            place: 0,
-        });
-    }
+    ensure(count.value <= MAX_ENTRIES as u64, Cause::Entries)?;
     let first = count.next;
     let numbers = count.value as usize * size;
     let next = judge(bytes, first, numbers, u64::MAX)?;
@@ -462,13 +460,12 @@ fn fits(
 }
 
 // Stores the endpoints of boundary i as span i.
-fn put_endpoints(boundaries: &[u64], i: usize, spans: &mut [u64])
-    requires { (9 * i + 9 ≤ length boundaries.now) × (4 * i + 4 ≤ length spans.old) }
-    ensures { spans.new ≡ sets spans.old (4 * i) (endpoints (segment_at boundaries.now (9 * i))) }
+fn put_endpoints(boundary: &[u64; NUMBERS_PER_BOUNDARY], i: usize, spans: &mut [u64])
+    requires { 4 * i + 4 ≤ length spans.old }
+    ensures { spans.new ≡ sets spans.old (4 * i) (endpoints (segment_at boundary.now 0)) }
 {
-    let k = NUMBERS_PER_BOUNDARY * i;
     let place = NUMBERS_PER_SPAN * i;
-    spans[place..place + NUMBERS_PER_SPAN].copy_from_slice(&boundaries[k..k + NUMBERS_PER_SPAN]);
+    spans[place..place + NUMBERS_PER_SPAN].copy_from_slice(&boundary[..NUMBERS_PER_SPAN]);
 }
 
 // Stores the endpoints of the first boundaries, so many of them, as spans.
@@ -476,9 +473,9 @@ pub fn fill_endpoints(boundaries: &[u64], count: usize, spans: &mut [u64])
     requires { (9 * count ≤ length boundaries.now) × (4 * count ≤ length spans.old) }
     ensures { spans.new ≡ overwrite (endpoints_in count boundaries.now) spans.old }
 {
-    // Kept: both lists may have more behind these, so that their chunks, zipped, would be cut off by a third adapter.
-    for i in 0..count {
-        put_endpoints(boundaries, i, &mut *spans);
+    let (boundaries, _) = boundaries.as_chunks::<NUMBERS_PER_BOUNDARY>();
+    for (i, boundary) in boundaries[..count].iter().enumerate() {
+        put_endpoints(boundary, i, &mut *spans);
     }
 }
 
@@ -571,19 +568,15 @@ pub fn read_within(
     let plan = judge_sheet(bytes, limit)?;
     let parts = plan.parts;
     let stated = stated_length(plan.kind, parts);
-    if !fits(
+    let room = fits(
         parts,
         stated,
         cells.len(),
         spans.len(),
         boundaries.len(),
         anchors.len(),
-    ) {
-        return Err(Refusal {
-            cause: Cause::Room,
-            place: 0,
-        });
-    }
+    );
+    ensure(room, Cause::Room)?;
     fill(bytes, plan.kind, parts, cells, spans, boundaries, anchors);
     Ok(header_of(plan, stated))
 }
