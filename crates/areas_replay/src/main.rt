@@ -1,5 +1,5 @@
-// Replays stored cases of the partition. Standard input is one case after the other: the numbers of an `Opening`, and a sheet, which gives the cells and the spans.
-// Of each case it writes the answer and what the lists hold.
+// Replays stored cases of the partition. Standard input is one case after the other: the numbers of an `Opening`, and a sheet, which gives the cells and the
+// spans. Of each case it writes the answer and what the lists hold.
 
 #![tactic(auto)]
 

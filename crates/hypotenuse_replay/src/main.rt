@@ -1,5 +1,5 @@
-// Replays stored answers of the hypotenuse. Each line of standard input is 'X Y NUMBER ROOT': the bits of two doubles, 0 or 13, and the bits of the value. It writes how many of the answers are
-// ours, and before that the numbers of the first lines that have another.
+// Replays stored answers of the hypotenuse. Each line of standard input is 'X Y NUMBER ROOT': the bits of two doubles, 0 or 13, and the bits of the value. It
+// writes how many of the answers are ours, and before that the numbers of the first lines that have another.
 
 #![tactic(auto)]
 
@@ -129,8 +129,8 @@ fn replay_line<W: Write>(output: &mut W, s: &[u8], lines: u64, answers: u64) -> 
     Ok(0)
 }
 
-// Counts the lines of s on top of those before, and lists the first that have another answer. Answers the counts, and how many bytes there are up to the last line's
-// end.
+// Counts the lines of s on top of those before, and lists the first that have another answer. Answers the counts, and how many bytes there are up to the last
+// line's end.
 fn replay<W: Write>(output: &mut W, s: &[u8], before: Tally) -> io::Result<(Tally, usize)>
     requires { before.lines + length s.now < 2 ^ 64 }
     ensures { IfOk result (λ r. (r.0.lines ≡ before.lines + lines_in s.now) × (r.0.answers ≡ before.answers + answers_in [] s.now)

@@ -14,7 +14,8 @@ ghost use Rattle.sheet.specs.Numbers.{read_of, items_at, Told};
 ghost use Rattle.results.specs.Result.{labels_fault};
 ghost use Rattle.result_writer.specs.Contract.{key_in};
 ghost use Rattle.result_reader.specs.Walks.{turns_from, Walks, ascent_of, ascent_from};
-ghost use Rattle.result_reader.specs.Parts.{turns_fault, no_fault, key_fault, ListTold, OpeningTold, FrontTold, BackTold, ResultTold, plan_by, PlanHeld, PartHeld, part_numbers, room_in, Room};
+ghost use Rattle.result_reader.specs.Parts.{turns_fault, no_fault, key_fault, ListTold, OpeningTold, FrontTold, BackTold, ResultTold, plan_by};
+ghost use Rattle.result_reader.specs.Parts.{PlanHeld, PartHeld, part_numbers, room_in, Room};
 ghost use Rattle.result_reader.specs.Contract.{answer_in, refused_by, Reads};
 
 use definitions::limits::{NUMBERS_PER_PAIR, NUMBERS_PER_ROW, TALLIES_PER_SPAN};

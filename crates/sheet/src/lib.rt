@@ -12,7 +12,9 @@ ghost use Rattle.definitions.specs.Grid.{segment_at};
 ghost use Rattle.definitions.specs.Sheet.{cell, entries, has_spans, spans_held, spans_stated, endpoints, endpoints_in, read_verdict};
 ghost use Rattle.sheet.specs.Numbers.{read_of, up_to, items_at, Told, ShortTold, Held, values_at};
 ghost use Rattle.sheet.specs.Parts as parts;
-ghost use Rattle.sheet.specs.Parts.{kind_number, KindAsked, opened_of, PartTold, ListsTold, SheetTold, PartsHeld, part_of, cells_in, stated_long, room_in, Room};
+ghost use Rattle.sheet.specs.Parts.{kind_number, KindAsked, opened_of, PartTold, ListsTold, SheetTold, PartsHeld, part_of, cells_in, stated_long};
+ghost use Rattle.sheet.specs.Parts.{room_in, Room};
+ghost use Rattle.sheet.specs.Lists.{Filled, SameLists};
 ghost use Rattle.sheet.specs.Contract.{header_in, Answered, reading_within};
 
 use definitions::limits::{
@@ -442,23 +444,6 @@ fn stated_length(kind: Kind, parts: Parts) -> usize
     }
 }
 
-// Lists of these lengths have room for the sheet, whose spans have so many numbers.
-fn fits(
-    parts: Parts,
-    stated: usize,
-    cells: usize,
-    spans: usize,
-    boundaries: usize,
-    anchors: usize,
-) -> bool
-    ensures { result ≡ room_in parts stated cells spans boundaries anchors }
-{
-    parts.cells.count <= cells
-        && stated <= spans
-        && parts.boundaries.count <= boundaries
-        && parts.anchors.count <= anchors
-}
-
 // Stores the endpoints of boundary i as span i.
 fn put_endpoints(boundary: &[u64; NUMBERS_PER_BOUNDARY], i: usize, spans: &mut [u64])
     requires { 4 * i + 4 ≤ length spans.old }
@@ -500,43 +485,57 @@ fn fill_spans(
     fill_endpoints(boundaries, count, &mut *spans);
 }
 
-// Fills the lists with what was judged before.
-// Kept: the four lists by themselves: a struct of them would be made in `read_within` alone, and its contract would say of each that it is still the list that was lent.
-fn fill(
-    bytes: &[u8],
-    kind: Kind,
-    parts: Parts,
-    cells: &mut [u8],
-    spans: &mut [u64],
-    boundaries: &mut [u64],
-    anchors: &mut [u64],
-)
-    requires held { PartsHeld bytes.now parts }
-    requires room { Room parts (stated_long (kind_number kind) parts) (length cells.old) (length spans.old)
-        (length boundaries.old) (length anchors.old) }
-    ensures cells { cells.new ≡ overwrite (cells_in bytes.now parts) cells.old }
-    ensures spans { spans.new
-        ≡ overwrite (spans_stated (has_spans (kind_number kind)) (part_of bytes.now parts.spans) (part_of bytes.now parts.boundaries))
-        spans.old }
-    ensures boundaries { boundaries.new ≡ overwrite (part_of bytes.now parts.boundaries) boundaries.old }
-    ensures anchors { anchors.new ≡ overwrite (part_of bytes.now parts.anchors) anchors.old }
-{
-    fill_cells(bytes, parts.cells.first, &mut cells[..parts.cells.count]);
-    fill_numbers(
-        bytes,
-        parts.boundaries.first,
-        parts.boundaries.count,
-        &mut *boundaries,
-    );
-    fill_spans(
-        bytes,
-        kind,
-        parts.spans,
-        &*boundaries,
-        parts.boundaries.count / NUMBERS_PER_BOUNDARY,
-        spans,
-    );
-    fill_numbers(bytes, parts.anchors.first, parts.anchors.count, anchors);
+// The lists that are lent for what a sheet states.
+#[derive(Drop)]
+struct SheetLists<'a> {
+    cells: &'a mut [u8],
+    spans: &'a mut [u64],
+    boundaries: &'a mut [u64],
+    anchors: &'a mut [u64],
+}
+
+impl SheetLists<'_> {
+    // They have room for the sheet, whose spans have so many numbers.
+    fn have_room(&self, parts: Parts, stated: usize) -> bool
+        ensures { result
+            ≡ room_in parts stated (length self.now.cells.now) (length self.now.spans.now)
+            (length self.now.boundaries.now) (length self.now.anchors.now) }
+    {
+        parts.cells.count <= self.cells.len()
+            && stated <= self.spans.len()
+            && parts.boundaries.count <= self.boundaries.len()
+            && parts.anchors.count <= self.anchors.len()
+    }
+
+    // Fills them with what was judged before.
+    fn fill(&mut self, bytes: &[u8], kind: Kind, parts: Parts)
+        requires held { PartsHeld bytes.now parts }
+        requires room { Room parts (stated_long (kind_number kind) parts) (length self.old.cells.now) (length self.old.spans.now)
+            (length self.old.boundaries.now) (length self.old.anchors.now) }
+        ensures filled { Filled bytes.now kind parts self.old self.new }
+        ensures same { SameLists self.old self.new }
+    {
+        fill_cells(
+            bytes,
+            parts.cells.first,
+            &mut self.cells[..parts.cells.count],
+        );
+        let boundaries = &mut *self.boundaries;
+        fill_numbers(
+            bytes,
+            parts.boundaries.first,
+            parts.boundaries.count,
+            boundaries,
+        );
+        let count = parts.boundaries.count / NUMBERS_PER_BOUNDARY;
+        fill_spans(bytes, kind, parts.spans, &*boundaries, count, self.spans);
+        fill_numbers(
+            bytes,
+            parts.anchors.first,
+            parts.anchors.count,
+            self.anchors,
+        );
+    }
 }
 
 fn header_of(plan: Plan, stated: usize) -> Header
@@ -568,16 +567,14 @@ pub fn read_within(
     let plan = judge_sheet(bytes, limit)?;
     let parts = plan.parts;
     let stated = stated_length(plan.kind, parts);
-    let room = fits(
-        parts,
-        stated,
-        cells.len(),
-        spans.len(),
-        boundaries.len(),
-        anchors.len(),
-    );
-    ensure(room, Cause::Room)?;
-    fill(bytes, plan.kind, parts, cells, spans, boundaries, anchors);
+    let mut lists = SheetLists {
+        cells,
+        spans,
+        boundaries,
+        anchors,
+    };
+    ensure(lists.have_room(parts, stated), Cause::Room)?;
+    lists.fill(bytes, plan.kind, parts);
     Ok(header_of(plan, stated))
 }
 
