@@ -40,6 +40,7 @@ fn ill_formed(group: usize, byte: u64) -> bool
 
 // The number at an offset, in groups of seven bits, least first. It is refused at its first byte where it is too long or padded, and at the end of the bytes
 // where they end before it does.
+// Kept: bytes and offset as two parameters: a reader of both would spare each contract that the offset is inside, and ask of each that the bytes stay the same.
 pub fn number(bytes: &[u8], at: usize) -> Result<Found<u64>, Refusal>
     requires { at ≤ length bytes.now }
     ensures { grammar.number at (drop at bytes.now) ≡ read_of bytes.now result }
@@ -205,7 +206,7 @@ fn fill_cells(bytes: &[u8], at: usize, out: &mut [u8])
 
 // ---- the parts of a sheet
 
-// The kind of a sheet that states a map, with its number: its spans stand in it, or its boundaries serve as spans.
+// The kind of a sheet that states a map, and the number that it begins with: its spans stand in it, or its boundaries serve as spans.
 #[derive(Clone, Copy)]
 pub enum Kind {
     OwnSpans = 1,
@@ -216,13 +217,6 @@ pub enum Kind {
 pub const RESULT_KIND: u64 = 2;
 
 impl Kind {
-    // The number that a sheet of this kind begins with.
-    pub fn number(self) -> u64
-        ensures { result ≡ kind_number self }
-    {
-        self as u64
-    }
-
     pub fn has_spans(self) -> bool
         ensures { result ≡ has_spans (kind_number self) }
     {

@@ -1,5 +1,5 @@
--- `result_reader::fill` meets its contract: each list is filled by one call, and the others do not touch it. Assumes nothing.
-use Rattle.result_reader.proofs.fill.Goals as goal
+-- `ResultLists::fill` meets its contract: each list is filled by one call, and the others do not touch it. Assumes nothing.
+use Rattle.result_reader.proofs.ResultLists.fill.Goals as goal
 
 pub fill_list-requires : goal.fill_list-requires
 fill_list-requires c =
@@ -21,8 +21,8 @@ fill_list-requires-4 c =
     let given = c.requires in
     (given.held.for_rows, given.room.for_rows)
 
-pub returns : goal.returns
-returns c =
+pub returns-clause-filled : goal.returns-clause-filled
+returns-clause-filled c =
     record {
       labels = c.fill_list.ensures;
       tallies = c.fill_list-2.ensures;
