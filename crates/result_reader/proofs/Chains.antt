@@ -1,7 +1,7 @@
 -- The parts of a result sheet, reader by reader: each chain fails as its first failing part and otherwise goes on with the next. Assumes nothing.
 use Prim.Native.Nat.{ℕ, ◌≤◌, ◌<◌}
 use native.Mathlib.Omega.{arith}
-use mathlib.Core.Path.{◌≡◌, refl, sym, ap, subst, ◌∙◌}
+use mathlib.Core.Path.{◌≡◌, refl, sym, ap, ◌∙◌}
 use mathlib.Core.List.{List, [], ◌∷◌}
 use lib.ListN.{length, drop, get_or, drop_of_length-le}
 use lib.Seq.{drop-cons}
@@ -17,7 +17,7 @@ use Rattle.results.specs.Result.{Entry, Placed, result_of, kind, entry, entries,
 use Rattle.results.specs.ResultAnswers.{ResultReading, well_formed, refused, judged_by, reading, read_result}
 use Rattle.result_writer.proofs.Ascending.{as_pairs}
 use Rattle.result_reader.specs.Parts.{turns_fault, no_fault, key_fault, ListHeld, opening, Lists₂, front, back, part_entries, OpeningHeld, FrontHeld, BackHeld, result_in, ResultHeld}
-use Rattle.std.specs.Prelude.{Option, None, Some, Result}
+use Rattle.std.specs.Prelude.{Option, None, Some}
 use Rattle.refusals.specs.declared.Refusal.{Refusal}
 use Rattle.refusals.specs.Refusals.{number_of, refusal_of}
 use Rattle.sheet.specs.declared.Part.{Part}

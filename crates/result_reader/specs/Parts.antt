@@ -1,5 +1,5 @@
 -- The grammar of a result sheet in three parts, one behind the other, and what the functions on them answer. Assumes nothing.
-use Rattle.std.specs.Prelude.{ℕ, ◌*◌, ◌≤◌, ◌≡◌, Bool, ◌&&◌, List, [], ◌∷◌, length, drop, leb, Option, None, Some, Result, Ok, Err}
+use Rattle.std.specs.Prelude.{ℕ, ◌*◌, ◌≤◌, ◌≡◌, Bool, ◌&&◌, List, [], ◌∷◌, length, drop, leb, Option, None, Result, Ok, Err}
 use Rattle.definitions.specs.Limits.{tallies_per_span, numbers_per_pair, numbers_per_row}
 use Rattle.definitions.specs.Refusals.{or_else}
 use Rattle.definitions.specs.Scan.{concat_map}

@@ -8,14 +8,8 @@ use Rattle.result_reader.proofs.judge_result.Goals as goal
 pub returns-in_err-opening : goal.returns-in_err-opening
 returns-in_err-opening c = rw (passed _ c.from_residual.ensures.1) (result_unopened _ c.in_err-opening.ensures)
 
-pub front-requires : goal.front-requires
-front-requires c = c.in_ok-opening.ensures.behind
-
 pub returns-in_err-front : goal.returns-in_err-front
 returns-in_err-front c = rw (passed _ c.from_residual-in_err-front.ensures.1) (result_no_front _ c.in_ok-opening.ensures.same c.in_err-front.ensures)
-
-pub back-requires : goal.back-requires
-back-requires c = c.in_ok-front.ensures.behind
 
 pub returns-in_err-back : goal.returns-in_err-back
 returns-in_err-back c = rw (passed _ c.from_residual-in_err-back.ensures.1) (result_no_back _ c.in_ok-opening.ensures.same c.in_ok-front.ensures.same c.in_err-back.ensures)

@@ -2,7 +2,7 @@
 use Rattle.std.proofs.Common.{rules, sym, refl, ◌∙◌}
 use Rattle.refusals.proofs.Steps.{holds}
 use Rattle.sheet.proofs.Passed.{passed, refuses}
-use Rattle.result_reader.proofs.Answering.{room-known, answered-read, answered-short, answered-refused}
+use Rattle.result_reader.proofs.Answering.{answered-read, answered-short, answered-refused}
 use Rattle.result_reader.proofs.read_result.Goals as goal
 
 pub returns-in_err-plan : goal.returns-in_err-plan
@@ -12,13 +12,6 @@ pub returns-in_err-ensure : goal.returns-in_err-ensure
 returns-in_err-ensure c =
     let r = refuses 10 _ _ c.in_err-ensure.ensures in
     rw (passed _ c.from_residual-in_err-ensure.ensures.1) (answered-short c.in_ok-plan.ensures _ _ _ _ _ (sym c.have_room.ensures ∙ r.0) r.1)
-
-pub fill-requires : goal.fill-requires
-fill-requires c =
-    record {
-      held = c.in_ok-plan.ensures.held;
-      room = room-known (sym c.have_room.ensures ∙ holds 10 _ c.in_ok-ensure.ensures);
-    }
 
 pub returns : goal.returns
 returns c =
