@@ -3,25 +3,13 @@ use native.Mathlib.Omega.{arith}
 use borrow.Author.Tests.{leb-true, leb-false}
 use Rattle.refusals.proofs.Steps.{holds}
 use Rattle.sheet.proofs.Passed.{passed, refuses, answer_as}
-use Rattle.sheet_converter.proofs.Cutting.{bytes-known, cut_is, cut-long, cut-ordered, cut-known}
+use Rattle.sheet_converter.proofs.Cutting.{bytes-known, cut_is, cut-long, cut-known}
 use Rattle.sheet_converter.proofs.Answering.{plan-refused, plan-short, plan-put}
 use Rattle.sheet_converter.proofs.convert_plan.Goals as goal
-
-pub plan_check-requires : goal.plan_check-requires
-plan_check-requires c =
-    c.requires
 
 pub returns-in_err-plan_check : goal.returns-in_err-plan_check
 returns-in_err-plan_check c =
     rw (passed _ c.from_residual.ensures.1) (plan-refused c.args.bytes.now c.args.plan c.args.out.now c.in_err-plan_check.ensures)
-
-pub overflow_sub-bytes : goal.overflow_sub-bytes
-overflow_sub-bytes c =
-    omega (arith, c.requires.held.stands.spans_stand.spans-inside)
-
-pub overflow_add-front : goal.overflow_add-front
-overflow_add-front c =
-    omega (arith, c.requires.held.stands.spans_stand.spans-inside, cut-ordered (bytes-known c.args.bytes.now (λ i. omega (arith, c.shared_slice_known-1.given i))) c.requires.held c.requires.old)
 
 pub returns-in_err-ensure : goal.returns-in_err-ensure
 returns-in_err-ensure c =
