@@ -41,16 +41,11 @@ fn digit(b: u8) -> u64
 }
 
 // The number that up to sixteen digits stand for.
-// Kept: by hand: `from_str_radix` takes capitals and a sign, and refuses other bytes, which `digit_of` takes for 0.
 fn number(s: &[u8], base: u64) -> u64
     requires { (length s.now ≤ 16) × (base ≤ 16) }
     ensures { result ≡ digits_after base 0 s.now }
 {
-    let mut n = 0;
-    for &b in s {
-        n = n * base + digit(b);
-    }
-    n
+    s.iter().fold(0, |n, &b| n * base + digit(b))
 }
 
 // The double of these bits. All NaNs are one to us, and their bits are not made a double.
