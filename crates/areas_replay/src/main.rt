@@ -1,14 +1,22 @@
-// Replays stored cases of the partition. Standard input is one case after the other: the numbers of an `Opening`, and a sheet, which gives the cells and the spans.
-// Of each case it writes the answer and what the lists hold.
+// Replays stored cases of the partition. Standard input is one case after the other: the numbers of an `Opening`, and a sheet, which gives the cells and the
+// spans. Of each case it writes the answer and what the lists hold.
 
 #![tactic(auto)]
 
 use areas::partition;
+use definitions::limits::{
+    MAX_ENTRIES, NUMBERS_PER_ANCHOR, NUMBERS_PER_BOUNDARY, NUMBERS_PER_SPAN,
+};
 use replay_lists::{LentRoom, Opening, length_within, replay_cases, write_partition};
-use sheet::read_sheet;
+use sheet::{CELLS_MOST, read_sheet};
 use std::io;
 use std::io::Write;
 use streams::write_bytes;
+
+// A cell more than a sheet that is run has, and a span more than a list may have, so that a case can pass on too many.
+const CELLS: usize = CELLS_MOST as usize + 1;
+
+const SPANS: usize = MAX_ENTRIES + 1;
 
 // Lends what the opening says to the partition.
 fn lend<W: Write>(out: &mut W, opening: &Opening, cells: &[u8], spans: &[u64]) -> io::Result<()> {
@@ -28,10 +36,10 @@ fn lend<W: Write>(out: &mut W, opening: &Opening, cells: &[u8], spans: &[u64]) -
 }
 
 fn replay<W: Write>(out: &mut W, opening: &Opening, bytes: &[u8]) -> io::Result<()> {
-    let mut cells = [0u8; 4097];
-    let mut spans = [0u64; 1028];
-    let mut boundaries = [0u64; 2304];
-    let mut anchors = [0u64; 512];
+    let mut cells = [0u8; CELLS];
+    let mut spans = [0u64; NUMBERS_PER_SPAN * SPANS];
+    let mut boundaries = [0u64; NUMBERS_PER_BOUNDARY * MAX_ENTRIES];
+    let mut anchors = [0u64; NUMBERS_PER_ANCHOR * MAX_ENTRIES];
     match read_sheet(bytes, &mut cells, &mut spans, &mut boundaries, &mut anchors) {
         Ok(_) => lend(out, opening, &cells, &spans),
         Err(_) => write_bytes(out, b"no sheet\n"),

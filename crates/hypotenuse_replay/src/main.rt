@@ -1,5 +1,5 @@
-// Replays stored answers of the hypotenuse. Each line of standard input is 'X Y NUMBER ROOT': the bits of two doubles, 0 or 13, and the bits of the value. It writes how many of the answers are
-// ours, and before that the numbers of the first lines that have another.
+// Replays stored answers of the hypotenuse. Each line of standard input is 'X Y NUMBER ROOT': the bits of two doubles, 0 or 13, and the bits of the value. It
+// writes how many of the answers are ours, and before that the numbers of the first lines that have another.
 
 #![tactic(auto)]
 
@@ -41,16 +41,11 @@ fn digit(b: u8) -> u64
 }
 
 // The number that up to sixteen digits stand for.
-// Kept: by hand: `from_str_radix` takes capitals and a sign, and refuses other bytes, which `digit_of` takes for 0.
 fn number(s: &[u8], base: u64) -> u64
     requires { (length s.now ≤ 16) × (base ≤ 16) }
     ensures { result ≡ digits_after base 0 s.now }
 {
-    let mut n = 0;
-    for &b in s {
-        n = n * base + digit(b);
-    }
-    n
+    s.iter().fold(0, |n, &b| n * base + digit(b))
 }
 
 // The double of these bits. All NaNs are one to us, and their bits are not made a double.
@@ -129,8 +124,8 @@ fn replay_line<W: Write>(output: &mut W, s: &[u8], lines: u64, answers: u64) -> 
     Ok(0)
 }
 
-// Counts the lines of s on top of those before, and lists the first that have another answer. Answers the counts, and how many bytes there are up to the last line's
-// end.
+// Counts the lines of s on top of those before, and lists the first that have another answer. Answers the counts, and how many bytes there are up to the last
+// line's end.
 fn replay<W: Write>(output: &mut W, s: &[u8], before: Tally) -> io::Result<(Tally, usize)>
     requires { before.lines + length s.now < 2 ^ 64 }
     ensures { IfOk result (λ r. (r.0.lines ≡ before.lines + lines_in s.now) × (r.0.answers ≡ before.answers + answers_in [] s.now)

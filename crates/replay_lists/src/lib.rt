@@ -16,6 +16,9 @@ use streams::read_full;
 // Reading ends after so many cases at the latest.
 const CASES: u64 = 65536;
 
+// A case lends lists of at most so many entries.
+pub const ENTRIES_LENT: usize = 4096;
+
 // ---- what a list held before the call
 
 // Entry i: no number of an answer on maps of so few cells is one of these.
@@ -26,7 +29,7 @@ fn held_before(i: usize) -> u16
 }
 
 // Masks, numbers or wide numbers.
-pub fn entries_before<T: From<u16>>() -> [T; 4096]
+pub fn entries_before<T: From<u16>>() -> [T; ENTRIES_LENT]
     ensures { HeldBefore T.from_gives 4096 result }
 {
     array::from_fn(|i| T::from(held_before(i)))
@@ -72,7 +75,7 @@ pub struct Written {
 fn lent<T>(list: &[T]) -> &[T]
     ensures { result.now ≡ take 4096 list.now }
 {
-    &list[..list.len().min(4096)]
+    &list[..list.len().min(ENTRIES_LENT)]
 }
 
 // Writes a list's entries as far as they changed, and how many behind them are as they were. Answers how many entries it wrote.
@@ -158,7 +161,7 @@ pub struct Opening {
 }
 
 // Number k of an opening.
-fn number(opening: &[u8; 30], k: usize) -> u16
+fn number(opening: &[u8; OPENING], k: usize) -> u16
     requires { k < 15 }
 {
     u16::from_le_bytes([opening[2 * k], opening[2 * k + 1]])
@@ -171,8 +174,8 @@ pub fn length_within(asked: u16, most: usize) -> usize
     usize::from(asked).min(most)
 }
 
-impl From<[u8; 30]> for Opening {
-    fn from(bytes: [u8; 30]) -> Opening {
+impl From<[u8; OPENING]> for Opening {
+    fn from(bytes: [u8; OPENING]) -> Opening {
         Opening {
             pass: number(&bytes, 0),
             width: number(&bytes, 1),
@@ -196,7 +199,7 @@ impl From<[u8; 30]> for Opening {
 impl Opening {
     // Reads what the next case begins with; none where the input ends before.
     pub fn read<R: Read>(input: &mut R) -> io::Result<Option<Opening>> {
-        let mut bytes = [0u8; 30];
+        let mut bytes = [0u8; OPENING];
         if read_full(input, &mut bytes)? < OPENING {
             return Ok(None);
         }
@@ -217,11 +220,11 @@ impl Opening {
 // The lists that a partition fills, each with as many entries as a case can lend.
 #[derive(Clone, Copy)]
 pub struct LentRoom {
-    labels: [u32; 4096],
-    masks: [u16; 4096],
-    queue: [u32; 4096],
-    tallies: [u32; 4096],
-    pairs: [u32; 4096],
+    labels: [u32; ENTRIES_LENT],
+    masks: [u16; ENTRIES_LENT],
+    queue: [u32; ENTRIES_LENT],
+    tallies: [u32; ENTRIES_LENT],
+    pairs: [u32; ENTRIES_LENT],
 }
 
 impl LentRoom {
@@ -245,11 +248,11 @@ impl LentRoom {
             pairs,
         } = self;
         PartitionLists {
-            labels: &mut labels[..length_within(opening.labels, 4096)],
-            masks: &mut masks[..length_within(opening.masks, 4096)],
-            queue: &mut queue[..length_within(opening.queue, 4096)],
-            tallies: &mut tallies[..length_within(opening.tallies, 4096)],
-            pairs: &mut pairs[..length_within(opening.pairs, 4096)],
+            labels: &mut labels[..length_within(opening.labels, ENTRIES_LENT)],
+            masks: &mut masks[..length_within(opening.masks, ENTRIES_LENT)],
+            queue: &mut queue[..length_within(opening.queue, ENTRIES_LENT)],
+            tallies: &mut tallies[..length_within(opening.tallies, ENTRIES_LENT)],
+            pairs: &mut pairs[..length_within(opening.pairs, ENTRIES_LENT)],
         }
     }
 }

@@ -18,7 +18,7 @@ use Rattle.result_reader.specs.Contract.{refused_at, refused_by, answer_of, answ
 use Rattle.std.specs.Prelude.{Option, None, Some}
 use Rattle.std.specs.Option.{option_or}
 use Rattle.refusals.specs.declared.Refusal.{Refusal}
-use Rattle.refusals.specs.Refusals.{number_of}
+use Rattle.refusals.specs.Refusals.{number_of, refusal_of}
 use Rattle.result_reader.specs.declared.Plan.{Plan}
 use Rattle.result_reader.specs.declared.ResultAnswer.{ResultAnswer}
 
@@ -99,11 +99,12 @@ module _ {bytes : List ℕ} {plan : Plan} (R : ResultHeld bytes plan) where
         ∙ (λ i. cond (leb (labels_long_lem i) (length labels) && leb (tallies_long_lem i) (length tallies) && leb (pairs_long_lem i) (length pairs) && leb (rows_long i) (length rows))
         (well_formed (result_in bytes plan)) (refused 10 0))
 
-    pub answered-short : {answer : ResultAnswer} → room_in plan (length labels) (length tallies) (length pairs) (length rows) ≡ false → answer ≡ refused_at 10 0
-        → Answered (read_verdict bytes (length labels) (length tallies) (length pairs) (length rows)) labels tallies pairs rows answer labels tallies pairs rows
-    answered-short h e =
+    pub answered-short : (refusal : Refusal) → room_in plan (length labels) (length tallies) (length pairs) (length rows) ≡ false
+        → refusal_of refusal ≡ record { number = 10; place = 0 }
+        → Answered (read_verdict bytes (length labels) (length tallies) (length pairs) (length rows)) labels tallies pairs rows (refused_by refusal) labels tallies pairs rows
+    answered-short refusal h e =
         let v : read_verdict bytes (length labels) (length tallies) (length pairs) (length rows) ≡ refused 10 0 = by_room ∙ ap (λ t. cond t (well_formed (result_in bytes plan)) (refused 10 0)) h in
-        rw v (record { said = e; labels-left = refl; tallies-left = refl; pairs-left = refl; rows_left = refl })
+        rw v (record { said = ap (λ x. refused_at x.number x.place) e; labels-left = refl; tallies-left = refl; pairs-left = refl; rows_left = refl })
 
     pub answered-read : {answer : ResultAnswer} {labels' tallies' pairs' rows' : List ℕ} → room_in plan (length labels) (length tallies) (length pairs) (length rows) ≡ true
         → answer ≡ answer_in plan → labels' ≡ overwrite (part_numbers 1 bytes plan.labels) labels → tallies' ≡ overwrite (part_numbers tallies_per_span bytes plan.tallies) tallies

@@ -1,23 +1,25 @@
 -- The parts of a result sheet, reader by reader: each chain fails as its first failing part and otherwise goes on with the next. Assumes nothing.
 use Prim.Native.Nat.{ℕ, ◌≤◌, ◌<◌}
 use native.Mathlib.Omega.{arith}
-use mathlib.Core.Path.{◌≡◌, refl, sym, ap, subst, ◌∙◌}
+use mathlib.Core.Path.{◌≡◌, refl, sym, ap, ◌∙◌}
 use mathlib.Core.List.{List, [], ◌∷◌}
 use lib.ListN.{length, drop, get_or, drop_of_length-le}
 use lib.Seq.{drop-cons}
 use borrow.Author.Tests.{eq-eqb, ne_eqb}
 use Rattle.definitions.specs.Limits.{tallies_per_span, numbers_per_pair, numbers_per_row}
-use Rattle.definitions.specs.Refusals.{or_else}
+use Rattle.definitions.specs.Refusals.{Refusal as by_number, or_else}
+use Rattle.definitions.specs.Verdict.{refusal}
 use Rattle.definitions.specs.SheetNumber.{found, failed, number}
 use Rattle.definitions.specs.Sheet.{give, and_then, end}
 use Rattle.laws.specs.SheetReading.SheetLaws.{keeps-number, ends-inside, then_found, then-failed}
 use Rattle.sheet.proofs.Chains.{alike, within}
 use Rattle.results.specs.Result.{Entry, Placed, result_of, kind, entry, entries, result, ascent_fault, pair_key, rules_fault}
-use Rattle.results.specs.ResultAnswers.{refused, judged_by, reading, read_result}
+use Rattle.results.specs.ResultAnswers.{ResultReading, well_formed, refused, judged_by, reading, read_result}
 use Rattle.result_writer.proofs.Ascending.{as_pairs}
-use Rattle.result_reader.specs.Parts.{turns_fault, no_fault, key_fault, ListHeld, opening, Lists₂, front, back, part_entries, OpeningHeld, FrontHeld, BackHeld, result_in, plan_by, ResultTold}
-use Rattle.std.specs.Prelude.{Option, None, Some, Result}
+use Rattle.result_reader.specs.Parts.{turns_fault, no_fault, key_fault, ListHeld, opening, Lists₂, front, back, part_entries, OpeningHeld, FrontHeld, BackHeld, result_in, ResultHeld}
+use Rattle.std.specs.Prelude.{Option, None, Some}
 use Rattle.refusals.specs.declared.Refusal.{Refusal}
+use Rattle.refusals.specs.Refusals.{number_of, refusal_of}
 use Rattle.sheet.specs.declared.Part.{Part}
 use Rattle.result_reader.specs.declared.Plan.{Plan}
 use Rattle.result_reader.proofs.Numbers.{one_found, one_fails}
@@ -158,41 +160,51 @@ module _ (bytes : List ℕ) where
       result-read m = ap reading (sym (in_parts 0 bytes) ∙ then_found _ h ∙ then_found _ k ∙ then_found _ m)
 
 -- all parts are found: the first breach decides
-pub result-told : {bytes : List ℕ} {regions place at middle next : ℕ} {labels tallies pairs rows : Part} {first second : Option ℕ} (breach : Option ℕ) {r : Result Plan Refusal}
-    → OpeningHeld bytes regions place at → FrontHeld regions place bytes at labels tallies middle first → BackHeld bytes middle pairs rows next second
-    → breach ≡ or_else first second
-    → r ≡ plan_by (record { regions = regions; labels = labels; tallies = tallies; pairs = pairs; rows = rows }) breach → ResultTold bytes r
-unfolding rules_fault placed_from
-result-told {bytes} {regions} {place} {labels = labels} {tallies = tallies} {pairs = pairs} {rows = rows} {first = first} {second = second} breach O F B e g =
-    subst (ResultTold bytes) (sym g) (go breach e)
-  where
-    plan : Plan
-    plan = record { regions = regions; labels = labels; tallies = tallies; pairs = pairs; rows = rows }
+module _ {bytes : List ℕ} {regions place at middle next : ℕ} {labels tallies pairs rows : Part} {first second : Option ℕ} (breach : Option ℕ)
+    (O : OpeningHeld bytes regions place at) (F : FrontHeld regions place bytes at labels tallies middle first) (B : BackHeld bytes middle pairs rows next second)
+    (e : breach ≡ or_else first second) where
+  abbrev plan : Plan
+  plan = record { regions = regions; labels = labels; tallies = tallies; pairs = pairs; rows = rows }
 
-    there : Placed
-    there =
-        placed_from (record { place = place; numbers = regions ∷ [] }) (record { first = part_entries 1 bytes labels; second = part_entries tallies_per_span bytes tallies })
-        (record { first = part_entries numbers_per_pair bytes pairs; second = part_entries numbers_per_row bytes rows })
+  told : read_result bytes ≡ judged_by breach (result_in bytes plan)
+  unfolding rules_fault placed_from
+  told = result-read bytes O.same F.same B.same ∙ (λ i. judged_by (broken i) (numbers i)) ∙ ap (λ o. judged_by o (result_in bytes plan)) (sym e)
+    where
+      there : Placed
+      there =
+          placed_from (record { place = place; numbers = regions ∷ [] }) (record { first = part_entries 1 bytes labels; second = part_entries tallies_per_span bytes tallies })
+          (record { first = part_entries numbers_per_pair bytes pairs; second = part_entries numbers_per_row bytes rows })
 
-    numbers : result_of there ≡ result_in bytes plan
-    numbers = λ i. record {
-      regions = regions;
-      labels = F.for_labels.flat i;
-      tallies = F.for_tallies.flat i;
-      pairs = B.for_pairs.flat i;
-      rows = B.for_rows.flat i;
-    }
+      numbers : result_of there ≡ result_in bytes plan
+      numbers = λ i. record {
+        regions = regions;
+        labels = F.for_labels.flat i;
+        tallies = F.for_tallies.flat i;
+        pairs = B.for_pairs.flat i;
+        rows = B.for_rows.flat i;
+      }
 
-    broken : rules_fault there ≡ or_else first second
-    broken = λ i. or_else (sym F.broken i) (sym B.broken i)
+      broken : rules_fault there ≡ or_else first second
+      broken = λ i. or_else (sym F.broken i) (sym B.broken i)
 
-    told : read_result bytes ≡ judged_by (or_else first second) (result_in bytes plan)
-    told = result-read bytes O.same F.same B.same ∙ (λ i. judged_by (broken i) (numbers i))
+  pub result-kept : None ≡ refusal 15 breach → ResultHeld bytes plan
+  result-kept h =
+      record {
+        held = record { for_labels = F.for_labels; for_tallies = F.for_tallies; for_pairs = B.for_pairs; for_rows = B.for_rows };
+        same = told ∙ go breach h;
+      }
+    where
+      go : (b : Option ℕ) → None ≡ refusal 15 b → judged_by b (result_in bytes plan) ≡ well_formed (result_in bytes plan)
+      go None h = refl
+      go (Some at) h = absurd (let z : ◌≡◌ {A = ℕ} 0 1 = cc in omega arith)
 
-    go : (b : Option ℕ) → b ≡ or_else first second → ResultTold bytes (plan_by plan b)
-    go None e =
-        record {
-          held = record { for_labels = F.for_labels; for_tallies = F.for_tallies; for_pairs = B.for_pairs; for_rows = B.for_rows };
-          same = told ∙ ap (λ o. judged_by o (result_in bytes plan)) (sym e);
-        }
-    go (Some at) e = told ∙ ap (λ o. judged_by o (result_in bytes plan)) (sym e)
+  pub result-broken : (r : Refusal) → Some (refusal_of r) ≡ refusal 15 breach → read_result bytes ≡ refused (number_of r.cause) r.place
+  result-broken r h = told ∙ go breach h
+    where
+      as_refused : Option by_number → ResultReading
+      as_refused (Some x) = refused x.number x.place
+      as_refused None = refused 0 0
+
+      go : (b : Option ℕ) → Some (refusal_of r) ≡ refusal 15 b → judged_by b (result_in bytes plan) ≡ refused (number_of r.cause) r.place
+      go None h = absurd (let z : ◌≡◌ {A = ℕ} 0 1 = cc in omega arith)
+      go (Some at) h = sym (ap as_refused h)

@@ -1,5 +1,5 @@
 -- What the reader of result sheets answers, and what it leaves in the lists lent to it. Definitions only; assumes nothing.
-use Rattle.std.specs.Prelude.{ℕ, ◌/◌, ◌≡◌, List, length}
+use Rattle.std.specs.Prelude.{ℕ, ◌/◌, ◌≡◌, List, length, Result, Ok, Err}
 use Rattle.definitions.specs.Limits.{tallies_per_span, numbers_per_pair, numbers_per_row}
 use Rattle.results.specs.ResultAnswers.{ResultReading, well_formed, refused, read_verdict, at_exit}
 use Rattle.refusals.specs.declared.Refusal.{Refusal}
@@ -40,6 +40,11 @@ answer_in plan =
       pairs = plan.pairs.count;
       rows = plan.rows.count;
     }
+
+-- an answer as C is given it
+abbrev pub answered : Result Plan Refusal → ResultAnswer
+answered (Ok plan) = answer_in plan
+answered (Err refusal) = refused_by refusal
 
 -- The answer to a reading, and each lent list at exit: filled in its first numbers where the result was read, as it was where it is refused. Lists at entry come
 -- first, those at exit after the answer.

@@ -1,5 +1,5 @@
 -- The grammar of a result sheet in three parts, one behind the other, and what the functions on them answer. Assumes nothing.
-use Rattle.std.specs.Prelude.{ℕ, ◌*◌, ◌≤◌, ◌≡◌, Bool, ◌&&◌, List, [], ◌∷◌, length, drop, leb, Option, None, Some, Result, Ok, Err}
+use Rattle.std.specs.Prelude.{ℕ, ◌*◌, ◌≤◌, ◌≡◌, Bool, ◌&&◌, List, [], ◌∷◌, length, drop, leb, Option, None, Result, Ok, Err}
 use Rattle.definitions.specs.Limits.{tallies_per_span, numbers_per_pair, numbers_per_row}
 use Rattle.definitions.specs.Refusals.{or_else}
 use Rattle.definitions.specs.Scan.{concat_map}
@@ -12,7 +12,6 @@ use Rattle.results.specs.ResultAnswers.{well_formed, refused, read_result}
 use Rattle.result_writer.specs.Contract.{key_in}
 use Rattle.result_reader.specs.Walks.{entries_at, entries_of}
 use Rattle.refusals.specs.declared.Refusal.{Refusal}
-use Rattle.refusals.specs.declared.Cause.TheVariants as cause
 use Rattle.refusals.specs.Refusals as refusals
 use Rattle.sheet.specs.declared.Found.{Found}
 use Rattle.sheet.specs.declared.Part.{Part}
@@ -92,7 +91,7 @@ pub record OpeningHeld (bytes : List ℕ) (regions place next : ℕ) : Type 0 wh
   pub same : opening 0 bytes ≡ found (record { place = place; numbers = regions ∷ [] }) next (drop next bytes)
 
 abbrev pub OpeningTold : List ℕ → Result (Found RegionCount) Refusal → Type 0
-OpeningTold bytes (Ok read) = OpeningHeld bytes read.value.regions read.value.place read.next
+OpeningTold bytes (Ok read) = OpeningHeld bytes read.value.count read.value.place read.next
 OpeningTold bytes (Err refusal) = opening 0 bytes ≡ failed (refusals.number_of refusal.cause) refusal.place
 
 pub record FrontHeld (regions place : ℕ) (bytes : List ℕ) (at : ℕ) (labels tallies : Part) (next : ℕ) (breach : Option ℕ) : Type 0 where
@@ -127,10 +126,6 @@ result_in bytes plan =
       pairs = part_numbers numbers_per_pair bytes plan.pairs;
       rows = part_numbers numbers_per_row bytes plan.rows;
     }
-
-abbrev pub plan_by : Plan → Option ℕ → Result Plan Refusal
-plan_by plan None = Ok plan
-plan_by plan (Some place) = Err (record { cause = cause.ResultSheet; place = place })
 
 -- the lists stand where they were found: what is asked before they are stored
 pub record PlanHeld (bytes : List ℕ) (plan : Plan) : Type 0 where

@@ -14,13 +14,15 @@ ghost use Rattle.sheet.specs.Numbers.{read_of, items_at, Told};
 ghost use Rattle.results.specs.Result.{labels_fault};
 ghost use Rattle.result_writer.specs.Contract.{key_in};
 ghost use Rattle.result_reader.specs.Walks.{turns_from, Walks, ascent_of, ascent_from};
-ghost use Rattle.result_reader.specs.Parts.{turns_fault, no_fault, key_fault, ListTold, OpeningTold, FrontTold, BackTold, ResultTold, plan_by, PlanHeld, PartHeld, part_numbers, room_in, Room};
-ghost use Rattle.result_reader.specs.Contract.{answer_in, refused_by, Reads};
+ghost use Rattle.result_reader.specs.Parts.{turns_fault, no_fault, key_fault, ListTold, OpeningTold, FrontTold, BackTold, ResultTold};
+ghost use Rattle.result_reader.specs.Parts.{PlanHeld, PartHeld, part_numbers, room_in, Room};
+ghost use Rattle.result_reader.specs.Lists.{Filled, SameLists};
+ghost use Rattle.result_reader.specs.Contract.{answered, Reads};
 
 use definitions::limits::{NUMBERS_PER_PAIR, NUMBERS_PER_ROW, TALLIES_PER_SPAN};
-use refusals::{Cause, Refusal};
+use refusals::{Cause, Refusal, ensure, no_fault};
 use result_writer::{LABEL_SIZE, after_label};
-use sheet::{Found, Part, fill_numbers, item, judge};
+use sheet::{Found, Part, RESULT_KIND, fill_numbers, item, judge};
 
 // ---- labels
 
@@ -126,12 +128,19 @@ fn walk_keys<const N: usize>(
 
 // ---- the lists
 
+// How many regions there are, and where that stands.
+#[derive(Clone, Copy)]
+pub struct RegionCount {
+    count: u64,
+    place: usize,
+}
+
 // The first label that breaks the rule: labels in turn that do not reach the region count break it at its place.
-fn turns_breach(state: Turned, regions: u64, place: usize) -> Option<usize>
-    ensures { result ≡ labels_fault regions place (turns_from regions state []) }
+fn turns_breach(state: Turned, regions: RegionCount) -> Option<usize>
+    ensures { result ≡ labels_fault regions.count regions.place (turns_from regions.count state []) }
 {
     match state {
-        Ok(started) => (started != regions).then_some(place),
+        Ok(started) => (started != regions.count).then_some(regions.place),
         Err(first) => Some(first),
     }
 }
@@ -143,20 +152,20 @@ pub struct List {
     breach: Option<usize>,
 }
 
-// The labels behind their count; the region count stands at `place`.
-fn labels_list(bytes: &[u8], at: usize, regions: u64, place: usize) -> Result<Found<List>, Refusal>
+// The labels behind their count.
+fn labels_list(bytes: &[u8], at: usize, regions: RegionCount) -> Result<Found<List>, Refusal>
     requires { at ≤ length bytes.now }
-    ensures { ListTold (turns_fault regions place) 1 bytes.now at result }
+    ensures { ListTold (turns_fault regions.count regions.place) 1 bytes.now at result }
 {
     let count = item(bytes, at, u64::MAX)?;
-    let labels = walk_labels(bytes, count.next, count.value, regions)?;
+    let labels = walk_labels(bytes, count.next, count.value, regions.count)?;
     Ok(Found {
         value: List {
             part: Part {
                 first: count.next,
                 count: count.value as usize,
             },
-            breach: turns_breach(labels.value, regions, place),
+            breach: turns_breach(labels.value, regions),
         },
         next: labels.next,
     })
@@ -211,31 +220,17 @@ fn keys_list<const N: usize>(bytes: &[u8], at: usize, last: usize) -> Result<Fou
 
 // ---- the sheet
 
-// The region count and its place.
-#[derive(Clone, Copy)]
-pub struct RegionCount {
-    regions: u64,
-    place: usize,
-}
-
-const KIND: u64 = 2;
-
 // The kind, which is to be 2, and the region count.
 fn opening(bytes: &[u8]) -> Result<Found<RegionCount>, Refusal>
     ensures { OpeningTold bytes.now result }
 {
     let kind = item(bytes, 0, u64::MAX)?;
-    if kind.value != KIND {
-        return Err(Refusal {
-            cause: Cause::Sheet,
-            place: 0,
-        });
-    }
+    ensure(kind.value == RESULT_KIND, Cause::Sheet)?;
     let place = kind.next;
     let regions = item(bytes, place, u64::MAX)?;
     Ok(Found {
         value: RegionCount {
-            regions: regions.value,
+            count: regions.value,
             place,
         },
         next: regions.next,
@@ -251,11 +246,11 @@ pub struct BothLists {
 }
 
 // Labels and tallies.
-fn front(bytes: &[u8], at: usize, regions: u64, place: usize) -> Result<Found<BothLists>, Refusal>
+fn front(bytes: &[u8], at: usize, regions: RegionCount) -> Result<Found<BothLists>, Refusal>
     requires { at ≤ length bytes.now }
-    ensures { FrontTold regions place bytes.now at result }
+    ensures { FrontTold regions.count regions.place bytes.now at result }
 {
-    let labels = labels_list(bytes, at, regions, place)?;
+    let labels = labels_list(bytes, at, regions)?;
     let tallies = tallies_list(bytes, labels.next)?;
     Ok(Found {
         value: BothLists {
@@ -300,48 +295,25 @@ pub struct Plan {
     rows: Part,
 }
 
-// The plan, unless a rule is broken.
-fn judged(plan: Plan, breach: Option<usize>) -> Result<Plan, Refusal>
-    ensures { result ≡ plan_by plan breach }
-{
-    match breach {
-        None => Ok(plan),
-        Some(place) => Err(Refusal {
-            cause: Cause::ResultSheet,
-            place,
-        }),
-    }
-}
-
 // Judges the whole of the bytes.
 fn judge_result(bytes: &[u8]) -> Result<Plan, Refusal>
     ensures { ResultTold bytes.now result }
 {
     let opening = opening(bytes)?;
-    let RegionCount { regions, place } = opening.value;
-    let front = front(bytes, opening.next, regions, place)?;
+    let regions = opening.value;
+    let front = front(bytes, opening.next, regions)?;
     let back = back(bytes, front.next)?;
-    let plan = Plan {
-        regions,
+    no_fault(front.value.breach.or(back.value.breach), Cause::ResultSheet)?;
+    Ok(Plan {
+        regions: regions.count,
         labels: front.value.first,
         tallies: front.value.second,
         pairs: back.value.first,
         rows: back.value.second,
-    };
-    judged(plan, front.value.breach.or(back.value.breach))
+    })
 }
 
 // ---- reading
-
-// Lists of these lengths have room for the result. A count times the size of its entries may be beyond 64 bits, so the length is divided.
-fn fits(plan: Plan, labels: usize, tallies: usize, pairs: usize, rows: usize) -> bool
-    ensures { result ≡ room_in plan labels tallies pairs rows }
-{
-    plan.labels.count <= labels
-        && plan.tallies.count <= tallies / TALLIES_PER_SPAN
-        && plan.pairs.count <= pairs / NUMBERS_PER_PAIR
-        && plan.rows.count <= rows / NUMBERS_PER_ROW
-}
 
 // Stores the numbers of a list that was judged before, `size` of them an entry.
 fn fill_list(bytes: &[u8], part: Part, size: usize, out: &mut [u64])
@@ -351,27 +323,65 @@ fn fill_list(bytes: &[u8], part: Part, size: usize, out: &mut [u64])
     fill_numbers(bytes, part.first, part.count * size, &mut *out);
 }
 
-// Fills the lists with what was judged before.
-fn fill(
+// The lists that are lent for what a sheet states.
+#[derive(Drop)]
+struct ResultLists<'a> {
+    labels: &'a mut [u64],
+    tallies: &'a mut [u64],
+    pairs: &'a mut [u64],
+    rows: &'a mut [u64],
+}
+
+impl ResultLists<'_> {
+    // They have room for the result. A count times the size of its entries may be beyond 64 bits, so the length is divided.
+    fn have_room(&self, plan: Plan) -> bool
+        ensures { result
+            ≡ room_in plan (length self.now.labels.now) (length self.now.tallies.now) (length self.now.pairs.now) (length self.now.rows.now) }
+    {
+        plan.labels.count <= self.labels.len()
+            && plan.tallies.count <= self.tallies.len() / TALLIES_PER_SPAN
+            && plan.pairs.count <= self.pairs.len() / NUMBERS_PER_PAIR
+            && plan.rows.count <= self.rows.len() / NUMBERS_PER_ROW
+    }
+
+    // Fills them with what was judged before.
+    fn fill(&mut self, bytes: &[u8], plan: Plan)
+        requires held { PlanHeld bytes.now plan }
+        requires room { Room plan (length self.old.labels.now) (length self.old.tallies.now) (length self.old.pairs.now) (length self.old.rows.now) }
+        ensures filled { Filled bytes.now plan self.old self.new }
+        ensures same { SameLists self.old self.new }
+    {
+        fill_list(bytes, plan.labels, LABEL_SIZE, self.labels);
+        fill_list(bytes, plan.tallies, TALLIES_PER_SPAN, self.tallies);
+        fill_list(bytes, plan.pairs, NUMBERS_PER_PAIR, self.pairs);
+        fill_list(bytes, plan.rows, NUMBERS_PER_ROW, self.rows);
+    }
+}
+
+// Reads a sheet of kind 2 into the lists; or refuses it, with the lists as they were.
+fn read_result(
     bytes: &[u8],
-    plan: Plan,
     labels: &mut [u64],
     tallies: &mut [u64],
     pairs: &mut [u64],
     rows: &mut [u64],
-)
-    requires held { PlanHeld bytes.now plan }
-    requires room { Room plan (length labels.old) (length tallies.old) (length pairs.old) (length rows.old) }
-    ensures labels { labels.new ≡ overwrite (part_numbers 1 bytes.now plan.labels) labels.old }
-    ensures tallies { tallies.new ≡ overwrite (part_numbers tallies_per_span bytes.now plan.tallies) tallies.old }
-    ensures pairs { pairs.new ≡ overwrite (part_numbers numbers_per_pair bytes.now plan.pairs) pairs.old }
-    ensures rows { rows.new ≡ overwrite (part_numbers numbers_per_row bytes.now plan.rows) rows.old }
+) -> Result<Plan, Refusal>
+    ensures { Reads bytes.now labels.old tallies.old pairs.old rows.old (answered result)
+        labels.new tallies.new pairs.new rows.new }
 {
-    fill_list(bytes, plan.labels, LABEL_SIZE, &mut *labels);
-    fill_list(bytes, plan.tallies, TALLIES_PER_SPAN, &mut *tallies);
-    fill_list(bytes, plan.pairs, NUMBERS_PER_PAIR, &mut *pairs);
-    fill_list(bytes, plan.rows, NUMBERS_PER_ROW, &mut *rows);
+    let plan = judge_result(bytes)?;
+    let mut lists = ResultLists {
+        labels,
+        tallies,
+        pairs,
+        rows,
+    };
+    ensure(lists.have_room(plan), Cause::Room)?;
+    lists.fill(bytes, plan);
+    Ok(plan)
 }
+
+// ---- for other languages
 
 // Number 0, place 0, the region count and four counts of entries; or a refusal's number and place, and 0 for the rest.
 #[repr(C)]
@@ -386,39 +396,34 @@ pub struct ResultAnswer {
     pub rows: u64,
 }
 
-impl From<Plan> for ResultAnswer {
-    ghost from_gives = { λ plan answer. answer ≡ answer_in plan };
+impl From<Result<Plan, Refusal>> for ResultAnswer {
+    ghost from_gives = { λ given answer. answer ≡ answered given };
 
-    fn from(plan: Plan) -> ResultAnswer {
-        ResultAnswer {
-            number: 0,
-            place: 0,
-            regions: plan.regions,
-            labels: plan.labels.count as u64,
-            spans: plan.tallies.count as u64,
-            pairs: plan.pairs.count as u64,
-            rows: plan.rows.count as u64,
+    fn from(given: Result<Plan, Refusal>) -> ResultAnswer {
+        match given {
+            Ok(plan) => ResultAnswer {
+                number: 0,
+                place: 0,
+                regions: plan.regions,
+                labels: plan.labels.count as u64,
+                spans: plan.tallies.count as u64,
+                pairs: plan.pairs.count as u64,
+                rows: plan.rows.count as u64,
+            },
+            Err(refusal) => ResultAnswer {
+                number: refusal.cause.number(),
+                place: refusal.place as u64,
+                regions: 0,
+                labels: 0,
+                spans: 0,
+                pairs: 0,
+                rows: 0,
+            },
         }
     }
 }
 
-impl From<Refusal> for ResultAnswer {
-    ghost from_gives = { λ refusal answer. answer ≡ refused_by refusal };
-
-    fn from(refusal: Refusal) -> ResultAnswer {
-        ResultAnswer {
-            number: refusal.cause.number(),
-            place: refusal.place as u64,
-            regions: 0,
-            labels: 0,
-            spans: 0,
-            pairs: 0,
-            rows: 0,
-        }
-    }
-}
-
-// Reads a sheet of kind 2 into the lists. For other languages too: include/jenwyllt.h declares it as jenwyllt_read_result.
+// Reads a sheet of kind 2 into the lists: include/jenwyllt.h declares it as jenwyllt_read_result.
 pub fn result_reader_read_result(
     bytes: &[u8],
     labels: &mut [u64],
@@ -429,25 +434,5 @@ pub fn result_reader_read_result(
     ensures { Reads bytes.now labels.old tallies.old pairs.old rows.old result
         labels.new tallies.new pairs.new rows.new }
 {
-    match judge_result(bytes) {
-        Ok(plan) => {
-            if fits(plan, labels.len(), tallies.len(), pairs.len(), rows.len()) {
-                fill(
-                    bytes,
-                    plan,
-                    &mut *labels,
-                    &mut *tallies,
-                    &mut *pairs,
-                    &mut *rows,
-                );
-                ResultAnswer::from(plan)
-            } else {
-                ResultAnswer::from(Refusal {
-                    cause: Cause::Room,
-                    place: 0,
-                })
-            }
-        }
-        Err(refusal) => ResultAnswer::from(refusal),
-    }
+    ResultAnswer::from(read_result(bytes, &mut *labels, &mut *tallies, &mut *pairs, &mut *rows))
 }

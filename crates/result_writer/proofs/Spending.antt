@@ -1,9 +1,8 @@
 -- The room that numbers take: the sizes while they are taken from the room (`Spending`), and the room for the
 -- whole sheet. Assumes nothing.
-use Prim.Native.Nat.{ℕ, zero, suc, ◌+◌, ◌-◌, ◌*◌, ◌/◌, ◌^◌, ◌<◌, ◌≤◌}
+use Prim.Native.Nat.{ℕ, suc, ◌+◌, ◌-◌, ◌/◌, ◌<◌, ◌≤◌}
 use native.Mathlib.Omega.{arith}
 use native.Mathlib.Numerals.{add-one}
-use native.Mathlib.Nat.{pow-suc}
 use mathlib.Core.Path.{◌≡◌, refl, sym, ap, ◌∙◌}
 use mathlib.Core.Bool.{Bool, true, false, cond}
 use mathlib.Core.List.{List, ◌++◌}
@@ -13,8 +12,7 @@ use lib.Seq.{drop-cons}
 use borrow.Author.Tests.{le-leb, lt-leb, leb-true, leb-false}
 use Rattle.definitions.specs.Scan.{concat_map}
 use Rattle.definitions.specs.Limits.{tallies_per_span, numbers_per_pair, numbers_per_row}
-use Rattle.results.specs.Shortest.{shortest_within, shortest, list_bytes}
-use Rattle.results.specs.ShortestSteps.{one_group, more_groups}
+use Rattle.results.specs.Shortest.{shortest, list_bytes}
 use Rattle.results.specs.Result.{Result}
 use Rattle.results.specs.ResultAnswers.{result_bytes}
 use Rattle.result_writer.specs.Contract.{spent}

@@ -1,5 +1,5 @@
 -- The labels while they are walked (`Turning`): what the rule says of those that are left, with so many numbers started, it says of all. Assumes nothing.
-use Prim.Native.Nat.{ℕ, suc, ◌+◌, ◌-◌, ◌/◌, ◌<◌, ◌≤◌}
+use Prim.Native.Nat.{ℕ, suc, ◌+◌, ◌/◌, ◌<◌, ◌≤◌}
 use native.Mathlib.Omega.{arith}
 use native.Mathlib.Numerals.{add-one}
 use mathlib.Core.Path.{◌≡◌, refl, sym, ap, ◌∙◌}
@@ -8,31 +8,11 @@ use mathlib.Core.List.{List, [], ◌∷◌, map}
 use lib.Dec.{leb, eqb}
 use lib.ListN.{length, drop, get_or, drop_of_length-le}
 use lib.Seq.{drop-cons}
-use borrow.Author.Tests.{le-leb, lt-leb, eq-eqb, ne_eqb}
 use Rattle.definitions.specs.Refusals.{unless}
 use Rattle.results.specs.Result.{Entry, out_of_turn, in_turn, turns, labels_fault}
 use Rattle.results.specs.ResultAnswers.{chunks, entries_in}
 use Rattle.result_writer.specs.Contract.{turn_of}
 use Rattle.std.specs.Prelude.{None, Some}
-
--- ---- one label
-
-module _ (regions n label : ℕ) where
-  pub turn-known : label ≤ n → Some n ≡ turn_of regions n label
-  turn-known h = rw (le-leb label n h) refl
-
-  pub turn_next : n < label → label - n ≡ 1 → label ≤ regions → Some label ≡ turn_of regions n label
-  turn_next h d k =
-      let e : label ≡ n + 1 = omega arith in
-      rw (lt-leb label n h, eq-eqb label (n + 1) e, le-leb label regions k) (ap Some e)
-
-  pub turn-above : n < label → label - n ≡ 1 → regions < label → None ≡ turn_of regions n label
-  turn-above h d k =
-      let e : label ≡ n + 1 = omega arith in
-      rw (lt-leb label n h, eq-eqb label (n + 1) e, lt-leb label regions k) refl
-
-  pub turn-out : n < label → (label - n ≡ 1 → ⊥) → None ≡ turn_of regions n label
-  turn-out h d = rw (lt-leb label n h, ne_eqb label (n + 1) (λ e. d (omega arith))) refl
 
 -- ---- all labels
 

@@ -11,14 +11,15 @@ ghost use Rattle.results.specs.Shortest.{shortest, list_bytes};
 ghost use Rattle.results.specs.Result.{turns, labels_fault, ascent_fault, rules_fault};
 ghost use Rattle.results.specs.ResultAnswers.{entries_in, placed, is_finished, result_bytes, Writes};
 ghost use Rattle.byte_writer.specs.Contract.{HasRoom, Appends};
-ghost use Rattle.refusals.specs.Answers.{answer_in};
+ghost use Rattle.refusals.specs.Answers.{answer_in, answer_of};
 ghost use Rattle.result_writer.specs.Contract.{turn_of, key_in, entry_at, Neighbours, spent, result_in, result_of};
 
 use byte_writer::Writer;
 use definitions::limits::{NUMBERS_PER_PAIR, NUMBERS_PER_ROW, TALLIES_PER_SPAN};
 use put_shortest::{Entry, put_shortest};
-use refusals::Cause;
 use refusals::answers::Answer;
+use refusals::{Cause, Refusal, ensure};
+use sheet::RESULT_KIND;
 
 // ---- the rules
 
@@ -132,8 +133,6 @@ pub fn put_list(w: &mut Writer, size: usize, numbers: &[u64])
 
 // ---- what a run found
 
-const KIND: u64 = 2;
-
 // How many regions there are, the labels of the cells, the tallies of the spans, the pairs and the rows.
 #[derive(Clone, Copy)]
 struct RunResult<'a> {
@@ -167,7 +166,7 @@ impl RunResult<'_> {
     fn fits(self, room: usize) -> bool
         ensures { result ≡ leb (length (result_bytes (result_of self.entry))) room }
     {
-        let a = spend_number(Some(room), KIND);
+        let a = spend_number(Some(room), RESULT_KIND);
         let b = spend_number(a, self.regions);
         let c = spend_list(b, LABEL_SIZE, self.labels);
         let d = spend_list(c, TALLIES_PER_SPAN, self.tallies);
@@ -180,12 +179,24 @@ impl RunResult<'_> {
         requires { HasRoom w.old (length (result_bytes (result_of self))) }
         ensures { Appends w.old (result_bytes (result_of self.entry)) w.new }
     {
-        put_shortest(w, KIND);
+        put_shortest(w, RESULT_KIND);
         put_shortest(w, self.regions);
         put_list(w, LABEL_SIZE, self.labels);
         put_list(w, TALLIES_PER_SPAN, self.tallies);
         put_list(w, NUMBERS_PER_PAIR, self.pairs);
         put_list(w, NUMBERS_PER_ROW, self.rows);
+    }
+
+    // Judges it, and writes the sheet. Gives how many bytes it has.
+    fn write(self, out: &mut [u8]) -> Result<usize, Refusal>
+        ensures { Writes (result_of self.entry) out.old (answer_of result) out.new }
+    {
+        ensure(self.keeps_rules(), Cause::ResultSheet)?;
+        ensure(self.is_finished(), Cause::Entries)?;
+        ensure(self.fits(out.len()), Cause::Room)?;
+        let mut writer = Writer { out, at: 0 };
+        self.put(&mut writer);
+        Ok(writer.at)
     }
 }
 
@@ -208,19 +219,5 @@ pub fn result_writer_write_result(
         pairs,
         rows,
     };
-    if !found.keeps_rules() {
-        return Answer::from(Cause::ResultSheet);
-    }
-    if !found.is_finished() {
-        return Answer::from(Cause::Entries);
-    }
-    if !found.fits(out.len()) {
-        return Answer::from(Cause::Room);
-    }
-    let mut writer = Writer { out, at: 0 };
-    found.put(&mut writer);
-    Answer {
-        number: 0,
-        value: writer.at as u64,
-    }
+    Answer::from(found.write(out))
 }

@@ -20,10 +20,12 @@ use Rattle.sheet.specs.declared.Part.{Part}
 use Rattle.sheet.specs.declared.Parts.{Parts}
 use Rattle.sheet.specs.declared.Plan.{Plan}
 use Rattle.sheet.specs.declared.Header.{Header}
-use Rattle.std.specs.Prelude.{Ok, Err}
+use Rattle.std.specs.Prelude.{Some, Ok, Err}
+use Rattle.definitions.specs.Refusals.{unless}
+use Rattle.definitions.specs.Verdict.{refusal as refusal_by}
 use Rattle.refusals.specs.declared.Refusal.{Refusal}
-use Rattle.refusals.specs.declared.Cause.TheVariants as cause
-use Rattle.refusals.specs.Refusals.{number_of}
+use Rattle.refusals.specs.Refusals.{number_of, refusal_of}
+use Rattle.sheet.proofs.Passed.{refuses}
 use Rattle.sheet.proofs.Filling.{held-length}
 
 pub room-known : {parts : Parts} {n stated cells spans boundaries anchors : ℕ} → n ≡ stated → room_in parts n cells spans boundaries anchors ≡ true
@@ -96,11 +98,13 @@ module _ {limit : ℕ} {bytes : List ℕ} {plan : Plan} (S : SheetHeld limit byt
         ≡ room_in plan.parts n (length cells) (length spans) (length boundaries) (length anchors)
     in_room k = ap (λ m. room_in plan.parts m (length cells) (length spans) (length boundaries) (length anchors)) (sym k)
 
-    pub answered-short : {n : ℕ} → n ≡ stated → room_in plan.parts n (length cells) (length spans) (length boundaries) (length anchors) ≡ false
-        → Answered (reading_within limit bytes cells spans boundaries anchors) cells spans boundaries anchors (Err (record { cause = cause.Room; place = 0 })) cells spans boundaries anchors
-    answered-short k h =
-        let e : reading_within limit bytes cells spans boundaries anchors ≡ refused 10 0 = by_room ∙ ap (λ t. cond t (well_formed (sheet_of bytes plan)) (refused 10 0)) (in_room k ∙ h) in
-        rw e (record { said = refl; cells_left = refl; spans-left = refl; boundaries-left = refl; anchors-left = refl })
+    pub answered-short : {n : ℕ} {room : Bool} {refusal : Refusal} → n ≡ stated
+        → room ≡ room_in plan.parts n (length cells) (length spans) (length boundaries) (length anchors) → Some (refusal_of refusal) ≡ refusal_by 10 (unless room)
+        → Answered (reading_within limit bytes cells spans boundaries anchors) cells spans boundaries anchors (Err refusal) cells spans boundaries anchors
+    answered-short {room = room} {refusal} k f p =
+        let r = refuses 10 room refusal p in
+        let e : reading_within limit bytes cells spans boundaries anchors ≡ refused 10 0 = by_room ∙ ap (λ t. cond t (well_formed (sheet_of bytes plan)) (refused 10 0)) (in_room k ∙ sym f ∙ r.0) in
+        rw e (record { said = ap Err r.1; cells_left = refl; spans-left = refl; boundaries-left = refl; anchors-left = refl })
 
     pub answered-read : {n : ℕ} {header : Header} {cells' spans' boundaries' anchors' : List ℕ} → n ≡ stated
         → room_in plan.parts n (length cells) (length spans) (length boundaries) (length anchors) ≡ true → header ≡ header_in plan n

@@ -1,11 +1,13 @@
 -- Endpoints of boundaries stored as spans: four stores, one behind the other, and one span more. Assumes nothing.
-use Prim.Native.Nat.{ℕ, ◌+◌, ◌-◌, ◌*◌, ◌≤◌, ◌<◌}
+use Prim.Native.Nat.{ℕ, zero, suc, ◌+◌, ◌-◌, ◌*◌, ◌/◌, ◌≤◌, ◌<◌}
 use native.Mathlib.Omega.{arith}
 use native.Mathlib.Numerals.{add-one}
 use mathlib.Core.Path.{◌≡◌, sym, ap, ◌∙◌}
-use mathlib.Core.List.{List, ◌∷◌}
+use mathlib.Core.List.{List, [], ◌∷◌}
 use lib.ListN.{length, take, drop, get_or}
 use lib.Seq.{sets, drop-cons}
+use Rattle.std.proofs.Common.{get_or-drop, get_or-take}
+use Rattle.std.specs.Simd.{first_chunks}
 use Rattle.definitions.specs.Lists.{overwrite}
 use Rattle.definitions.specs.Grid.{segment_at}
 use Rattle.definitions.specs.Sheet.{endpoints, endpoints_in}
@@ -24,6 +26,21 @@ endpoints-taken l k h =
 
     again : (i j : ℕ) → i + 1 ≡ j → j < length l → drop (i + 1) l ≡ get_or l j 0 ∷ drop (j + 1) l
     again i j e g = ap (λ n. drop n l) e ∙ next j g
+
+-- a boundary among those that the list is read as
+nine_at : (k i j : ℕ) (l : List ℕ) → i < k → j < 9 → get_or (get_or (first_chunks 9 k l) i []) j 0 ≡ get_or l (9 * i + j) 0
+nine_at zero i j l h m = absurd (omega arith)
+nine_at (suc k) zero j l h m = get_or-take 9 l j 0 m ∙ ap (λ n. get_or l n 0) (omega arith)
+nine_at (suc k) (suc i) j l h m = nine_at k i j (drop 9 l) (omega arith) m ∙ get_or-drop 9 l (9 * i + j) 0 ∙ ap (λ n. get_or l n 0) (omega arith)
+
+pub endpoints-read : (boundaries : List ℕ) {chunks : List (List ℕ)} (count i : ℕ) → chunks ≡ first_chunks 9 (length boundaries / 9) boundaries → 9 * count ≤ length boundaries → i < count
+    → endpoints (segment_at (get_or (take count chunks) i []) 0) ≡ endpoints (segment_at boundaries (9 * i))
+endpoints-read boundaries {chunks} count i e room h =
+    let chunk : get_or (take count chunks) i [] ≡ get_or (first_chunks 9 (length boundaries / 9) boundaries) i [] = get_or-take count chunks i [] h ∙ ap (λ l. get_or l i []) e in
+    let number : (j : ℕ) → j < 9 → get_or (get_or (take count chunks) i []) j 0 ≡ get_or boundaries (9 * i + j) 0 =
+    λ j m. ap (λ l. get_or l j 0) chunk ∙ nine_at (length boundaries / 9) i j boundaries (omega arith) m in
+    let first : 9 * i + 0 ≡ 9 * i = omega arith in
+    λ t. (number 0 (omega arith) ∙ ap (λ n. get_or boundaries n 0) first) t ∷ number 1 (omega arith) t ∷ number 2 (omega arith) t ∷ number 3 (omega arith) t ∷ []
 
 pub endpoints-stored : (i : ℕ) (boundaries old : List ℕ) → 4 * i + 4 ≤ length old
     → sets (overwrite (endpoints_in i boundaries) old) (4 * i) (endpoints (segment_at boundaries (9 * i))) ≡ overwrite (endpoints_in (i + 1) boundaries) old

@@ -12,11 +12,15 @@ ghost use Rattle.definitions.specs.Grid.{segment_at};
 ghost use Rattle.definitions.specs.Sheet.{cell, entries, has_spans, spans_held, spans_stated, endpoints, endpoints_in, read_verdict};
 ghost use Rattle.sheet.specs.Numbers.{read_of, up_to, items_at, Told, ShortTold, Held, values_at};
 ghost use Rattle.sheet.specs.Parts as parts;
-ghost use Rattle.sheet.specs.Parts.{kind_number, KindAsked, opened_of, PartTold, ListsTold, SheetTold, PartsHeld, part_of, cells_in, stated_long, room_in, Room};
+ghost use Rattle.sheet.specs.Parts.{kind_number, KindAsked, opened_of, PartTold, ListsTold, SheetTold, PartsHeld, part_of, cells_in, stated_long};
+ghost use Rattle.sheet.specs.Parts.{room_in, Room};
+ghost use Rattle.sheet.specs.Lists.{Filled, SameLists};
 ghost use Rattle.sheet.specs.Contract.{header_in, Answered, reading_within};
 
-use definitions::limits::{NUMBERS_PER_ANCHOR, NUMBERS_PER_BOUNDARY, NUMBERS_PER_SPAN};
-use refusals::{Cause, Refusal};
+use definitions::limits::{
+    MAX_ENTRIES, MAX_SIDE, NUMBERS_PER_ANCHOR, NUMBERS_PER_BOUNDARY, NUMBERS_PER_SPAN,
+};
+use refusals::{Cause, Refusal, ensure};
 
 // ---- one number
 
@@ -36,6 +40,7 @@ fn ill_formed(group: usize, byte: u64) -> bool
 
 // The number at an offset, in groups of seven bits, least first. It is refused at its first byte where it is too long or padded, and at the end of the bytes
 // where they end before it does.
+// Kept: bytes and offset as two parameters: a reader of both would spare each contract that the offset is inside, and ask of each that the bytes stay the same.
 pub fn number(bytes: &[u8], at: usize) -> Result<Found<u64>, Refusal>
     requires { at ≤ length bytes.now }
     ensures { grammar.number at (drop at bytes.now) ≡ read_of bytes.now result }
@@ -172,7 +177,7 @@ pub fn fill_numbers(bytes: &[u8], at: usize, count: usize, out: &mut [u64])
     ensures { out.new ≡ overwrite (values_at grammar.number bytes.now at count) out.old }
 {
     let mut next = at;
-    // Kept: i is also the place from which `fill_rest` goes on.
+    // Kept: i is also the place from which `fill_rest` goes on, and of entries that `iter_mut` lends with `enumerate` a proof knows nothing behind the loop.
     for i in 0..count {
         let Some(read) = short_at(bytes, next) else {
             fill_rest(bytes, next, &mut out[i..count]);
@@ -184,7 +189,7 @@ pub fn fill_numbers(bytes: &[u8], at: usize, count: usize, out: &mut [u64])
 }
 
 // Fills a list with cells that were judged before.
-// Kept: beside `fill_rest`: one function of both would need a trait with the greatest number and the conversion of either type, which is longer than this loop.
+// Kept: beside `fill_rest`: one function over `T: TryFrom<u64>` could promise of each entry only that the conversion gave it, and not the list of the numbers.
 fn fill_cells(bytes: &[u8], at: usize, out: &mut [u8])
     requires { Held cell bytes.now at (length out.old) }
     ensures { out.new ≡ values_at cell bytes.now at (length out.old) }
@@ -201,12 +206,15 @@ fn fill_cells(bytes: &[u8], at: usize, out: &mut [u8])
 
 // ---- the parts of a sheet
 
-// The kind of a sheet that states a map: its spans stand in it, or its boundaries serve as spans.
+// The kind of a sheet that states a map, and the number that it begins with: its spans stand in it, or its boundaries serve as spans.
 #[derive(Clone, Copy)]
 pub enum Kind {
-    OwnSpans,
-    SharedSpans,
+    OwnSpans = 1,
+    SharedSpans = 3,
 }
+
+// The kind of a sheet that states what a run found.
+pub const RESULT_KIND: u64 = 2;
 
 impl Kind {
     pub fn has_spans(self) -> bool
@@ -256,12 +264,10 @@ fn opening(bytes: &[u8]) -> Result<Found<Heading>, Refusal>
     })
 }
 
-const SIDE_MOST: u64 = 1024;
-
 fn is_side(side: u64) -> bool
     ensures { result ≡ is_side side }
 {
-    (1..=SIDE_MOST).contains(&side)
+    (1..=MAX_SIDE).contains(&side)
 }
 
 // Both sides are in range, and the cells are not too many.
@@ -285,12 +291,7 @@ fn sides(bytes: &[u8], at: usize, limit: u64) -> Result<Found<Extent>, Refusal>
 {
     let width = item(bytes, at, u64::MAX)?;
     let height = item(bytes, width.next, u64::MAX)?;
-    if !area_allowed(width.value, height.value, limit) {
-        return Err(Refusal {
-            cause: Cause::Sides,
-            place: 0,
-        });
-    }
+    ensure(area_allowed(width.value, height.value, limit), Cause::Sides)?;
     Ok(Found {
         value: Extent {
             width: width.value as usize,
@@ -308,20 +309,13 @@ pub struct Part {
     pub count: usize,
 }
 
-const ENTRIES_MOST: u64 = 256;
-
 // A count and so many entries, each of `size` numbers.
 fn entries(bytes: &[u8], at: usize, size: usize) -> Result<Found<Part>, Refusal>
     requires { (at ≤ length bytes.now) × (size ≤ 9) }
     ensures { PartTold (entries size) bytes.now at result }
 {
     let count = item(bytes, at, u64::MAX)?;
-    if ENTRIES_MOST < count.value {
-        return Err(Refusal {
-            cause: Cause::Entries,
-            place: 0,
-        });
-    }
+    ensure(count.value <= MAX_ENTRIES as u64, Cause::Entries)?;
     let first = count.next;
     let numbers = count.value as usize * size;
     let next = judge(bytes, first, numbers, u64::MAX)?;
@@ -444,31 +438,13 @@ fn stated_length(kind: Kind, parts: Parts) -> usize
     }
 }
 
-// Lists of these lengths have room for the sheet, whose spans have so many numbers.
-fn fits(
-    parts: Parts,
-    stated: usize,
-    cells: usize,
-    spans: usize,
-    boundaries: usize,
-    anchors: usize,
-) -> bool
-    ensures { result ≡ room_in parts stated cells spans boundaries anchors }
-{
-    parts.cells.count <= cells
-        && stated <= spans
-        && parts.boundaries.count <= boundaries
-        && parts.anchors.count <= anchors
-}
-
 // Stores the endpoints of boundary i as span i.
-fn put_endpoints(boundaries: &[u64], i: usize, spans: &mut [u64])
-    requires { (9 * i + 9 ≤ length boundaries.now) × (4 * i + 4 ≤ length spans.old) }
-    ensures { spans.new ≡ sets spans.old (4 * i) (endpoints (segment_at boundaries.now (9 * i))) }
+fn put_endpoints(boundary: &[u64; NUMBERS_PER_BOUNDARY], i: usize, spans: &mut [u64])
+    requires { 4 * i + 4 ≤ length spans.old }
+    ensures { spans.new ≡ sets spans.old (4 * i) (endpoints (segment_at boundary.now 0)) }
 {
-    let k = NUMBERS_PER_BOUNDARY * i;
     let place = NUMBERS_PER_SPAN * i;
-    spans[place..place + NUMBERS_PER_SPAN].copy_from_slice(&boundaries[k..k + NUMBERS_PER_SPAN]);
+    spans[place..place + NUMBERS_PER_SPAN].copy_from_slice(&boundary[..NUMBERS_PER_SPAN]);
 }
 
 // Stores the endpoints of the first boundaries, so many of them, as spans.
@@ -476,9 +452,9 @@ pub fn fill_endpoints(boundaries: &[u64], count: usize, spans: &mut [u64])
     requires { (9 * count ≤ length boundaries.now) × (4 * count ≤ length spans.old) }
     ensures { spans.new ≡ overwrite (endpoints_in count boundaries.now) spans.old }
 {
-    // Kept: both lists may have more behind these, so that their chunks, zipped, would be cut off by a third adapter.
-    for i in 0..count {
-        put_endpoints(boundaries, i, &mut *spans);
+    let (boundaries, _) = boundaries.as_chunks::<NUMBERS_PER_BOUNDARY>();
+    for (i, boundary) in boundaries[..count].iter().enumerate() {
+        put_endpoints(boundary, i, &mut *spans);
     }
 }
 
@@ -503,43 +479,57 @@ fn fill_spans(
     fill_endpoints(boundaries, count, &mut *spans);
 }
 
-// Fills the lists with what was judged before.
-// Kept: the four lists by themselves: a struct of them would be made in `read_within` alone, and its contract would say of each that it is still the list that was lent.
-fn fill(
-    bytes: &[u8],
-    kind: Kind,
-    parts: Parts,
-    cells: &mut [u8],
-    spans: &mut [u64],
-    boundaries: &mut [u64],
-    anchors: &mut [u64],
-)
-    requires held { PartsHeld bytes.now parts }
-    requires room { Room parts (stated_long (kind_number kind) parts) (length cells.old) (length spans.old)
-        (length boundaries.old) (length anchors.old) }
-    ensures cells { cells.new ≡ overwrite (cells_in bytes.now parts) cells.old }
-    ensures spans { spans.new
-        ≡ overwrite (spans_stated (has_spans (kind_number kind)) (part_of bytes.now parts.spans) (part_of bytes.now parts.boundaries))
-        spans.old }
-    ensures boundaries { boundaries.new ≡ overwrite (part_of bytes.now parts.boundaries) boundaries.old }
-    ensures anchors { anchors.new ≡ overwrite (part_of bytes.now parts.anchors) anchors.old }
-{
-    fill_cells(bytes, parts.cells.first, &mut cells[..parts.cells.count]);
-    fill_numbers(
-        bytes,
-        parts.boundaries.first,
-        parts.boundaries.count,
-        &mut *boundaries,
-    );
-    fill_spans(
-        bytes,
-        kind,
-        parts.spans,
-        &*boundaries,
-        parts.boundaries.count / NUMBERS_PER_BOUNDARY,
-        spans,
-    );
-    fill_numbers(bytes, parts.anchors.first, parts.anchors.count, anchors);
+// The lists that are lent for what a sheet states.
+#[derive(Drop)]
+struct SheetLists<'a> {
+    cells: &'a mut [u8],
+    spans: &'a mut [u64],
+    boundaries: &'a mut [u64],
+    anchors: &'a mut [u64],
+}
+
+impl SheetLists<'_> {
+    // They have room for the sheet, whose spans have so many numbers.
+    fn have_room(&self, parts: Parts, stated: usize) -> bool
+        ensures { result
+            ≡ room_in parts stated (length self.now.cells.now) (length self.now.spans.now)
+            (length self.now.boundaries.now) (length self.now.anchors.now) }
+    {
+        parts.cells.count <= self.cells.len()
+            && stated <= self.spans.len()
+            && parts.boundaries.count <= self.boundaries.len()
+            && parts.anchors.count <= self.anchors.len()
+    }
+
+    // Fills them with what was judged before.
+    fn fill(&mut self, bytes: &[u8], kind: Kind, parts: Parts)
+        requires held { PartsHeld bytes.now parts }
+        requires room { Room parts (stated_long (kind_number kind) parts) (length self.old.cells.now) (length self.old.spans.now)
+            (length self.old.boundaries.now) (length self.old.anchors.now) }
+        ensures filled { Filled bytes.now kind parts self.old self.new }
+        ensures same { SameLists self.old self.new }
+    {
+        fill_cells(
+            bytes,
+            parts.cells.first,
+            &mut self.cells[..parts.cells.count],
+        );
+        let boundaries = &mut *self.boundaries;
+        fill_numbers(
+            bytes,
+            parts.boundaries.first,
+            parts.boundaries.count,
+            boundaries,
+        );
+        let count = parts.boundaries.count / NUMBERS_PER_BOUNDARY;
+        fill_spans(bytes, kind, parts.spans, &*boundaries, count, self.spans);
+        fill_numbers(
+            bytes,
+            parts.anchors.first,
+            parts.anchors.count,
+            self.anchors,
+        );
+    }
 }
 
 fn header_of(plan: Plan, stated: usize) -> Header
@@ -571,20 +561,14 @@ pub fn read_within(
     let plan = judge_sheet(bytes, limit)?;
     let parts = plan.parts;
     let stated = stated_length(plan.kind, parts);
-    if !fits(
-        parts,
-        stated,
-        cells.len(),
-        spans.len(),
-        boundaries.len(),
-        anchors.len(),
-    ) {
-        return Err(Refusal {
-            cause: Cause::Room,
-            place: 0,
-        });
-    }
-    fill(bytes, plan.kind, parts, cells, spans, boundaries, anchors);
+    let mut lists = SheetLists {
+        cells,
+        spans,
+        boundaries,
+        anchors,
+    };
+    ensure(lists.have_room(parts, stated), Cause::Room)?;
+    lists.fill(bytes, plan.kind, parts);
     Ok(header_of(plan, stated))
 }
 

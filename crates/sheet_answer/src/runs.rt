@@ -6,15 +6,20 @@ ghost use Rattle.sheet_answer.specs.Contract.{keptlist_reading, sheet_from, shee
 
 use areas::lists::PartitionLists;
 use call_partition::asked::Asked;
-use definitions::limits::{NUMBERS_PER_ANCHOR, NUMBERS_PER_BOUNDARY, NUMBERS_PER_SPAN};
+use definitions::limits::{
+    MAX_ENTRIES, NUMBERS_PER_ANCHOR, NUMBERS_PER_BOUNDARY, NUMBERS_PER_ROW, NUMBERS_PER_SPAN,
+    TALLIES_PER_SPAN,
+};
 use refusals::Refusal;
 use report_reading::read_limited;
-use sheet::Header;
+use sheet::{CELLS_MOST, Header};
 use topology::numbers::RECORDS_HERE;
 use topology::own_records::kept_boundaries_here;
 
 // How many numbers the rows of the longest kept list have.
-pub const ROWS_ROOM: usize = 1280;
+pub const ROWS_ROOM: usize = NUMBERS_PER_ROW * MAX_ENTRIES;
+
+const CELLS: usize = CELLS_MOST as usize;
 
 // A sheet whose pass kept so many boundaries: the output begins with their rows.
 #[derive(Clone, Copy)]
@@ -29,10 +34,10 @@ fn call(pass: u64, asked: Asked, output: &mut [u64; ROWS_ROOM]) -> Result<usize,
     requires { output.old ≡ replicate 1280 0 }
     ensures { SheetCalled (of_asked (sheet_from pass) asked.entry) (answer_of result) output.new }
 {
-    let mut labels = [0u32; 4096];
-    let mut masks = [0u16; 4096];
-    let mut queue = [0u32; 4096];
-    let mut tallies = [0u32; 512];
+    let mut labels = [0u32; CELLS];
+    let mut masks = [0u16; CELLS];
+    let mut queue = [0u32; CELLS];
+    let mut tallies = [0u32; TALLIES_PER_SPAN * MAX_ENTRIES];
     let mut pairs = [0u32; 6144];
     let mut numbers = [0u64; 1];
     let mut lists = PartitionLists {
@@ -85,10 +90,10 @@ pub fn run_sheet(bytes: &[u8], output: &mut [u64; ROWS_ROOM]) -> Result<SheetRun
     requires { output.old ≡ replicate 1280 0 }
     ensures { SheetRan (keptlist_reading bytes.now) result output.new }
 {
-    let mut cells = [0u8; 4096];
-    let mut spans = [0u64; 1024];
-    let mut boundaries = [0u64; 2304];
-    let mut anchors = [0u64; 512];
+    let mut cells = [0u8; CELLS];
+    let mut spans = [0u64; NUMBERS_PER_SPAN * MAX_ENTRIES];
+    let mut boundaries = [0u64; NUMBERS_PER_BOUNDARY * MAX_ENTRIES];
+    let mut anchors = [0u64; NUMBERS_PER_ANCHOR * MAX_ENTRIES];
     let header = read_limited(bytes, &mut cells, &mut spans, &mut boundaries, &mut anchors)?;
     let kept = call_held(header, &cells, &spans, &boundaries, &anchors, output)?;
     Ok(SheetRun {

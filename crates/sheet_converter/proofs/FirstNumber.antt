@@ -14,14 +14,6 @@ use Rattle.sheets_equal.proofs.ReaderBytes.{judged_is}
 use Rattle.sheets_equal.proofs.SheetsEqual.{kind_in}
 use Rattle.sheet_converter.specs.Contract.{is_other}
 
--- ---- what `number_at` tells
-
-pub kind-told : {r : Read ℕ} {value next : ℕ} {rest : List ℕ} → r ≡ found value next rest → not (eqb value 1) ≡ is_other r
-kind-told h = sym (ap is_other h)
-
-pub no_kind : {r : Read ℕ} {refusal place : ℕ} → r ≡ failed refusal place → false ≡ is_other r
-no_kind h = sym (ap is_other h)
-
 -- ---- the reading
 
 by_kind : (r : Read ℕ) (s : Reading) → of_kind1 r s ≡ cond (is_other r) (refused 14 0) s

@@ -3,8 +3,8 @@
 
 #![tactic(auto)]
 
-ghost use Rattle.std.specs.Prelude.{◌≡◌, ◌+◌, ◌-◌, ◌≤◌, length};
-ghost use Rattle.definitions.specs.Limits.{max_side};
+ghost use Rattle.std.specs.Prelude.{◌≡◌, ◌+◌, ◌-◌, ◌*◌, ◌≤◌, length};
+ghost use Rattle.definitions.specs.Limits.{max_side, max_entries, numbers_per_boundary};
 ghost use Rattle.definitions.specs.SheetNumber as grammar;
 ghost use Rattle.definitions.specs.Refusals.{elevations_fault};
 ghost use Rattle.definitions.specs.Sheet.{cell, endpoints_of, plain_cell_limit};
@@ -22,21 +22,28 @@ use checks::boundaries::boundaries_fault;
 use checks::cells::elevation_fits;
 use checks::passes::Pass;
 use checks::spans::spans_fault;
-use definitions::limits::{NUMBERS_PER_BOUNDARY, NUMBERS_PER_SPAN};
+use definitions::limits::{
+    MAX_ENTRIES, NUMBERS_PER_ANCHOR, NUMBERS_PER_BOUNDARY, NUMBERS_PER_SPAN,
+};
 use put_shortest::put_shortest;
 use refusals::answers::Answer;
 use refusals::{Cause, Refusal, ensure, no_fault};
 use sheet::{
-    CELL_MOST, PLAIN_CELL_LIMIT, Plan, fill_endpoints, fill_numbers, item, judge_sheet, number_at,
+    CELL_MOST, Kind, PLAIN_CELL_LIMIT, Plan, fill_endpoints, fill_numbers, item, judge_sheet,
+    number_at,
 };
 
 // ---- the kind
 
-// The bytes begin with a kind that is not 1.
+const OLD_KIND: u64 = Kind::OwnSpans as u64;
+
+const NEW_KIND: u64 = Kind::SharedSpans as u64;
+
+// The bytes begin with a kind that is not the old one.
 fn is_other_kind(bytes: &[u8]) -> bool
     ensures { result ≡ is_other (grammar.number 0 bytes.now) }
 {
-    number_at(bytes, 0).is_ok_and(|kind| kind.value != 1)
+    number_at(bytes, 0).is_ok_and(|kind| kind.value != OLD_KIND)
 }
 
 // ---- the checks
@@ -78,10 +85,10 @@ fn cells_fault(bytes: &[u8], at: usize, count: usize) -> Option<usize>
 
 // The spans are the endpoints of the boundaries, as written.
 fn is_one_list(spans: &[u64], boundaries: &[u64]) -> bool
-    requires { length boundaries.now ≤ 2304 }
+    requires { length boundaries.now ≤ numbers_per_boundary * max_entries }
     ensures { result ≡ same_numbers spans.now (endpoints_of boundaries.now) }
 {
-    let mut ends = [0u64; 1024];
+    let mut ends = [0u64; NUMBERS_PER_SPAN * MAX_ENTRIES];
     let count = boundaries.len() / NUMBERS_PER_BOUNDARY;
     fill_endpoints(boundaries, count, &mut ends);
     let end = NUMBERS_PER_SPAN * count;
@@ -98,7 +105,7 @@ fn map_check(
 ) -> Result<(), Refusal>
     requires sides { (plan.width ≤ max_side) × (plan.height ≤ max_side) }
     requires cells { Held cell bytes.now plan.parts.cells.first plan.parts.cells.count }
-    requires few { length boundaries.now ≤ 2304 }
+    requires few { length boundaries.now ≤ numbers_per_boundary * max_entries }
     ensures { refusal_in result
         ≡ map_refusal plan.pass plan.width plan.height (cells_in bytes.now plan.parts)
         spans.now boundaries.now anchors.now }
@@ -121,9 +128,9 @@ fn plan_check(bytes: &[u8], plan: Plan) -> Result<(), Refusal>
     requires old { kind_number plan.kind ≡ 1 }
     ensures { refusal_in result ≡ refusal_for (sheet_of bytes.now plan) }
 {
-    let mut spans = [0u64; 1024];
-    let mut boundaries = [0u64; 2304];
-    let mut anchors = [0u64; 512];
+    let mut spans = [0u64; NUMBERS_PER_SPAN * MAX_ENTRIES];
+    let mut boundaries = [0u64; NUMBERS_PER_BOUNDARY * MAX_ENTRIES];
+    let mut anchors = [0u64; NUMBERS_PER_ANCHOR * MAX_ENTRIES];
     let b = plan.parts.spans;
     let c = plan.parts.boundaries;
     let d = plan.parts.anchors;
@@ -141,15 +148,13 @@ fn plan_check(bytes: &[u8], plan: Plan) -> Result<(), Refusal>
 
 // ---- writing
 
-const KIND: u64 = 3;
-
 // Writes the sheet with kind 3 in front, and without what stands between `front` and `back`, and gives how many bytes it has.
 fn put_converted(bytes: &[u8], front: usize, back: usize, out: &mut [u8]) -> usize
     requires { Cut front back bytes.now (length out.old) }
     ensures { Put out.old 0 (cut_out front back bytes.now) out.new result }
 {
     let mut writer = Writer { out, at: 0 };
-    put_shortest(&mut writer, KIND);
+    put_shortest(&mut writer, NEW_KIND);
     writer.put(&bytes[1..front]);
     writer.put(&bytes[back..]);
     writer.at
@@ -164,12 +169,7 @@ fn convert_plan(bytes: &[u8], plan: Plan, out: &mut [u8]) -> Result<usize, Refus
     plan_check(bytes, plan)?;
     let front = plan.parts.front;
     let back = plan.parts.back;
-    if out.len() < front + (bytes.len() - back) {
-        return Err(Refusal {
-            cause: Cause::Room,
-            place: 0,
-        });
-    }
+    ensure(front + (bytes.len() - back) <= out.len(), Cause::Room)?;
     Ok(put_converted(bytes, front, back, out))
 }
 
@@ -177,12 +177,7 @@ fn convert_plan(bytes: &[u8], plan: Plan, out: &mut [u8]) -> Result<usize, Refus
 fn convert(bytes: &[u8], out: &mut [u8]) -> Result<usize, Refusal>
     ensures { Converts bytes.now out.old (answer_of result) out.new }
 {
-    if is_other_kind(bytes) {
-        return Err(Refusal {
-            cause: Cause::Sheet,
-            place: 0,
-        });
-    }
+    ensure(!is_other_kind(bytes), Cause::Sheet)?;
     let plan = judge_sheet(bytes, PLAIN_CELL_LIMIT)?;
     convert_plan(bytes, plan, out)
 }

@@ -7,18 +7,19 @@ ghost use Rattle.std.specs.Prelude.{◌≡◌, leb, length};
 ghost use Rattle.map_sheets.specs.SheetBytes.{sheet_bytes};
 ghost use Rattle.map_sheets.specs.Writing.{stating, Writes};
 ghost use Rattle.byte_writer.specs.Contract.{HasRoom, Appends};
-ghost use Rattle.refusals.specs.Answers.{answer_in};
+ghost use Rattle.refusals.specs.Answers.{answer_in, answer_of};
 ghost use Rattle.sheet_writer.specs.Contract.{opening, stated};
 
 use byte_writer::Writer;
 use checks::sizes::{are_whole, cells_fit, sides_fit};
 use definitions::limits::{NUMBERS_PER_ANCHOR, NUMBERS_PER_BOUNDARY};
 use put_shortest::put_shortest;
-use refusals::Cause;
 use refusals::answers::Answer;
+use refusals::{Cause, Refusal, ensure};
 use result_writer::{put_list, put_numbers, spend_list, spend_number, spend_numbers};
+use sheet::Kind;
 
-const KIND: u64 = 3;
+const KIND: u64 = Kind::SharedSpans as u64;
 
 // What a sheet states: the pass, both sides, the cells, and the numbers of the boundaries and of the anchors.
 #[derive(Clone, Copy)]
@@ -66,6 +67,22 @@ impl Map<'_> {
         put_list(w, NUMBERS_PER_BOUNDARY, self.boundaries);
         put_list(w, NUMBERS_PER_ANCHOR, self.anchors);
     }
+
+    // Judges it, and writes the sheet. Gives how many bytes it has.
+    fn write(self, out: &mut [u8]) -> Result<usize, Refusal>
+        ensures { Writes (stated self.entry) out.old (answer_of result) out.new }
+    {
+        ensure(sides_fit(self.width, self.height), Cause::Sides)?;
+        ensure(cells_fit(self.width, self.height, self.cells), Cause::Cells)?;
+        ensure(
+            are_whole(self.boundaries.len(), self.anchors.len()),
+            Cause::Entries,
+        )?;
+        ensure(self.fits(out.len()), Cause::Room)?;
+        let mut writer = Writer { out, at: 0 };
+        self.put(&mut writer);
+        Ok(writer.at)
+    }
 }
 
 // Writes a map as a sheet of kind 3. For other languages too: include/jenwyllt.h declares it as jenwyllt_write_sheet.
@@ -89,22 +106,5 @@ pub fn sheet_writer_write_sheet(
         boundaries,
         anchors,
     };
-    if !sides_fit(width, height) {
-        return Answer::from(Cause::Sides);
-    }
-    if !cells_fit(width, height, cells) {
-        return Answer::from(Cause::Cells);
-    }
-    if !are_whole(boundaries.len(), anchors.len()) {
-        return Answer::from(Cause::Entries);
-    }
-    if !map.fits(out.len()) {
-        return Answer::from(Cause::Room);
-    }
-    let mut writer = Writer { out, at: 0 };
-    map.put(&mut writer);
-    Answer {
-        number: 0,
-        value: writer.at as u64,
-    }
+    Answer::from(map.write(out))
 }

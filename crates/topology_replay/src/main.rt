@@ -4,14 +4,23 @@
 #![tactic(auto)]
 
 use call_partition::asked::Asked;
+use definitions::limits::{
+    MAX_ENTRIES, NUMBERS_PER_ANCHOR, NUMBERS_PER_BOUNDARY, NUMBERS_PER_SPAN,
+};
 use replay_lists::{
     LentRoom, Opening, entries_before, length_within, replay_cases, write_numbers, write_partition,
 };
-use sheet::read_sheet;
+use sheet::{CELLS_MOST, read_sheet};
 use std::io;
 use std::io::Write;
 use streams::write_bytes;
+use topology::numbers::RECORDS_HERE;
 use topology::own_records::kept_boundaries_here;
+
+// A cell more than a sheet that is run has, and an entry more than a list may have, so that a case can pass on too many.
+const CELLS: usize = CELLS_MOST as usize + 1;
+
+const ENTRIES: usize = MAX_ENTRIES + 1;
 
 // Lends what the opening says to the call. Records are lent within it, as many as the opening says, and written in `numbers`.
 fn lend<W: Write>(out: &mut W, opening: &Opening, asked: Asked) -> io::Result<()> {
@@ -19,12 +28,12 @@ fn lend<W: Write>(out: &mut W, opening: &Opening, asked: Asked) -> io::Result<()
     let mut lists = room.lists(opening);
     let mut output = entries_before::<u64>();
     let mut numbers = entries_before::<u64>();
-    let output_end = length_within(opening.output, 4096);
+    let output_end = length_within(opening.output, output.len());
     let answer = kept_boundaries_here(
         u64::from(opening.pass),
         asked,
         &mut lists,
-        length_within(opening.records, 512),
+        length_within(opening.records, RECORDS_HERE),
         &mut output[0..output_end],
         &mut numbers,
     );
@@ -36,17 +45,17 @@ fn lend<W: Write>(out: &mut W, opening: &Opening, asked: Asked) -> io::Result<()
 
 // Passes on as much of the sheet's lists as the opening says.
 fn replay<W: Write>(out: &mut W, opening: &Opening, bytes: &[u8]) -> io::Result<()> {
-    let mut cells = [0u8; 4097];
-    let mut spans = [0u64; 1028];
-    let mut boundaries = [0u64; 2313];
-    let mut anchors = [0u64; 514];
+    let mut cells = [0u8; CELLS];
+    let mut spans = [0u64; NUMBERS_PER_SPAN * ENTRIES];
+    let mut boundaries = [0u64; NUMBERS_PER_BOUNDARY * ENTRIES];
+    let mut anchors = [0u64; NUMBERS_PER_ANCHOR * ENTRIES];
     if read_sheet(bytes, &mut cells, &mut spans, &mut boundaries, &mut anchors).is_err() {
         return write_bytes(out, b"no sheet\n");
     }
-    let cells_end = length_within(opening.cells, 4097);
-    let spans_end = length_within(opening.spans, 1028);
-    let boundaries_end = length_within(opening.boundaries, 2313);
-    let anchors_end = length_within(opening.anchors, 514);
+    let cells_end = length_within(opening.cells, cells.len());
+    let spans_end = length_within(opening.spans, spans.len());
+    let boundaries_end = length_within(opening.boundaries, boundaries.len());
+    let anchors_end = length_within(opening.anchors, anchors.len());
     let asked = Asked {
         width: u64::from(opening.width),
         height: u64::from(opening.height),

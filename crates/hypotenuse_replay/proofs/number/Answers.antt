@@ -1,18 +1,19 @@
--- `number` meets its contract. The invariant: the digits that are left, behind the number so far, stand for the number; and i digits stand for less than 16 ^ i. Assumes nothing.
-use mathlib.Core.Path.{◌≡◌, sym, ap, ◌∙◌}
-use mathlib.Core.List.{List, ◌∷◌}
+-- `number` meets its contract: i digits stand for less than 16 ^ i. Assumes nothing.
+use mathlib.Core.Path.{◌≡◌, refl, sym, ap, ◌∙◌}
+use mathlib.Core.List.{List, [], ◌∷◌, ◌++◌}
 use Prim.Native.Nat.{ℕ, ◌+◌, ◌*◌, ◌^◌, ◌≤◌, ◌<◌}
 use native.Mathlib.Nat.{mul-le-mul_left}
-use native.Mathlib.Numerals.{add-one}
 use native.Mathlib.Omega.{arith}
-use lib.ListN.{length, get_or, drop}
+use lib.ListN.{length, length-append}
+use Rattle.std.specs.Prelude.{Some}
+use Rattle.std.proofs.lemmas.Bool.Decides.{nat_tests}
+use Rattle.std.proofs.lemmas.Iterator.{YieldsList-from_slice}
+use Rattle.std.proofs.lemmas.Iterator.Consumers.{YieldsList-turn}
 use lib.Pow.{pow-add, pow_mono}
-use lib.Seq.{drop-cons, drop-length}
+use borrow.Author.Rules.{rules}
+use Rattle.std.proofs.lemmas.Fn.{fold_over, slice_gives, fronts, serves_by}
 use Rattle.hypotenuse_replay.specs.Lines.{digit_of, digits_after}
 use Rattle.hypotenuse_replay.proofs.number.Goals as goal
-
-step : (base n : ℕ) (s : List ℕ) (i : ℕ) → i < length s → digits_after base n (drop i s) ≡ digits_after base (n * base + digit_of (get_or s i 0)) (drop (i + 1) s)
-step base n s i h = ap (digits_after base n) (drop-cons s i 0 h ∙ ap (λ (j : ℕ). get_or s i 0 ∷ drop j s) (sym (add-one i)))
 
 grows : (n base d i : ℕ) → n < 2 ^ (4 * i) → base ≤ 16 → d < 16 → n * base + d < 2 ^ (4 * (i + 1))
 grows n base d i h b l =
@@ -29,34 +30,34 @@ word i h = pow_mono (four i h)
     four : (i : ℕ) → i ≤ 16 → 4 * i ≤ 64
     four i h = omega arith
 
-pub loop-b-init : goal.loop-b-init
-loop-b-init c = omega arith
+digits-push : (base n b : ℕ) (s : List ℕ) → digits_after base n (s ++ (b ∷ [])) ≡ digits_after base n s * base + digit_of b
+digits-push base n b [] = refl
+digits-push base n b (x ∷ s) = digits-push base (n * base + digit_of x) b s
 
-pub overflow_mul-n : goal.overflow_mul-n
-overflow_mul-n c =
-    let l = c.loop-b in
-    omega (arith, grows l.n c.args.base 0 l.b-index l.invariant.1 c.requires.1 (omega arith), word (l.b-index + 1) (omega (arith, c.requires.0)))
+below : (b : ℕ) → digit_of b < 16
+below b = grind (arith, nat_tests)
 
-pub digit-requires : goal.digit-requires
-digit-requires c = omega arith
+length-push : {A : Type 0} (xs : List A) (x : A) → length (xs ++ (x ∷ [])) ≡ length xs + 1
+length-push xs x = length-append xs (x ∷ [])
 
-pub overflow_add-n : goal.overflow_add-n
-overflow_add-n c =
-    let l = c.loop-b in
-    omega (arith, grows l.n c.args.base c.digit.result l.b-index l.invariant.1 c.requires.1 c.digit.ensures.1, word (l.b-index + 1) (omega (arith, c.requires.0)))
-
-pub loop-b-preserved : goal.loop-b-preserved
-loop-b-preserved c =
-    let l = c.loop-b in
-    let s = c.args.s.now in
-    let more : digits_after c.args.base (l.n * c.args.base + c.digit.result) (drop (l.b-index + 1) s) ≡ digits_after c.args.base 0 s =
-    ap (λ (d : ℕ). digits_after c.args.base (l.n * c.args.base + d) (drop (l.b-index + 1) s)) c.digit.ensures.0
-    ∙ sym (step c.args.base l.n s l.b-index c.loop-b-test.true) ∙ l.invariant.0 in
-    (more, grows l.n c.args.base c.digit.result l.b-index l.invariant.1 c.requires.1 c.digit.ensures.1, omega arith)
+pub fold-requires-clause-callable : goal.fold-requires-clause-callable
+fold-requires-clause-callable c =
+    serves_by _ (λ xs q. (q.0.0.now ≡ c.args.base) × (q.1 < 2 ^ (4 * length xs)))
+    (λ xs q x v j k.
+    let same : v.0.0.now ≡ q.0.0.now = search rules in
+    let d : v.1 ≡ q.1 * q.0.0.now + digit_of x.now = search rules in
+    let few : q.1 * q.0.0.now + digit_of x.now < 2 ^ (4 * (length xs + 1)) = grows q.1 q.0.0.now (digit_of x.now) (length xs) j.1 (omega (arith, c.requires.1, j.0)) (below x.now) in
+    (same ∙ j.0, rw (length-push xs x) (omega (arith, d, few)))) _ _ c.iter.result _ (refl, omega arith)
+    (λ xs t q x u y s j.
+    let turn = YieldsList-turn (YieldsList-from_slice c.args.s.now c.iter.ensures.rest) xs t y (Some x) u x refl s in
+    let most = grows q.1 q.0.0.now 15 (length xs) j.1 (omega (arith, c.requires.1, j.0)) (omega arith) in
+    let room = word (length xs + 1) (omega (arith, turn.0, c.requires.0)) in
+    (λ κs p n a r f g. omega (arith, most, room), λ κs p n a r f g d. omega (arith, most, room, d.ensures.1)))
 
 pub returns : goal.returns
 returns c =
-    let l = c.loop-b in
-    let s = c.args.s.now in
-    let whole : length s ≡ l.b-index = omega (arith, c.loop-b-test.false) in
-    ap (digits_after c.args.base l.n) (sym (drop-length s) ∙ ap (λ (j : ℕ). drop j s) whole) ∙ l.invariant.0
+    fold_over fronts (λ y. y.now) _ (λ ys a. a ≡ digits_after c.args.base 0 ys) _
+    (λ ys a x b f' j k.
+    let d : b ≡ a * c.args.base + digit_of x.now = search rules in
+    (d ∙ ap (λ n. n * c.args.base + digit_of x.now) j ∙ sym (digits-push c.args.base 0 x.now ys), search rules)) c.iter.result _ 0 _ (slice_gives c.iter.result) refl c.fold.ensures.ran
+    ∙ ap (digits_after c.args.base 0) c.iter.ensures.rest

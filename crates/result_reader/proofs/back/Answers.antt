@@ -1,5 +1,5 @@
 -- `result_reader::back` meets its contract: the pairs, the rows behind them, and the end. Assumes nothing.
-use Rattle.std.proofs.Common.{◌∙◌, arith}
+use Rattle.std.proofs.Common.{◌∙◌}
 use Rattle.sheet.proofs.Passed.{passed}
 use Rattle.result_reader.proofs.Answering.{first_of}
 use Rattle.result_reader.proofs.Chains.{back-stops, back-stops-later, back-too_long, back_found}
@@ -7,9 +7,6 @@ use Rattle.result_reader.proofs.back.Goals as goal
 
 pub returns-in_err-pairs : goal.returns-in_err-pairs
 returns-in_err-pairs c = rw (passed _ c.from_residual.ensures.1) (back-stops _ _ c.in_err-pairs.ensures)
-
-pub keys_list-requires-2 : goal.keys_list-requires-2
-keys_list-requires-2 c = (c.in_ok-pairs.ensures.behind, omega arith, omega arith)
 
 pub returns-in_err-rows : goal.returns-in_err-rows
 returns-in_err-rows c = rw (passed _ c.from_residual-in_err-rows.ensures.1) (back-stops-later c.in_ok-pairs.ensures c.in_err-rows.ensures)

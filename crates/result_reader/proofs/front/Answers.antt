@@ -6,9 +6,6 @@ use Rattle.result_reader.proofs.front.Goals as goal
 pub returns-in_err-labels : goal.returns-in_err-labels
 returns-in_err-labels c = rw (passed _ c.from_residual.ensures.1) (front-stops _ _ c.in_err-labels.ensures)
 
-pub tallies_list-requires : goal.tallies_list-requires
-tallies_list-requires c = c.in_ok-labels.ensures.behind
-
 pub returns-in_err-tallies : goal.returns-in_err-tallies
 returns-in_err-tallies c = rw (passed _ c.from_residual-in_err-tallies.ensures.1) (front-stops-later _ _ c.in_ok-labels.ensures c.in_err-tallies.ensures)
 

@@ -2,23 +2,25 @@
 use Rattle.std.proofs.Common.{◌∙◌}
 use Rattle.sheet.proofs.Passed.{passed}
 use Rattle.result_reader.proofs.Answering.{first_of}
-use Rattle.result_reader.proofs.Chains.{result_unopened, result_no_front, result_no_back, result-told}
+use Rattle.result_reader.proofs.Chains.{result_unopened, result_no_front, result_no_back, result-kept, result-broken}
 use Rattle.result_reader.proofs.judge_result.Goals as goal
 
 pub returns-in_err-opening : goal.returns-in_err-opening
 returns-in_err-opening c = rw (passed _ c.from_residual.ensures.1) (result_unopened _ c.in_err-opening.ensures)
 
-pub front-requires : goal.front-requires
-front-requires c = c.in_ok-opening.ensures.behind
-
 pub returns-in_err-front : goal.returns-in_err-front
 returns-in_err-front c = rw (passed _ c.from_residual-in_err-front.ensures.1) (result_no_front _ c.in_ok-opening.ensures.same c.in_err-front.ensures)
-
-pub back-requires : goal.back-requires
-back-requires c = c.in_ok-front.ensures.behind
 
 pub returns-in_err-back : goal.returns-in_err-back
 returns-in_err-back c = rw (passed _ c.from_residual-in_err-back.ensures.1) (result_no_back _ c.in_ok-opening.ensures.same c.in_ok-front.ensures.same c.in_err-back.ensures)
 
+pub returns-in_err-no_fault : goal.returns-in_err-no_fault
+returns-in_err-no_fault c =
+    rw (passed _ c.from_residual-in_err-no_fault.ensures.1)
+    (result-broken c.or.result c.in_ok-opening.ensures c.in_ok-front.ensures c.in_ok-back.ensures
+    (c.or.ensures ∙ first_of c.in_ok-front.front.value.breach c.in_ok-back.back.value.breach) _ c.in_err-no_fault.ensures)
+
 pub returns : goal.returns
-returns c = result-told c.or.result c.in_ok-opening.ensures c.in_ok-front.ensures c.in_ok-back.ensures (c.or.ensures ∙ first_of c.in_ok-front.front.value.breach c.in_ok-back.back.value.breach) c.judged.ensures
+returns c =
+    result-kept c.or.result c.in_ok-opening.ensures c.in_ok-front.ensures c.in_ok-back.ensures
+    (c.or.ensures ∙ first_of c.in_ok-front.front.value.breach c.in_ok-back.back.value.breach) c.in_ok-no_fault.ensures

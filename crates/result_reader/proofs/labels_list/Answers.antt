@@ -12,7 +12,7 @@ pub walk_labels-requires : goal.walk_labels-requires
 walk_labels-requires c = item-inside _ _ c.requires c.in_ok-count.ensures
 
 pub returns-in_err-labels : goal.returns-in_err-labels
-returns-in_err-labels c = rw (passed _ c.from_residual-in_err-labels.ensures.1) (labels-stopped _ _ (as_number _ _ c.in_ok-count.ensures) c.args.regions _ c.in_err-labels.ensures)
+returns-in_err-labels c = rw (passed _ c.from_residual-in_err-labels.ensures.1) (labels-stopped _ _ (as_number _ _ c.in_ok-count.ensures) c.args.regions.count _ c.in_err-labels.ensures)
 
 pub returns : goal.returns
 returns c = labels-found _ _ (as_number _ _ c.in_ok-count.ensures) _ _ c.requires c.in_ok-labels.ensures c.turns_breach.ensures

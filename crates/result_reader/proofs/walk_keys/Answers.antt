@@ -1,15 +1,8 @@
 -- `result_reader::walk_keys` meets its contract. The loop's invariant is `Walking`. Assumes nothing.
-use Rattle.std.proofs.Common.{arith}
 use Rattle.sheet.proofs.Passed.{passed}
 use Rattle.result_reader.proofs.Steps.{ascent_next}
-use Rattle.result_reader.proofs.Walking.{walking_starts, walking_ends, walking_stops, walking_goes_on}
+use Rattle.result_reader.proofs.Walking.{walking_ends, walking_stops, walking_goes_on}
 use Rattle.result_reader.proofs.walk_keys.Goals as goal
-
-pub loop-init : goal.loop-init
-loop-init g c = walking_starts _ _ _ c.requires.0
-
-pub numbers_at-requires : goal.numbers_at-requires
-numbers_at-requires g c = (omega (arith, c.requires.2), c.loop.invariant.inside)
 
 pub returns-in_err-numbers : goal.returns-in_err-numbers
 returns-in_err-numbers g c = rw (passed _ c.from_residual.ensures.1) (walking_stops _ _ _ c.loop.invariant c.loop-test.true _ c.in_err-numbers.ensures)

@@ -3,14 +3,8 @@ use Rattle.sheet.proofs.Items.{as_number}
 use Rattle.sheet.proofs.Passed.{passed}
 use Rattle.result_reader.proofs.Numbers.{item-inside, one_found, one_fails}
 use Rattle.result_reader.proofs.Steps.{turn_next}
-use Rattle.result_reader.proofs.Walking.{walking_starts, walking_ends, walking_stops, walking_goes_on}
+use Rattle.result_reader.proofs.Walking.{walking_ends, walking_stops, walking_goes_on}
 use Rattle.result_reader.proofs.walk_labels.Goals as goal
-
-pub loop-i-init : goal.loop-i-init
-loop-i-init c = walking_starts _ _ _ c.requires
-
-pub item-requires : goal.item-requires
-item-requires c = c.loop-i.invariant.inside
 
 pub returns-in_err-label : goal.returns-in_err-label
 returns-in_err-label c = rw (passed _ c.from_residual.ensures.1) (walking_stops _ _ _ c.loop-i.invariant c.loop-i-test.true _ (one_fails _ _ (as_number _ _ c.in_err-label.ensures)))

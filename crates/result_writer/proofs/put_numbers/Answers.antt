@@ -1,12 +1,9 @@
 -- `result_writer::put_numbers` meets its contract: the numbers from n-index on are still to be written. Assumes nothing.
 use Rattle.std.proofs.Common.{arith, map}
-use Rattle.byte_writer.specs.Chains.{writing_starts, writing_room, writing_goes_on, writing_ends}
+use Rattle.byte_writer.specs.Chains.{writing_room, writing_goes_on, writing_ends}
 use Rattle.result_writer.proofs.Placing.{placing_next, placing_none}
 use Rattle.result_writer.proofs.Mapped.{mapped_inside, mapped_ends, mapped_item}
 use Rattle.result_writer.proofs.put_numbers.Goals as goal
-
-pub loop-n-init : goal.loop-n-init
-loop-n-init g c = (omega arith, writing_starts c.requires)
 
 pub put_shortest-requires : goal.put_shortest-requires
 put_shortest-requires g c =

@@ -1,15 +1,12 @@
 -- `result_writer::spend_numbers` meets its contract. The loop's invariant is `Spending`. Assumes nothing.
 use Rattle.std.proofs.Common.{arith, ap, ◌∙◌, ◌<◌, ◌≡◌, length, get_or, map}
 use Rattle.results.specs.Shortest.{shortest}
-use Rattle.result_writer.proofs.Spending.{spending_starts, spending_goes_on, spending_stops, spending_ends, spent_none}
+use Rattle.result_writer.proofs.Spending.{spending_goes_on, spending_stops, spending_ends, spent_none}
 use Rattle.result_writer.proofs.Mapped.{mapped_inside, mapped_ends, mapped_item}
 use Rattle.result_writer.proofs.spend_numbers.Goals as goal
 
 pub returns-in_err-left : goal.returns-in_err-left
 returns-in_err-left g c = rw c.from_residual.ensures (spent_none _ c.in_err-left.was)
-
-pub loop-n-init : goal.loop-n-init
-loop-n-init g c = spending_starts
 
 pub returns-in_err-left-2 : goal.returns-in_err-left-2
 returns-in_err-left-2 g c =

@@ -1,13 +1,13 @@
 -- `sheet::fill_endpoints` meets its contract. The loop's invariant: the endpoints of the first i boundaries are stored, and nothing else. Assumes nothing.
-use Prim.Native.Nat.{◌*◌}
+use Prim.Native.Nat.{◌*◌, ◌<◌}
 use native.Mathlib.Omega.{arith}
 use mathlib.Core.Path.{refl, ap, ◌∙◌}
-use lib.Seq.{sets}
+use lib.Seq.{sets, length-take-le}
 use borrow.Author.Rules.{rules}
 use Rattle.definitions.specs.Scan.{gather}
 use Rattle.definitions.specs.Grid.{segment_at}
 use Rattle.definitions.specs.Sheet.{endpoints, endpoints_in}
-use Rattle.sheet.proofs.Endpoints.{endpoints-stored}
+use Rattle.sheet.proofs.Endpoints.{endpoints-read, endpoints-stored}
 use Rattle.sheet.proofs.fill_endpoints.Goals as goal
 
 pub loop-i-init : goal.loop-i-init
@@ -18,10 +18,12 @@ pub loop-i-preserved : goal.loop-i-preserved
 loop-i-preserved c =
     let boundaries = c.args.boundaries.now in
     let old = c.args.spans.now in
-    let i = c.loop-i.i in (
+    let i = c.loop-i.i in
+    let inside : i < c.args.count = omega (arith, c.loop-i-test.true, length-take-le c.args.count c.as_chunks.result.0.now (omega (arith, c.as_chunks.ensures.front_len, c.requires.0))) in (
       omega arith,
       search rules,
       c.put_endpoints.ensures
+          ∙ ap (sets c.loop-i.spans (4 * i)) (endpoints-read boundaries c.args.count i c.as_chunks.ensures.front c.requires.0 inside)
           ∙ ap (λ l. sets l (4 * i) (endpoints (segment_at boundaries (9 * i)))) c.loop-i.invariant.2
-          ∙ endpoints-stored i boundaries old (search rules),
+          ∙ endpoints-stored i boundaries old (omega (arith, c.requires.1)),
     )

@@ -11,5 +11,5 @@ use Rattle.sheet.proofs.put_endpoints.Goals as goal
 pub returns : goal.returns
 returns c =
     let given = c.args in
-    let boundaries = given.boundaries.now in
-    put_part given.spans.now (endpoints (segment_at boundaries (9 * given.i))) (4 * given.i) _ (omega arith) (omega arith) (c.copy_from_slice.ensures.after ∙ endpoints-taken boundaries (9 * given.i) (omega arith))
+    let boundary = given.boundary.now in
+    put_part given.spans.now (endpoints (segment_at boundary 0)) (4 * given.i) _ (omega arith) (omega arith) (c.copy_from_slice.ensures.after ∙ endpoints-taken boundary 0 (omega (arith, c.told-boundary)))

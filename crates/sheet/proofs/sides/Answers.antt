@@ -2,7 +2,8 @@
 use Rattle.std.proofs.Common.{sym, ◌∙◌}
 use Rattle.laws.specs.SheetReading.SheetLaws.{keeps-number, ends-inside}
 use Rattle.sheet.proofs.Items.{as_number}
-use Rattle.sheet.proofs.Passed.{passed}
+use Rattle.refusals.proofs.Steps.{holds}
+use Rattle.sheet.proofs.Passed.{passed, refuses, failure_of}
 use Rattle.sheet.proofs.Chains.{width-fails, height-fails, area-allowed, area-fails}
 use Rattle.sheet.proofs.sides.Goals as goal
 
@@ -16,10 +17,12 @@ pub returns-in_err-height : goal.returns-in_err-height
 returns-in_err-height c =
     rw (passed _ c.from_residual-in_err-height.ensures.1) (height-fails _ _ _ (as_number _ _ c.in_ok-width.ensures) (as_number _ _ c.in_err-height.ensures))
 
-pub returns-then-not-area_allowed : goal.returns-then-not-area_allowed
-returns-then-not-area_allowed c =
-    area-fails _ _ _ (as_number _ _ c.in_ok-width.ensures) (as_number _ _ c.in_ok-height.ensures) (sym c.area_allowed.ensures ∙ c.if-not-area_allowed.true)
+pub returns-in_err-ensure : goal.returns-in_err-ensure
+returns-in_err-ensure c =
+    let over = refuses 1 _ _ c.in_err-ensure.ensures in
+    rw (passed _ c.from_residual-in_err-ensure.ensures.1)
+    (area-fails _ _ _ (as_number _ _ c.in_ok-width.ensures) (as_number _ _ c.in_ok-height.ensures) (sym c.area_allowed.ensures ∙ over.0) ∙ failure_of 1 _ over.1)
 
 pub returns : goal.returns
 returns c =
-    area-allowed _ _ _ (as_number _ _ c.in_ok-width.ensures) (as_number _ _ c.in_ok-height.ensures) (sym c.area_allowed.ensures ∙ c.if-not-area_allowed.false)
+    area-allowed _ _ _ (as_number _ _ c.in_ok-width.ensures) (as_number _ _ c.in_ok-height.ensures) (sym c.area_allowed.ensures ∙ holds 1 _ c.in_ok-ensure.ensures)

@@ -17,10 +17,6 @@ pub loop-i-init : goal.loop-i-init
 loop-i-init c =
     (walking_starts c.requires, none_faulty_zero (fits (values_at cell c.args.bytes.now c.args.at c.args.count)))
 
-pub item-requires : goal.item-requires
-item-requires c =
-    c.loop-i.invariant.0.held.inside
-
 pub returns-in_default : goal.returns-in_default
 returns-in_default c =
     absurd (walking_never-stops c.loop-i.invariant.0 c.loop-i-test.true (as_cell _ _ c.in_default.ensures))

@@ -18,9 +18,6 @@ returns-in_err-lists_check c =
     let r : refusal_in c.from_residual-in_err-lists_check.result ≡ Some (refusal_of c.in_err-lists_check.field-0.0) = search rules in
     r ∙ next (sym c.in_ok-try_from.ensures.0) (here _ (sym c.in_err-lists_check.ensures))
 
-pub cells_fault-requires : goal.cells_fault-requires
-cells_fault-requires c = c.requires.cells
-
 pub returns-in_err-no_fault : goal.returns-in_err-no_fault
 unfolding map_refusal
 returns-in_err-no_fault c =

@@ -11,18 +11,6 @@ unfolding shortest shortest_within
 put_shortest-requires c =
     omega (arith, c.requires.begun, c.requires.fits)
 
-pub slice_bounds-put-count : goal.slice_bounds-put-count
-slice_bounds-put-count c =
-    omega (arith, c.requires.begun)
-
-pub slice_bounds-put-start : goal.slice_bounds-put-start
-slice_bounds-put-start c =
-    omega (arith, c.requires.begun)
-
-pub slice_bounds-put-end : goal.slice_bounds-put-end
-slice_bounds-put-end c =
-    omega (arith, c.requires.ordered, c.requires.inside)
-
 pub put-requires : goal.put-requires
 unfolding shortest shortest_within
 put-requires c =
@@ -36,18 +24,6 @@ put-requires c =
       c.put_shortest.ensures.put.next_is,
       put-long c.put_shortest.ensures.put,
     )
-
-pub slice_bounds-put-count-2 : goal.slice_bounds-put-count-2
-slice_bounds-put-count-2 c =
-    omega (arith, c.requires.inside)
-
-pub slice_bounds-put-start-2 : goal.slice_bounds-put-start-2
-slice_bounds-put-start-2 c =
-    omega (arith, c.requires.inside)
-
-pub slice_bounds-put-end-2 : goal.slice_bounds-put-end-2
-slice_bounds-put-end-2 c =
-    omega (arith, c.requires.inside)
 
 pub put-requires-2 : goal.put-requires-2
 unfolding shortest shortest_within
