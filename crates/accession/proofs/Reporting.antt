@@ -43,11 +43,6 @@ module _ (l : List ℕ) (number room : ℕ) {count : ℕ} (e : count ≡ count_b
   pub line-counted : answer 0 count ≡ first_refusal [] (length (map_line l number))
   line-counted = ap (answer 0) line-count
 
--- a refusal leaves the output
-pub room-left : (number : ℕ) (line : List Accession) (out : List ℕ) → 1 ≤ number → out ≡ room_exit number line out
-room-left zero line out h = absurd (omega arith)
-room-left (suc number) line out h = refl
-
 -- ---- 3 and 17
 
 module _ (l : List ℕ) (own : ℕ) (out : List ℕ) where

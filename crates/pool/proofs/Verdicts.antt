@@ -120,11 +120,6 @@ module _ (terms records : List ℕ) (asked : Date) (room : ℕ) where
       first_refusal (refusal 18 (asked_fault terms o) ∷ refusal 10 (unless (leb (length (entries_on terms records o)) room)) ∷ []) (length (entries_on terms records o) / 4))
       (sym d))
 
-pub listed-at_exit : (n : ℕ) (terms records : List ℕ) (asked : Date) (old : List ℕ) {day : ℕ} → Some day ≡ day_of asked
-    → output_by n (entries_on terms records (Some day)) old ≡ pool_at_exit n terms records asked old
-listed-at_exit zero terms records asked old d = ap (λ o. overwrite (entries_on terms records o) old) d
-listed-at_exit (suc n) terms records asked old d = refl
-
 -- ---- the room
 
 module _ (terms records : List ℕ) (day : ℕ) {maps : ℕ} (m : maps ≡ length (maps_in terms day)) where

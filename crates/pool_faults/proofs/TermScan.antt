@@ -61,25 +61,6 @@ module _ (terms : List ℕ) (i : ℕ) (ends : List ℕ) (L : Latest terms i ends
       go None h k = absurd (omega arith)
       go (Some d) h k = rw (lt-leb d.to d.from h, none_earlier d k) refl
 
--- ---- an end that is kept
-
-module _ (t : Term) (ends : List ℕ) (n : length ends ≡ 4096) {s : ℕ} (q : s ≡ t.on_map % 4096) (h : s < 4096) where
-  pub end-stored : (v : ℕ) → end_in (days_of t) ≤ v → get_or ends s 0 ≤ v → EndKept t ends (set ends s v)
-  end-stored v e k =
-      record {
-        slots = length-set ends s v ∙ n;
-        said = omega (arith, ap (λ j. get_or (set ends s v) j 0) q, get_or-set_same ends s v 0 (omega (arith, n)), e);
-        grown = λ j. go j (eqb j s) refl;
-      }
-    where
-      go : (j : ℕ) (b : Bool) → eqb j s ≡ b → get_or ends j 0 ≤ get_or (set ends s v) j 0
-      go j true e = rw (eqb-true j s e, get_or-set_same ends s v 0 (omega (arith, n))) k
-      go j false e = rw (get_or-set_other ends s j v 0 (eqb-false j s e)) (omega arith)
-
--- a bad date has no end
-pub none_kept : (t : Term) (ends : List ℕ) → length ends ≡ 4096 → days_of t ≡ None → EndKept t ends ends
-none_kept t ends n e = record { slots = n; said = omega (arith, ap end_in e); grown = λ j. omega arith }
-
 pub latest-starts : (terms ends : List ℕ) → length ends ≡ 4096 → Latest terms 0 ends
 latest-starts terms ends n = record { slots = n; latest = λ j b. absurd (omega arith) }
 
