@@ -25,13 +25,13 @@ fn keep_end(term: Term, ends: &mut [u64; SLOTS])
     }
 }
 
-// Whether the term is sound, its dates good and its end later than its first day, and starts no earlier than the latest end of its map's slot, so that it breaks
-// no rule.
+// Whether the term is sound, its dates good and its end later than its first day, and starts no earlier than the latest end of its map's slot, so that it
+// breaks no rule.
 fn passes(term: Term, ends: &[u64; SLOTS]) -> bool
     ensures { result ≡ passes (term_as term) ends.now }
 {
-    term.days().is_some_and(|days| days.from < days.to
-        && ends[slot_of::<SLOTS>(term.on_map)] <= days.from)
+    let latest = ends[slot_of::<SLOTS>(term.on_map)];
+    term.days().is_some_and(|days| days.from < days.to && latest <= days.from)
 }
 
 // How many of the first terms pass, one after the other: all that come in the order of their days.

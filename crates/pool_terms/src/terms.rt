@@ -27,22 +27,10 @@ impl Term {
     pub fn read(numbers: &[u64; NUMBERS_PER_TERM]) -> Term
         ensures { term_as result ≡ term_in numbers.now }
     {
-        let [
-            on_map,
-            first_year,
-            first_month,
-            first_day,
-            end_year,
-            end_month,
-            end_day,
-        ] = *numbers;
+        let [on_map, year, month, day, end_year, end_month, end_day] = *numbers;
         Term {
             on_map,
-            first: Date {
-                year: first_year,
-                month: first_month,
-                day: first_day,
-            },
+            first: Date { year, month, day },
             end: Date {
                 year: end_year,
                 month: end_month,
