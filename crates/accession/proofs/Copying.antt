@@ -25,8 +25,7 @@ four_from l k h =
     ∙ (λ t. get_or l k 0 ∷ get_or l (one t) 0 ∷ get_or l (two t) 0 ∷ get_or l (three t) 0 ∷ [])
 
 pub record_copied : (l : List ℕ) (i : ℕ) (old : List ℕ) (k : ℕ) {part : List ℕ} → i < accession_count l → k + 4 ≤ length old
-    → part ≡ take (4 * i + 4 - 4 * i) (drop (4 * i) l) → put_mid k (k + 4 - k) old part ≡ sets old k (flat_accession (accession_at l i))
+    → part ≡ take 4 (drop (4 * i) l) → put_mid k (k + 4 - k) old part ≡ sets old k (flat_accession (accession_at l i))
 unfolding accession_at
 record_copied l i old k h room e =
-    let four : 4 * i + 4 - 4 * i ≡ 4 = omega arith in
-    put_four old k _ _ _ _ room (e ∙ ap (λ n. take n (drop (4 * i) l)) four ∙ four_from l (4 * i) (omega arith))
+    put_four old k _ _ _ _ room (e ∙ four_from l (4 * i) (omega arith))

@@ -5,3 +5,4 @@ pub mod Checking
 pub mod Putting
 pub mod Reporting
 pub mod Chains
+pub mod Turning

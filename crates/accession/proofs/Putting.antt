@@ -40,9 +40,11 @@ module _ (l : List ℕ) (number : ℕ) (old : List ℕ) where
     pub placed : k ≡ numbers_per_accession * length done
     pub written : out ≡ overwrite (flat_line done) old
 
-  pub putting_none : Putting old (accession_count l) 0
+  pub putting_none : Putting old (accession_count l - 0) 0
   unfolding map_line flat_line
-  putting_none = record { done = []; within = omega arith; whole = refl; placed = refl; written = refl }
+  putting_none =
+      let all : accession_count l ≡ accession_count l - 0 = omega arith in
+      subst (λ i. Putting old i 0) all (record { done = []; within = omega arith; whole = refl; placed = refl; written = refl })
 
   module _ (fits : numbers_per_accession * count_below (accession_count l) p ≤ length old) where
     -- how much is written and left

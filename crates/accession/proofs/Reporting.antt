@@ -2,12 +2,12 @@
 use Prim.Native.Nat.{ℕ, zero, suc, ◌*◌, ◌/◌, ◌≤◌, ◌<◌}
 use native.Mathlib.Omega.{arith}
 use mathlib.Core.Path.{◌≡◌, refl, sym, ap, ap₂, ◌∙◌}
-use mathlib.Core.Bool.{Bool, true}
+use mathlib.Core.Bool.{Bool, true, false}
 use Rattle.std.specs.Prelude.{Option, None}
 use mathlib.Core.List.{List, [], ◌∷◌}
 use lib.ListN.{length}
 use lib.Dec.{leb}
-use borrow.Author.Tests.{le-leb, lt-leb}
+use borrow.Author.Tests.{le-leb, lt-leb, leb-true, leb-false}
 use Rattle.definitions.specs.Lists.{overwrite}
 use Rattle.definitions.specs.Scan.{count_below, concat_map}
 use Rattle.definitions.specs.Refusals.{unless}
@@ -28,16 +28,20 @@ module _ (l : List ℕ) (number room : ℕ) {count : ℕ} (e : count ≡ count_b
   unfolding map_line
   line-count = e ∙ sym (newest-length l (is_of_map l number) (accession_count l))
 
-  pub no_room : room / numbers_per_accession < count → answer 10 0 ≡ room_verdict (map_line l number) room
-  no_room h =
-      ap (λ b. first_refusal (refusal 10 (unless b) ∷ []) (length (map_line l number)))
-      (sym (lt-leb (numbers_per_accession * length (map_line l number)) room (omega (arith, line-count))))
+  -- the test of the room, in records or in numbers
+  pub room_same : leb count (room / numbers_per_accession) ≡ leb (numbers_per_accession * length (map_line l number)) room
+  room_same = go (leb count (room / numbers_per_accession)) refl
+    where
+      go : (b : Bool) → leb count (room / numbers_per_accession) ≡ b → b ≡ leb (numbers_per_accession * length (map_line l number)) room
+      go true t =
+          let fits : count ≤ room / numbers_per_accession = leb-true count (room / numbers_per_accession) t in
+          sym (le-leb (numbers_per_accession * length (map_line l number)) room (omega (arith, line-count, fits)))
+      go false t =
+          let short : room / numbers_per_accession < count = leb-false count (room / numbers_per_accession) t in
+          sym (lt-leb (numbers_per_accession * length (map_line l number)) room (omega (arith, line-count, short)))
 
-  pub has_room : count ≤ room / numbers_per_accession → answer 0 count ≡ room_verdict (map_line l number) room
-  has_room h =
-      ap (answer 0) line-count
-      ∙ ap (λ b. first_refusal (refusal 10 (unless b) ∷ []) (length (map_line l number)))
-      (sym (le-leb (numbers_per_accession * length (map_line l number)) room (omega (arith, line-count))))
+  pub line-counted : answer 0 count ≡ first_refusal [] (length (map_line l number))
+  line-counted = ap (answer 0) line-count
 
 -- ---- 3 and 17
 

@@ -5,6 +5,10 @@ use Rattle.definitions.specs.Refusals.{unless}
 use Rattle.definitions.specs.Verdict.{Answer, refusal, first_refusal}
 use Rattle.catalogue.specs.Accession.{Accession, numbers_per_accession, accession_at, accession_count}
 use Rattle.catalogue.specs.Line.{flat_line}
+use Rattle.accession.specs.declared.records.Accession as code
+
+abbrev pub accession_as : code.Accession → Accession
+accession_as r = record { own = r.own; on_map = r.on_map; day = r.day; superseded = r.superseded }
 
 -- a position as the definitions count it: one more than it, or 0 where there is none
 abbrev pub one_more : Option ℕ → ℕ

@@ -7,17 +7,12 @@ ghost use Rattle.catalogue.specs.AccessionLaws.MapLine.{is_of_map};
 ghost use Rattle.accession.specs.Contract.{one_more};
 ghost use Rattle.accession.specs.Held.{Holds};
 
-use crate::fields::map_of;
-
-fn slot_of(number: u64, slots: usize) -> usize
-    requires { 0 < slots }
-    ensures { (result ≡ number % slots) × (result < slots) }
-{
-    (number % slots as u64) as usize
-}
+use crate::records::accession_at;
+use catalogue::slots::slot_of;
 
 // The first `count` records, each in the slot of its map: the slot's last record, and of each record the one before it in its slot.
-// Positions are one more than they are, and 0 says that there is none: a table begins as zeros, and an Option of each would take twice the room.
+// Kept: positions are one more than they are, and 0 says that there is none. The tables stand on the stack, where there is no heap, and those of the long list
+// have 640 KiB; `Option<u32>` takes eight bytes where u32 takes four, so that they would have 1,280 KiB.
 #[derive(Drop)]
 pub struct Held<const SLOTS: usize, const ROOM: usize> {
     count: usize,
@@ -44,10 +39,10 @@ impl<const SLOTS: usize, const ROOM: usize> Held<SLOTS, ROOM> {
         ensures { one_more result ≡ last_below self.now.count (is_of_map records.now number) }
     {
         // Kept: std takes a chain of `successors` for endless, and `find` asks for an end, which is known here only because links fall.
-        let mut next = self.last[slot_of(number, SLOTS)] as usize;
+        let mut next = self.last[slot_of::<SLOTS>(number)] as usize;
         while 0 < next {
             let k = next - 1;
-            if map_of(records, k) == number {
+            if accession_at(records, k).on_map == number {
                 return Some(k);
             }
             next = self.links[k] as usize;
@@ -61,10 +56,11 @@ impl<const SLOTS: usize, const ROOM: usize> Held<SLOTS, ROOM> {
         requires table { Holds records.now SLOTS self.now.count self.now.last self.now.links }
         ensures { one_more result ≡ previous records.now i }
     {
-        let number = map_of(records, i);
+        let number = accession_at(records, i).on_map;
         let behind = (self.count..i)
             .rev()
-            .find(|&k| map_of(records, k) == number);
+            .find(|&k| accession_at(records, k).on_map == number);
+        // Kept: what `last_held` requires of the table is not inferred of a closure with const parameters, so that one of `or_else` would repeat it as a clause.
         match behind {
             Some(k) => Some(k),
             None => self.last_held(records, number),
@@ -80,7 +76,7 @@ impl<const SLOTS: usize, const ROOM: usize> Held<SLOTS, ROOM> {
         if ROOM <= self.count {
             return;
         }
-        let slot = slot_of(map_of(records, self.count), SLOTS);
+        let slot = slot_of::<SLOTS>(accession_at(records, self.count).on_map);
         self.links[self.count] = self.last[slot];
         self.last[slot] = (self.count + 1) as u32;
         self.count += 1;

@@ -2,9 +2,9 @@
 
 #![tactic(auto)]
 
-pub mod fields;
 mod held;
 pub mod line;
+mod records;
 pub mod rules;
 
 ghost use Rattle.std.specs.Prelude.{◌≡◌, length};

@@ -1,16 +1,14 @@
 // The line of an own number: every record of its map, newest first.
-ghost use Rattle.std.specs.Prelude.{◌≡◌, true, ◌≤◌, ◌<◌, ◌+◌, ◌*◌, length, None};
-ghost use Rattle.std.proofs.lemmas.List.Edits.{sets};
+ghost use Rattle.std.specs.Prelude.{◌≡◌, true, ◌≤◌, ◌*◌, length, None};
 ghost use Rattle.definitions.specs.Lists.{overwrite};
-ghost use Rattle.definitions.specs.Scan.{bit, count_below};
-ghost use Rattle.catalogue.specs.Accession.{numbers_per_accession, flat_accession, accession_at, accession_count, accessions_fault, is_finished};
+ghost use Rattle.definitions.specs.Scan.{count_below};
+ghost use Rattle.catalogue.specs.Accession.{numbers_per_accession, accession_count, accessions_fault, is_finished};
 ghost use Rattle.catalogue.specs.Line.{flat_line, line_verdict, line_at_exit};
-ghost use Rattle.catalogue.specs.AccessionLaws.Newest.{one};
 ghost use Rattle.catalogue.specs.AccessionLaws.MapLine.{is_of_map, map_line};
 ghost use Rattle.refusals.specs.Answers.{answer_of};
 ghost use Rattle.accession.specs.Contract.{Finds, room_verdict, room_exit};
 
-use crate::fields::{map_of, own_of, record_count};
+use crate::records::{accession_at, record_count};
 use crate::rules::first_broken;
 use catalogue::sizes::NUMBERS_PER_ACCESSION;
 use refusals::{Cause, Refusal, ensure, no_fault};
@@ -19,48 +17,30 @@ use refusals::{Cause, Refusal, ensure, no_fault};
 fn find_own(records: &[u64], own: u64) -> Option<usize>
     ensures { Finds records.now own result }
 {
-    (0..record_count(records)).find(|&i| own_of(records, i) == own)
+    (0..record_count(records)).find(|&i| accession_at(records, i).own == own)
 }
 
 fn count_of_map(records: &[u64], number: u64) -> usize
     ensures { result ≡ count_below (accession_count records.now) (is_of_map records.now number) }
 {
     (0..record_count(records))
-        .filter(|&i| map_of(records, i) == number)
+        .filter(|&i| accession_at(records, i).on_map == number)
         .count()
 }
 
-fn put_record(records: &[u64], i: usize, output: &mut [u64], k: usize)
-    requires { (i < accession_count records.now) × (k + 3 < length output.old) }
-    ensures { output.new ≡ sets output.old k (flat_accession (accession_at records.now i)) }
-{
-    let at = NUMBERS_PER_ACCESSION * i;
-    let record = &records[at..at + NUMBERS_PER_ACCESSION];
-    output[k..k + NUMBERS_PER_ACCESSION].copy_from_slice(record);
-}
-
-// Record i, if it is of the map. Returns where the next one goes.
-fn put_of_map(records: &[u64], number: u64, i: usize, output: &mut [u64], k: usize) -> usize
-    requires { (i < accession_count records.now) × (is_of_map records.now number i ≡ true → k + 3 < length output.old) }
-    ensures next { result ≡ k + numbers_per_accession * bit (is_of_map records.now number i) }
-    ensures left { output.new ≡ sets output.old k
-        (flat_line (one (is_of_map records.now number i) records.now i)) }
-{
-    if map_of(records, i) != number {
-        return k;
-    }
-    put_record(records, i, output, k);
-    k + NUMBERS_PER_ACCESSION
-}
-
+// Every record of the map, newest first.
 fn put_line(records: &[u64], number: u64, output: &mut [u64])
     requires { numbers_per_accession * count_below (accession_count records.now) (is_of_map records.now number) ≤ length output.old }
     ensures { output.new ≡ overwrite (flat_line (map_line records.now number)) output.old }
 {
+    let (records, _) = records.as_chunks::<NUMBERS_PER_ACCESSION>();
     let mut k = 0;
-    // Kept: the output's chunks beside the records, by `zip`, are an adapter of `iter_mut`, of which std says nothing once it wrote.
-    for i in (0..record_count(records)).rev() {
-        k = put_of_map(records, number, i, output, k);
+    for record in records.iter().rev() {
+        let [_, on_map, _, _] = *record;
+        if on_map == number {
+            output[k..k + NUMBERS_PER_ACCESSION].copy_from_slice(record);
+            k += NUMBERS_PER_ACCESSION;
+        }
     }
 }
 
@@ -70,12 +50,7 @@ fn report_map(records: &[u64], number: u64, output: &mut [u64]) -> Result<usize,
     ensures left { output.new ≡ room_exit (answer_of result).number (map_line records.now number) output.old }
 {
     let count = count_of_map(records, number);
-    if output.len() / NUMBERS_PER_ACCESSION < count {
-        return Err(Refusal {
-            cause: Cause::Room,
-            place: 0,
-        });
-    }
+    ensure(count <= output.len() / NUMBERS_PER_ACCESSION, Cause::Room)?;
     put_line(records, number, output);
     Ok(count)
 }
@@ -88,7 +63,7 @@ fn report_kept(records: &[u64], own: u64, output: &mut [u64]) -> Result<usize, R
 {
     match find_own(records, own) {
         None => Ok(0),
-        Some(i) => report_map(records, map_of(records, i), output),
+        Some(i) => report_map(records, accession_at(records, i).on_map, output),
     }
 }
 

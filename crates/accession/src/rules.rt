@@ -4,8 +4,8 @@ ghost use Rattle.catalogue.specs.Accession.{accession_count, own_ascends, access
 ghost use Rattle.catalogue.specs.AccessionLaws.Chain.{follows};
 ghost use Rattle.accession.specs.Contract.{one_more};
 
-use crate::fields::{day_of, own_of, record_count, superseded_of};
 use crate::held::Held;
+use crate::records::{accession_at, record_count};
 
 // "Own numbers start above 0 and strictly ascend."
 fn own_ascends(records: &[u64], i: usize) -> bool
@@ -13,9 +13,9 @@ fn own_ascends(records: &[u64], i: usize) -> bool
     ensures { result ≡ own_ascends records.now i }
 {
     if i == 0 {
-        return 0 < own_of(records, 0);
+        return 0 < accession_at(records, 0).own;
     }
-    own_of(records, i - 1) < own_of(records, i)
+    accession_at(records, i - 1).own < accession_at(records, i).own
 }
 
 // Record i goes on from record k, or starts a chain, where there is none.
@@ -23,11 +23,12 @@ fn goes_on(records: &[u64], i: usize, last: Option<usize>) -> bool
     requires { (i < accession_count records.now) × (one_more last ≤ i) }
     ensures { result ≡ follows records.now i (one_more last) }
 {
-    let superseded = superseded_of(records, i);
+    let record = accession_at(records, i);
     match last {
-        None => superseded == 0,
+        None => record.superseded == 0,
         Some(k) => {
-            (day_of(records, k) <= day_of(records, i)) & (superseded == own_of(records, k))
+            let before = accession_at(records, k);
+            (before.day <= record.day) & (record.superseded == before.own)
         }
     }
 }

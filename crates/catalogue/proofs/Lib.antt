@@ -1,3 +1,4 @@
+pub mod Chunks
 pub mod Copying
 pub mod AccessionLaws
 pub mod DateLaws

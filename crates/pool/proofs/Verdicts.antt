@@ -3,12 +3,12 @@
 use Prim.Native.Nat.{ℕ, zero, suc, ◌*◌, ◌/◌, ◌≤◌, ◌<◌}
 use native.Mathlib.Omega.{arith}
 use mathlib.Core.Path.{◌≡◌, refl, sym, ap, ◌∙◌}
-use mathlib.Core.Bool.{◌&&◌}
+use mathlib.Core.Bool.{Bool, true, false, ◌&&◌}
 use Rattle.std.specs.Prelude.{Option, None, Some, Ok, Err}
 use mathlib.Core.List.{List, [], ◌∷◌, ◌++◌}
 use lib.ListN.{length, drop}
 use lib.Dec.{ltb, leb}
-use borrow.Author.Tests.{le-leb, lt-leb}
+use borrow.Author.Tests.{le-leb, lt-leb, leb-true, leb-false}
 use Rattle.definitions.specs.Lists.{overwrite}
 use Rattle.definitions.specs.Refusals.{Refusal, or_else, unless}
 use Rattle.definitions.specs.Verdict.{Answer, refusal, first_refusal}
@@ -21,7 +21,10 @@ use Rattle.catalogue.specs.Pool.{maps_in, maps_of_day, entries_of, entries_on, a
 use Rattle.catalogue.proofs.PoolLaws.{pool_rising}
 use Rattle.pool_entries.specs.Steps.{blank, RecordsShown}
 use Rattle.pool_entries.proofs.Showing.{entries_of-length}
-use Rattle.refusals.specs.declared.Cause.TheVariants as cause
+use Rattle.refusals.specs.declared.Refusal as code
+use Rattle.refusals.specs.Refusals.{number_of, refusal_of}
+use Rattle.refusals.proofs.Steps.{stopped, positive}
+use Rattle.refusals.proofs.Steps.{passed as passed-check}
 use Rattle.pool.specs.Contract.{lists_refusal, output_by, Listed}
 
 -- ---- the lists
@@ -117,11 +120,6 @@ module _ (terms records : List ℕ) (asked : Date) (room : ℕ) where
       first_refusal (refusal 18 (asked_fault terms o) ∷ refusal 10 (unless (leb (length (entries_on terms records o)) room)) ∷ []) (length (entries_on terms records o) / 4))
       (sym d))
 
-pub listed-at_exit : (n : ℕ) (terms records : List ℕ) (asked : Date) (old : List ℕ) {day : ℕ} → Some day ≡ day_of asked
-    → output_by n (entries_on terms records (Some day)) old ≡ pool_at_exit n terms records asked old
-listed-at_exit zero terms records asked old d = ap (λ o. overwrite (entries_on terms records o) old) d
-listed-at_exit (suc n) terms records asked old d = refl
-
 -- ---- the room
 
 module _ (terms records : List ℕ) (day : ℕ) {maps : ℕ} (m : maps ≡ length (maps_in terms day)) where
@@ -133,18 +131,37 @@ module _ (terms records : List ℕ) (day : ℕ) (old : List ℕ) {maps : ℕ} (m
   abbrev needed : length (entries_on terms records (Some day)) ≡ 4 * maps
   needed = need terms records day m
 
-  pub no_room : length old / 4 < maps → Listed terms records day old (Err (record { cause = cause.Room; place = 0 })) old
-  no_room h =
-      let short : length old < length (entries_on terms records (Some day)) = omega (arith, needed) in
-      record { answer = rw (lt-leb (length (entries_on terms records (Some day))) (length old) short) refl; output = refl }
+  -- the test of the room, in maps or in numbers
+  pub room_same : leb maps (length old / 4) ≡ leb (length (entries_on terms records (Some day))) (length old)
+  room_same = go (leb maps (length old / 4)) refl
+    where
+      go : (b : Bool) → leb maps (length old / 4) ≡ b → b ≡ leb (length (entries_on terms records (Some day))) (length old)
+      go true t =
+          let fits : maps ≤ length old / 4 = leb-true maps (length old / 4) t in
+          sym (le-leb (length (entries_on terms records (Some day))) (length old) (omega (arith, needed, fits)))
+      go false t =
+          let short : length old / 4 < maps = leb-false maps (length old / 4) t in
+          sym (lt-leb (length (entries_on terms records (Some day))) (length old) (omega (arith, needed, short)))
 
-  pub room-enough : {new : List ℕ} → maps ≤ length old / 4 → new ≡ overwrite (entries_of records day (accession_count records) (maps_of_day terms day)) old
+  pub no_room : (r : code.Refusal) → refusal 10 (unless (leb maps (length old / 4))) ≡ Some (refusal_of r) → Listed terms records day old (Err r) old
+  no_room r e =
+      let E = entries_on terms records (Some day) in
+      record {
+        answer = stopped [] (length E / 4) r (ap (λ b. refusal 10 (unless b)) (sym room_same) ∙ e);
+        output = left_alone (number_of r.cause) (positive r.cause);
+      }
+    where
+      left_alone : (n : ℕ) → 1 ≤ n → old ≡ output_by n (entries_on terms records (Some day)) old
+      left_alone zero h = absurd (omega arith)
+      left_alone (suc n) h = refl
+
+  pub room-enough : {new : List ℕ} → refusal 10 (unless (leb maps (length old / 4))) ≡ None → new ≡ overwrite (entries_of records day (accession_count records) (maps_of_day terms day)) old
       → Listed terms records day old (Ok maps) new
   room-enough h e =
-      let fits : length (entries_on terms records (Some day)) ≤ length old = omega (arith, needed) in
-      let count : maps ≡ length (entries_on terms records (Some day)) / 4 = omega (arith, needed) in
+      let E = entries_on terms records (Some day) in
+      let count : maps ≡ length E / 4 = omega (arith, needed) in
       record {
-        answer = rw (le-leb (length (entries_on terms records (Some day))) (length old) fits) (λ i. record { number = 0; value = count i });
+        answer = passed-check [] (length E / 4) (ap (λ b. refusal 10 (unless b)) (sym room_same) ∙ h) (λ i. record { number = 0; value = count i });
         output = e;
       }
 

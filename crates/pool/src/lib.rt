@@ -36,12 +36,7 @@ fn list_day(terms: &[u64], records: &[u64], day: u64, output: &mut [u64]) -> Res
     ensures { Listed terms.now records.now day output.old result output.new }
 {
     let maps = count_maps(terms, day);
-    if output.len() / NUMBERS_PER_ENTRY < maps {
-        return Err(Refusal {
-            cause: Cause::Room,
-            place: 0,
-        });
-    }
+    ensure(maps <= output.len() / NUMBERS_PER_ENTRY, Cause::Room)?;
     let entries = &mut output[..NUMBERS_PER_ENTRY * maps];
     put_entries(terms, day, &mut *entries);
     show_records(entries, records, day);
@@ -60,13 +55,11 @@ pub fn maps_of_day(
         (date_as date) output.old }
 {
     check_lists(terms, records)?;
-    match day_of(date) {
-        None => Err(Refusal {
-            cause: Cause::Date,
-            place: terms.len() / NUMBERS_PER_TERM,
-        }),
-        Some(asked) => list_day(terms, records, asked, &mut *output),
-    }
+    let day = day_of(date).ok_or(Refusal {
+        cause: Cause::Date,
+        place: terms.len() / NUMBERS_PER_TERM,
+    })?;
+    list_day(terms, records, day, &mut *output)
 }
 
 // The same, as C is answered.

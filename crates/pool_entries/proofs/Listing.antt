@@ -6,8 +6,8 @@ use mathlib.Core.Path.{◌≡◌, refl, sym, ap, ap₂, ◌∙◌}
 use mathlib.Core.Bool.{Bool, true, false}
 use Rattle.std.specs.Prelude.{Option}
 use Rattle.std.specs.List.{filter, range_with_len}
-use mathlib.Core.List.{List, ◌++◌}
-use lib.ListN.{length, length-append}
+use mathlib.Core.List.{List, [], ◌∷◌, ◌++◌}
+use lib.ListN.{length, set, length-append}
 use lib.Seq.{sets, length-sets}
 use lib.Dec.{ltb}
 use borrow.Author.Tests.{ltb-true, ltb-false}
@@ -16,7 +16,7 @@ use Rattle.definitions.specs.Scan.{bit, count_below, to_list, only_if, collect}
 use Rattle.laws.specs.ListLaws.ScanSteps.{count_next, collect_next}
 use Rattle.laws.specs.ListLaws.Overwritten.{overwrite_more}
 use Rattle.range_laws.specs.Ranges.{counted_range}
-use Rattle.catalogue.specs.Terms.{term_at, term_count, days_of, contains}
+use Rattle.catalogue.specs.Terms.{Term, term_at, term_count, days_of, contains}
 use Rattle.catalogue.specs.Pool.{maps_in}
 use Rattle.pool_entries.specs.Steps.{map_at_lem}
 
@@ -60,43 +60,55 @@ all-counted terms day =
 
 -- ---- putting
 
-pub record Putting (terms : List ℕ) (day : ℕ) (old : List ℕ) (count : ℕ) (new : List ℕ) (maps i : ℕ) : Type 0 where
-  pub within : i ≤ count
-  pub all : count ≡ term_count terms
+pub record Putting (terms : List ℕ) (day : ℕ) (old new : List ℕ) (maps i : ℕ) : Type 0 where
+  pub within : i ≤ term_count terms
   pub room : length (maps_in terms day) ≤ length old
   pub stored : new ≡ overwrite (collect i (map_at_lem terms day)) old
   pub counted : maps ≡ length (collect i (map_at_lem terms day))
   pub long : length new ≡ length old
 
-module _ {terms : List ℕ} {day : ℕ} {old : List ℕ} {count : ℕ} where
-  pub putting-starts : count ≡ term_count terms → length (maps_in terms day) ≤ length old → Putting terms day old count old 0 0
+module _ {terms : List ℕ} {day : ℕ} {old : List ℕ} where
+  pub putting-starts : length (maps_in terms day) ≤ length old → Putting terms day old old 0 0
   unfolding collect
-  putting-starts e h = record { within = omega arith; all = e; room = h; stored = refl; counted = refl; long = refl }
+  putting-starts h = record { within = omega arith; room = h; stored = refl; counted = refl; long = refl }
 
-  module _ {new : List ℕ} {maps i : ℕ} (P : Putting terms day old count new maps i) where
-    enough : i < count → length (collect i (map_at_lem terms day)) + length (to_list (map_at_lem terms day i)) ≤ length old
+  module _ {new : List ℕ} {maps i : ℕ} (P : Putting terms day old new maps i) (h : i < term_count terms) where
+    enough : length (collect i (map_at_lem terms day)) + length (to_list (map_at_lem terms day i)) ≤ length old
     unfolding maps_in
-    enough h = omega (arith, P.room, collect-room (map_at_lem terms day) (term_count terms) i (omega (arith, P.all)))
+    enough = omega (arith, P.room, collect-room (map_at_lem terms day) (term_count terms) i h)
 
-    pub putting-room : i < count → maps + length (to_list (map_at_lem terms day i)) ≤ length new
-    putting-room h = omega (arith, enough h, P.counted, P.long)
-
-    pub putting-goes_on : {next : List ℕ} {more : ℕ} → i < count → next ≡ sets new maps (to_list (map_at_lem terms day i)) → more ≡ maps + length (to_list (map_at_lem terms day i))
-        → Putting terms day old count next more (i + 1)
-    putting-goes_on h e m =
+    putting-goes_on : {next : List ℕ} {more : ℕ} → next ≡ sets new maps (to_list (map_at_lem terms day i)) → more ≡ maps + length (to_list (map_at_lem terms day i))
+        → Putting terms day old next more (i + 1)
+    putting-goes_on e m =
         record {
           within = omega arith;
-          all = P.all;
           room = P.room;
           stored =
               e
               ∙ ap₂ (λ l k. sets l k (to_list (map_at_lem terms day i))) P.stored P.counted
-              ∙ overwrite_more (collect i (map_at_lem terms day)) (to_list (map_at_lem terms day i)) old (enough h)
+              ∙ overwrite_more (collect i (map_at_lem terms day)) (to_list (map_at_lem terms day i)) old enough
               ∙ ap (λ l. overwrite l old) (sym (collect_next (map_at_lem terms day) i));
           counted = omega (arith, m, P.counted, length_next (map_at_lem terms day) i);
           long = ap length e ∙ length-sets new maps (to_list (map_at_lem terms day i)) ∙ P.long;
         }
 
-    pub putting-ends : count ≤ i → new ≡ overwrite (maps_in terms day) old
-    unfolding maps_in
-    putting-ends h = P.stored ∙ ap (λ n. overwrite (collect n (map_at_lem terms day)) old) (le_antisymm P.within h ∙ P.all)
+    -- what term i, which is t, adds: its map, if it has the day
+    module _ {t : Term} (same : t ≡ term_at terms i) where
+      one : {b : Bool} → b ≡ contains day (days_of t) → b ≡ true → to_list (map_at_lem terms day i) ≡ t.on_map ∷ []
+      one d e = ap (λ x. to_list (only_if (contains day (days_of x)) x.on_map)) (sym same) ∙ ap (λ z. to_list (only_if z t.on_map)) (sym d ∙ e)
+
+      none_lem : {b : Bool} → b ≡ contains day (days_of t) → b ≡ false → to_list (map_at_lem terms day i) ≡ []
+      none_lem d e = ap (λ x. to_list (only_if (contains day (days_of x)) x.on_map)) (sym same) ∙ ap (λ z. to_list (only_if z t.on_map)) (sym d ∙ e)
+
+      pub putting-room : {b : Bool} → b ≡ contains day (days_of t) → b ≡ true → maps + 1 ≤ length new
+      putting-room d e = omega (arith, enough, ap length (one d e), P.counted, P.long)
+
+      pub putting-put : {b : Bool} → b ≡ contains day (days_of t) → b ≡ true → Putting terms day old (set new maps t.on_map) (maps + 1) (i + 1)
+      putting-put d e = putting-goes_on (ap (sets new maps) (sym (one d e))) (omega (arith, ap length (one d e)))
+
+      pub putting-left : {b : Bool} → b ≡ contains day (days_of t) → b ≡ false → Putting terms day old new maps (i + 1)
+      putting-left d e = putting-goes_on (ap (sets new maps) (sym (none_lem d e))) (omega (arith, ap length (none_lem d e)))
+
+  pub putting-ends : {new : List ℕ} {maps i : ℕ} → Putting terms day old new maps i → term_count terms ≤ i → new ≡ overwrite (maps_in terms day) old
+  unfolding maps_in
+  putting-ends P h = P.stored ∙ ap (λ n. overwrite (collect n (map_at_lem terms day)) old) (le_antisymm P.within h)

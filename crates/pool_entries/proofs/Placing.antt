@@ -1,57 +1,31 @@
--- Lists in chunks of four: a record is a chunk (`record-at`), and an entry, so that a search by halves finds a place among entries of rising maps (`placed`). Assumes
--- nothing.
-use Prim.Native.Nat.{ℕ, zero, suc, ◌+◌, ◌*◌, ◌/◌, ◌≤◌, ◌<◌}
+-- Lists in chunks of four: an entry is a chunk, so that a search by halves finds a place among entries of rising maps (`placed`). Assumes nothing.
+use Prim.Native.Nat.{ℕ, ◌+◌, ◌*◌, ◌/◌, ◌≤◌, ◌<◌}
 use native.Mathlib.Omega.{arith}
 use mathlib.Core.Path.{◌≡◌, refl, ap, ◌∙◌}
 use mathlib.Core.Bool.{Bool, true, false}
 use mathlib.Core.List.{List, []}
-use lib.ListN.{length, get_or, drop, length-drop}
-use lib.Seq.{get_or-take}
+use lib.ListN.{length, get_or}
 use lib.Dec.{eqb, leb}
 use borrow.Author.Tests.{leb-true, leb-false, le-leb, eqb-true, eqb-false}
 use Rattle.std.specs.Prelude.{Option}
 use Rattle.std.specs.Simd.{first_chunks}
 use Rattle.std.specs.List.Sorted.{IsPartitionPoint, IsPartitionedBy}
-use Rattle.std.proofs.lemmas.List.{get_or-drop}
-use Rattle.catalogue.specs.Accession.{Accession, accession_at, accession_count}
+use Rattle.catalogue.specs.Accession.{Accession, accession_count}
 use Rattle.catalogue.specs.PoolLaws.{Rising}
-use Rattle.pool_entries.specs.Steps.{record_in, entries_by, Behind}
+use Rattle.catalogue.proofs.Chunks.{number_at, chunk-count}
+use Rattle.pool_entries.specs.Steps.{entries_by, Behind}
 use Rattle.pool_entries.proofs.Spreading.{entries-length}
 use Rattle.pool_entries.proofs.Showing.{map_in_entry}
 
--- number j of chunk i
-number_at : (n : ℕ) (l : List ℕ) (i j : ℕ) (d : List ℕ) → i < n → j < 4 → 4 * n ≤ length l → get_or (get_or (first_chunks 4 n l) i d) j 0 ≡ get_or l (4 * i + j) 0
-number_at zero l i j d h b k = absurd (omega arith)
-number_at (suc n) l zero j d h b k =
-    let first : j ≡ 4 * 0 + j = omega arith in
-    get_or-take 4 l j 0 b ∙ ap (λ k. get_or l k 0) first
-number_at (suc n) l (suc i) j d h b k =
-    let next : 4 + (4 * i + j) ≡ 4 * suc i + j = omega arith in
-    number_at n (drop 4 l) i j d (omega arith) b (omega (arith, length-drop 4 l)) ∙ get_or-drop 4 l (4 * i + j) 0 ∙ ap (λ k. get_or l k 0) next
-
-head_at : (n : ℕ) (l : List ℕ) (i : ℕ) (d : List ℕ) → i < n → 4 * n ≤ length l → get_or (get_or (first_chunks 4 n l) i d) 0 0 ≡ get_or l (4 * i) 0
-head_at n l i d h k =
+head_at : (n : ℕ) (l : List ℕ) (i : ℕ) (d : List ℕ) → i < n → get_or (get_or (first_chunks 4 n l) i d) 0 0 ≡ get_or l (4 * i) 0
+head_at n l i d h =
     let front : 4 * i + 0 ≡ 4 * i = omega arith in
-    number_at n l i 0 d h (omega arith) k ∙ ap (λ j. get_or l j 0) front
-
-chunk-count : (n : ℕ) (l : List ℕ) → length (first_chunks 4 n l) ≡ n
-chunk-count zero l = refl
-chunk-count (suc n) l = ap suc (chunk-count n (drop 4 l))
+    number_at 4 n l i 0 d h (omega arith) ∙ ap (λ j. get_or l j 0) front
 
 -- as many chunks as records
 module _ (l : List ℕ) {chunks : List (List ℕ)} (E : chunks ≡ first_chunks 4 (length l / 4) l) where
   pub record-inside : {i : ℕ} → i < length chunks → i < accession_count l
-  record-inside h = omega (arith, h, ap length E, chunk-count (length l / 4) l)
-
--- chunk i is record i
-pub record-at : (l : List ℕ) (i : ℕ) {chunks : List (List ℕ)} → chunks ≡ first_chunks 4 (length l / 4) l → i < accession_count l → record_in (get_or chunks i []) ≡ accession_at l i
-unfolding accession_at
-record-at l i {chunks} E h =
-    let at : (j : ℕ) → j < 4 → get_or (get_or chunks i []) j 0 ≡ get_or l (4 * i + j) 0 =
-    λ j b. ap (λ t. get_or (get_or t i []) j 0) E ∙ number_at (length l / 4) l i j [] h b (omega arith) in
-    let front : 4 * i + 0 ≡ 4 * i = omega arith in
-    let own = at 0 (omega arith) ∙ ap (λ j. get_or l j 0) front in
-    λ t. record { own = own t; on_map = at 1 (omega arith) t; day = at 2 (omega arith) t; superseded = at 3 (omega arith) t }
+  record-inside h = omega (arith, h, ap length E, chunk-count 4 (length l / 4) l)
 
 -- an entry's map is at most this one
 abbrev pub is_front : ℕ → List ℕ → Bool
@@ -64,11 +38,11 @@ module _
   counted = omega (arith, ap length B, entries-length f M)
 
   count : length chunks ≡ length M
-  count = ap length E ∙ chunk-count (length l / 4) l ∙ counted
+  count = ap length E ∙ chunk-count 4 (length l / 4) l ∙ counted
 
   column : (k : ℕ) (d : List ℕ) → k < length M → get_or (get_or chunks k d) 0 0 ≡ get_or M k 0
   column k d h =
-      ap (λ t. get_or (get_or t k d) 0 0) E ∙ head_at (length l / 4) l k d (omega (arith, counted)) (omega arith) ∙ map_in_entry f M B k h
+      ap (λ t. get_or (get_or t k d) 0 0) E ∙ head_at (length l / 4) l k d (omega (arith, counted)) ∙ map_in_entry f M B k h
 
   pub parted : IsPartitionedBy (is_front map) chunks
   parted i j d a b e =

@@ -2,46 +2,34 @@
 ghost use Rattle.std.specs.Prelude.{◌≡◌, [], ◌∷◌, ◌+◌, ◌*◌, ◌/◌, ◌≤◌, length, take};
 ghost use Rattle.std.proofs.lemmas.List.Edits.{sets};
 ghost use Rattle.definitions.specs.Lists.{overwrite};
-ghost use Rattle.definitions.specs.Scan.{to_list};
-ghost use Rattle.catalogue.specs.Terms.{numbers_per_term};
 ghost use Rattle.catalogue.specs.Pool.{maps_in, maps_of_day, numbers_per_entry};
-ghost use Rattle.pool_entries.specs.Steps.{map_at_lem, blank};
+ghost use Rattle.pool_entries.specs.Steps.{blank};
 
 use catalogue::sizes::{NUMBERS_PER_ENTRY, NUMBERS_PER_TERM};
 use number_sort::sort_numbers;
-use pool_terms::terms::has_day;
+use pool_terms::terms::{Term, term_at};
 
 pub fn count_maps(terms: &[u64], day: u64) -> usize
     ensures { result ≡ length (maps_in terms.now day) }
 {
     (0..terms.len() / NUMBERS_PER_TERM)
-        .filter(|&i| has_day(terms, i, day))
+        .filter(|&i| term_at(terms, i).has_day(day))
         .count()
 }
 
-// Puts the map of term i behind the maps that stand in the output, if the term has the day, and gives how many there are then.
-fn put_map(terms: &[u64], i: usize, day: u64, output: &mut [u64], maps: usize) -> usize
-    requires terms_room { numbers_per_term * (i + 1) ≤ length terms.now }
-    requires output_room { maps + length (to_list (map_at_lem terms.now day i)) ≤ length output.old }
-    ensures output { output.new ≡ sets output.old maps (to_list (map_at_lem terms.now day i)) }
-    ensures answer { result ≡ maps + length (to_list (map_at_lem terms.now day i)) }
-{
-    if has_day(terms, i, day) {
-        output[maps] = terms[NUMBERS_PER_TERM * i];
-        return maps + 1;
-    }
-    maps
-}
-
+// Puts the maps of the terms that have the day in front, in the order of the terms.
 fn put_maps(terms: &[u64], day: u64, output: &mut [u64])
     requires { length (maps_in terms.now day) ≤ length output.old }
     ensures { output.new ≡ overwrite (maps_in terms.now day) output.old }
 {
-    let count = terms.len() / NUMBERS_PER_TERM;
+    let (terms, _) = terms.as_chunks::<NUMBERS_PER_TERM>();
     let mut maps = 0;
-    // Kept: the output's places beside the maps, by `zip`, are an adapter of `iter_mut`, of which std says nothing once it wrote.
-    for i in 0..count {
-        maps = put_map(terms, i, day, &mut *output, maps);
+    for numbers in terms {
+        let term = Term::read(numbers);
+        if term.has_day(day) {
+            output[maps] = term.on_map;
+            maps += 1;
+        }
     }
 }
 

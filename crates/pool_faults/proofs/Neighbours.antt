@@ -13,22 +13,22 @@ use Rattle.definitions.specs.Scan.{any}
 use Rattle.definitions.specs.Sort.{sort}
 use Rattle.laws.specs.ListLaws.SortedMembers.{any-sort}
 use Rattle.laws.specs.OrderLaws.ListOrder.{Three, less, same, over, three}
-use Rattle.catalogue.specs.Terms.{Days, term_at, days_of, overlap}
+use Rattle.catalogue.specs.Terms.{Term, Days, term_at, days_of, overlap}
 use Rattle.pool_terms.specs.Contract.{first_in, end_in}
-use Rattle.pool_faults.specs.Apart.{Apart, Precedes, position_in, Positions, Following, AllApart}
+use Rattle.pool_faults.specs.Apart.{Apart, IsBefore, Precedes, position_in, Positions, Following, AllApart}
+
+precedes_more : {a b c : Term} → IsBefore a b → IsBefore b c → IsBefore a c
+precedes_more P Q =
+    record {
+      ordered = omega (arith, P.ordered, Q.ordered);
+      over =
+          λ e.
+          let x = P.over (omega (arith, P.ordered, Q.ordered)) in
+          let y = Q.over (omega (arith, P.ordered, Q.ordered)) in
+          (x.0, omega (arith, x.1, y.0, y.1));
+    }
 
 module _ (l : List ℕ) where
-  precedes_more : {a b c : ℕ} → Precedes l a b → Precedes l b c → Precedes l a c
-  precedes_more P Q =
-      record {
-        ordered = omega (arith, P.ordered, Q.ordered);
-        over =
-            λ e.
-            let x = P.over (omega (arith, P.ordered, Q.ordered)) in
-            let y = Q.over (omega (arith, P.ordered, Q.ordered)) in
-            (x.0, omega (arith, x.1, y.0, y.1));
-      }
-
   following_far : (keys : List ℕ) (n : ℕ) → Following l keys n → (p q : ℕ) → p < q → q < n → Precedes l (position_in (get_or keys p 0)) (position_in (get_or keys q 0))
   following_far keys n F p zero b h = absurd (omega arith)
   following_far keys n F p (suc q) b h = go (eqb p q) refl (λ m. following_far keys n F p q m (omega arith))
@@ -40,8 +40,8 @@ module _ (l : List ℕ) where
 
   -- ---- a term that precedes another is apart from it, and the other from it
 
-  apart-before : {i j : ℕ} → Precedes l i j → Apart l i j
-  apart-before {i} {j} P d e = go (eqb (term_at l j).on_map (term_at l i).on_map) refl (days_of (term_at l j)) refl
+  apart-before : (i j : ℕ) → Precedes l i j → Apart l i j
+  apart-before i j P d e = go (eqb (term_at l j).on_map (term_at l i).on_map) refl (days_of (term_at l j)) refl
     where
       go : (t : Bool) → eqb (term_at l j).on_map (term_at l i).on_map ≡ t → (o : Option Days) → days_of (term_at l j) ≡ o → (t && overlap d o) ≡ false
       go false q o f = refl
@@ -50,8 +50,8 @@ module _ (l : List ℕ) where
           let x = P.over (sym (eqb-true (term_at l j).on_map (term_at l i).on_map q)) in
           rw (le-ltb c.from d.to (omega (arith, x.1, ap end_in e, ap first_in f))) (and-false (ltb d.from c.to))
 
-  apart-behind : {i j : ℕ} → Precedes l j i → Apart l i j
-  apart-behind {i} {j} P d e = go (eqb (term_at l j).on_map (term_at l i).on_map) refl (days_of (term_at l j)) refl
+  apart-behind : (i j : ℕ) → Precedes l j i → Apart l i j
+  apart-behind i j P d e = go (eqb (term_at l j).on_map (term_at l i).on_map) refl (days_of (term_at l j)) refl
     where
       go : (t : Bool) → eqb (term_at l j).on_map (term_at l i).on_map ≡ t → (o : Option Days) → days_of (term_at l j) ≡ o → (t && overlap d o) ≡ false
       go false q o f = refl
@@ -59,12 +59,6 @@ module _ (l : List ℕ) where
       go true q (Some c) f =
           let x = P.over (eqb-true (term_at l j).on_map (term_at l i).on_map q) in
           rw (le-ltb d.from c.to (omega (arith, x.1, ap first_in e, ap end_in f))) refl
-
--- ---- positions
-
-module _ (keys : List ℕ) (until k : ℕ) {r : ℕ} (P : Positions keys until) (h : k < length keys) (e : r ≡ position_in (get_or keys k 0)) where
-  pub position-below : r < until
-  position-below = omega (arith, P k h, e)
 
 -- ---- the sorted keys
 
@@ -117,9 +111,9 @@ module _ (keys : List ℕ) where
     where
       go : (m : ℕ) → m < length (sort ltb keys) → (n : ℕ) → n < length (sort ltb keys) → (m ≡ n → ⊥) → Three m n
           → Apart l (position_in (get_or (sort ltb keys) m 0)) (position_in (get_or (sort ltb keys) n 0))
-      go m hm n hn d (less e) = apart-before l (following_far l (sort ltb keys) (length (sort ltb keys)) F m n e hn)
+      go m hm n hn d (less e) = apart-before l (position_in (get_or (sort ltb keys) m 0)) (position_in (get_or (sort ltb keys) n 0)) (following_far l (sort ltb keys) (length (sort ltb keys)) F m n e hn)
       go m hm n hn d (same e) = absurd (d e)
-      go m hm n hn d (over e) = apart-behind l (following_far l (sort ltb keys) (length (sort ltb keys)) F n m e hm)
+      go m hm n hn d (over e) = apart-behind l (position_in (get_or (sort ltb keys) m 0)) (position_in (get_or (sort ltb keys) n 0)) (following_far l (sort ltb keys) (length (sort ltb keys)) F n m e hm)
 
 pub sorted_tells : (l keys : List ℕ) (until : ℕ) {new : List ℕ} {r : ℕ} → new ≡ sort ltb keys → (r ≡ until → Following l new (length new)) → r ≡ until → AllApart l keys
 sorted_tells l keys until e F q = sorted_apart keys l (subst (λ m. Following l m (length m)) e (F q))

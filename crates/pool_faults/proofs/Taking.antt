@@ -12,39 +12,6 @@ use Rattle.catalogue.specs.Terms.{Term, Days, term_at, days_of, overlap}
 use Rattle.pool_faults.specs.Apart.{Apart, ApartTo, Between, position_in, Keys}
 use Rattle.std.specs.Prelude.{Some}
 
-module _ (l : List ℕ) (low high : ℕ) where
-  module _ {i : ℕ} {keys : List ℕ} {n : ℕ} (K : Keys l i low high keys n) where
-    pub keys-passed : (Between low high (term_at l i).on_map → ⊥) → Keys l (i + 1) low high keys n
-    keys-passed out = record { within = K.within; placed = λ k b. omega (arith, K.placed k b); found = λ j b r. go j b r (ltb j i) refl }
-      where
-        go : (j : ℕ) → j < i + 1 → Between low high (term_at l j).on_map → (t : Bool) → ltb j i ≡ t → (k : ℕ) × (k < n) × (position_in (get_or keys k 0) ≡ j)
-        go j b r true e = K.found j (ltb-true j i e) r
-        go j b r false e = let same : j ≡ i = omega (arith, ltb-false j i e) in absurd (out (subst (λ m. Between low high (term_at l m).on_map) same r))
-
-    pub keys-stored : (v : ℕ) → n < length keys → position_in v ≡ i → Keys l (i + 1) low high (set keys n v) (n + 1)
-    keys-stored v h e =
-        record {
-          within = omega (arith, length-set keys n v);
-          placed = λ k b. there k b (ltb k n) refl;
-          found = λ j b r. go j b r (ltb j i) refl;
-        }
-      where
-        before : (k : ℕ) → k < n → position_in (get_or (set keys n v) k 0) ≡ position_in (get_or keys k 0)
-        before k b = ap position_in (get_or-set_other keys n k v 0 (λ q. omega arith))
-
-        last : position_in (get_or (set keys n v) n 0) ≡ i
-        last = ap position_in (get_or-set_same keys n v 0 h) ∙ e
-
-        there : (k : ℕ) → k < n + 1 → (t : Bool) → ltb k n ≡ t → position_in (get_or (set keys n v) k 0) < i + 1
-        there k b true t = omega (arith, before k (ltb-true k n t), K.placed k (ltb-true k n t))
-        there k b false t = let same : k ≡ n = omega (arith, ltb-false k n t) in rw same (omega (arith, last))
-
-        go : (j : ℕ) → j < i + 1 → Between low high (term_at l j).on_map → (t : Bool) → ltb j i ≡ t → (k : ℕ) × (k < n + 1) × (position_in (get_or (set keys n v) k 0) ≡ j)
-        go j b r true t =
-            let f = K.found j (ltb-true j i t) r in
-            (f.0, omega (arith, f.1), before f.0 f.1 ∙ f.2)
-        go j b r false t = let same : j ≡ i = omega (arith, ltb-false j i t) in (n, omega arith, last ∙ sym same)
-
 -- ---- all maps, from the lowest on
 
 -- the first n terms whose maps are below low are apart

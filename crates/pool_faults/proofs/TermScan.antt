@@ -8,18 +8,19 @@ use mathlib.Core.Bool.{Bool, true, false, ◌&&◌, ◌||◌, true≢false}
 use mathlib.Core.List.{List}
 use lib.ListN.{length, get_or, set, length-set}
 use lib.Seq.{get_or-set_same, get_or-set_other}
-use lib.Dec.{eqb, ltb}
-use borrow.Author.Tests.{eqb-true, eqb-false, ltb-true, ltb-false, le-ltb, lt-leb, leb-false}
+use lib.Dec.{eqb, ltb, leb}
+use borrow.Author.Tests.{eqb-true, eqb-false, ltb-true, ltb-false, le-ltb, lt-leb, leb-true, leb-false}
 use Rattle.std.specs.Bool.{⊤}
 use Rattle.std.specs.Option.{MatchOption, unwrap_or}
 use Rattle.definitions.specs.Scan.{only_if}
 use Rattle.definitions.specs.Refusals.{Refusal, first_below_lem}
 use Rattle.laws.specs.ListLaws.Below.{below_none}
+use Rattle.laws.specs.ListLaws.Tests.{both}
 use Rattle.laws.specs.ListLaws.NoFault.{found, none_at}
-use Rattle.catalogue.specs.Terms.{Days, term_at, days_of, is_empty, overlap, overlaps_earlier, term_fault}
+use Rattle.catalogue.specs.Terms.{Term, Days, term_at, days_of, is_empty, overlap, overlaps_earlier, term_fault}
 use Rattle.pool_terms.specs.Contract.{sharing, first_in, end_in}
 use Rattle.pool_faults.specs.Apart.{Sound, Faultless, ApartTo}
-use Rattle.pool_faults.specs.Ends.{Latest}
+use Rattle.pool_faults.specs.Ends.{Latest, EndKept, passes}
 
 -- ---- the latest ends
 
@@ -44,30 +45,21 @@ module _ (terms : List ℕ) (i : ℕ) (ends : List ℕ) (L : Latest terms i ends
       go j b true t = omega (arith, L.latest j (ltb-true j i t), grows ((term_at terms j).on_map % 4096))
       go j b false t = let same : j ≡ i = omega (arith, ltb-false j i t) in rw same here
 
-  pub latest-kept : end_in (days_of (term_at terms i)) ≤ get_or ends ((term_at terms i).on_map % 4096) 0 → Latest terms (i + 1) ends
-  latest-kept h = latest_more ends L.slots h (λ k. omega arith)
+  -- once its end is kept
+  pub latest_next : {new : List ℕ} → EndKept (term_at terms i) ends new → Latest terms (i + 1) new
+  latest_next {new} E = latest_more new E.slots E.said E.grown
 
-  pub latest-set : (v : ℕ) → end_in (days_of (term_at terms i)) ≤ v → get_or ends ((term_at terms i).on_map % 4096) 0 ≤ v → Latest terms (i + 1) (set ends ((term_at terms i).on_map % 4096) v)
-  latest-set v e h =
-      let s = (term_at terms i).on_map % 4096 in
-      let inside : s < length ends = omega (arith, L.slots) in
-      latest_more (set ends s v) (length-set ends s v ∙ L.slots) (rw (get_or-set_same ends s v 0 inside) e) (λ k. go k s inside h (eqb k s) refl)
+  -- a term that passes breaks no rule
+  pub passes-fine : passes (term_at terms i) ends ≡ true → term_fault terms i (days_of (term_at terms i)) ≡ None
+  passes-fine e =
+      let o = days_of (term_at terms i) in
+      let said = get_or ends ((term_at terms i).on_map % 4096) 0 in
+      let P = both (ltb (first_in o) (end_in o)) (leb said (first_in o)) e in
+      go o (ltb-true (first_in o) (end_in o) P.0) (leb-true said (first_in o) P.1)
     where
-      go : (k s : ℕ) → s < length ends → get_or ends s 0 ≤ v → (t : Bool) → eqb k s ≡ t → get_or ends k 0 ≤ get_or (set ends s v) k 0
-      go k s inside h true t = rw (eqb-true k s t, get_or-set_same ends s v 0 inside) h
-      go k s inside h false t = rw (get_or-set_other ends s k v 0 (eqb-false k s t)) (omega arith)
-
--- the same by a slot that is known to be the map's
-module _ (terms : List ℕ) (i : ℕ) (ends : List ℕ) (L : Latest terms i ends) {s : ℕ} (q : s ≡ (term_at terms i).on_map % 4096) where
-  free-after : (d : Days) → get_or ends s 0 ≤ d.from → overlaps_earlier terms i d ≡ false
-  free-after d h = none_earlier terms i ends L d (omega (arith, ap (λ n. get_or ends n 0) q))
-
-  pub end-stored : (v : ℕ) → end_in (days_of (term_at terms i)) ≤ v → get_or ends s 0 ≤ v → Latest terms (i + 1) (set ends s v)
-  end-stored v e h = subst (λ n. Latest terms (i + 1) (set ends n v)) (sym q) (latest-set terms i ends L v e (omega (arith, h, ap (λ n. get_or ends n 0) q)))
-
-  -- a term that is not empty, and starts no earlier, breaks no rule
-  pub free_of_fault : (d : Days) → d.from < d.to → get_or ends s 0 ≤ d.from → term_fault terms i (Some d) ≡ None
-  free_of_fault d b h = rw (lt-leb d.to d.from b, free-after d h) refl
+      go : (o : Option Days) → first_in o < end_in o → get_or ends ((term_at terms i).on_map % 4096) 0 ≤ first_in o → term_fault terms i o ≡ None
+      go None h k = absurd (omega arith)
+      go (Some d) h k = rw (lt-leb d.to d.from h, none_earlier d k) refl
 
 pub latest-starts : (terms ends : List ℕ) → length ends ≡ 4096 → Latest terms 0 ends
 latest-starts terms ends n = record { slots = n; latest = λ j b. absurd (omega arith) }

@@ -2,7 +2,7 @@
 -- nothing.
 use Rattle.std.specs.Prelude.{ℕ, suc, ◌%◌, ◌≤◌, ◌<◌, ◌≡◌, false, List, length, get_or, None, Some, Result, Ok, Err}
 use Rattle.definitions.specs.Refusals.{first_below_lem}
-use Rattle.catalogue.specs.Terms.{Days, term_at, days_of, term_fault}
+use Rattle.catalogue.specs.Terms.{Term, Days, term_at, days_of, term_fault}
 use Rattle.pool_terms.specs.Contract.{sharing, first_in, end_in}
 use Rattle.pool_faults.specs.declared.apart.NoRoom.{NoRoom}
 
@@ -32,11 +32,14 @@ Faultless l n = first_below_lem n (λ k. term_fault l k (days_of (term_at l k)))
 
 -- ---- neighbours
 
--- term i is of a map before that of term j, or of the same, has a day, and is over when j starts
-pub record Precedes (l : List ℕ) (i j : ℕ) : Type 0 where
-  pub ordered : (term_at l i).on_map ≤ (term_at l j).on_map
-  pub over : (term_at l i).on_map ≡ (term_at l j).on_map
-      → (first_in (days_of (term_at l i)) < end_in (days_of (term_at l i))) × (end_in (days_of (term_at l i)) ≤ first_in (days_of (term_at l j)))
+-- a term is of a map before that of another, or of the same, has a day, and is over when the other starts
+pub record IsBefore (a b : Term) : Type 0 where
+  pub ordered : a.on_map ≤ b.on_map
+  pub over : a.on_map ≡ b.on_map → (first_in (days_of a) < end_in (days_of a)) × (end_in (days_of a) ≤ first_in (days_of b))
+
+-- term i is before term j
+abbrev pub Precedes : List ℕ → ℕ → ℕ → Type 0
+Precedes l i j = IsBefore (term_at l i) (term_at l j)
 
 -- the position that a key has in its lower half; the upper half is what it is sorted by
 abbrev pub position_in : ℕ → ℕ

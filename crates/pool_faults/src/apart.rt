@@ -1,12 +1,13 @@
 // Terms of one map that have no day in common, told in n log n steps: the terms' positions are sorted by map and first day, and then it is enough to compare
 // neighbours. What the positions are sorted by is a hint, of which nothing is proved: neighbours in a wrong order are found as those that overlap are.
-ghost use Rattle.std.specs.Prelude.{◌≡◌, true, false, ℕ, ◌+◌, ◌*◌, ◌≤◌, ◌<◌, length};
-ghost use Rattle.catalogue.specs.Terms.{numbers_per_term, term_count};
-ghost use Rattle.pool_faults.specs.Apart.{Precedes, position_in, Positions, SamePositions, Following, AllApart, Keys, Keyed, Between, ApartBetween, ApartTo};
+ghost use Rattle.std.specs.Prelude.{◌≡◌, true, false, ◌+◌, ◌≤◌, ◌<◌, length};
+ghost use Rattle.catalogue.specs.Terms.{term_count};
+ghost use Rattle.pool_terms.specs.Contract.{term_as};
+ghost use Rattle.pool_faults.specs.Apart.{IsBefore, position_in, Positions, SamePositions, Following, AllApart, Keys, Keyed, Between, ApartBetween, ApartTo};
 
 use catalogue::sizes::NUMBERS_PER_TERM;
 use number_sort::sort_numbers;
-use pool_terms::terms::term_days;
+use pool_terms::terms::{Term, term_at};
 
 // A key has the place of the term's map among the sorted maps, its first day and its position, which has the lower half.
 const POSITIONS: u64 = 1 << 32;
@@ -67,19 +68,15 @@ impl Part {
     }
 }
 
-// Whether term i is of a lower map than term j, or of the same and over when j begins.
-fn precedes(terms: &[u64], i: usize, j: usize) -> bool
-    requires { (numbers_per_term * (i + 1) ≤ length terms.now) × (numbers_per_term * (j + 1) ≤ length terms.now) }
-    ensures { result ≡ true → Precedes terms.now i j }
+// Whether a term is of a lower map than another, or of the same and over when the other begins.
+fn precedes(first: Term, second: Term) -> bool
+    ensures { result ≡ true → IsBefore (term_as first) (term_as second) }
 {
-    if terms[NUMBERS_PER_TERM * i] < terms[NUMBERS_PER_TERM * j] {
-        return true;
+    if first.on_map != second.on_map {
+        return first.on_map < second.on_map;
     }
-    if terms[NUMBERS_PER_TERM * j] < terms[NUMBERS_PER_TERM * i] {
-        return false;
-    }
-    match (term_days(terms, i), term_days(terms, j)) {
-        (Some(first), Some(second)) => first.from < first.to && first.to <= second.from,
+    match (first.days(), second.days()) {
+        (Some(earlier), Some(later)) => earlier.from < earlier.to && earlier.to <= later.from,
         _ => false,
     }
 }
@@ -90,23 +87,6 @@ fn position_in(key: u64) -> usize
     (key % POSITIONS) as usize
 }
 
-// The later of two positions, if the first term does not precede the second and it is less than the least such position so far.
-fn least_astray_of(terms: &[u64], found: usize, i: usize, j: usize) -> usize
-    requires { (numbers_per_term * (i + 1) ≤ length terms.now) × (numbers_per_term * (j + 1) ≤ length terms.now) }
-    ensures { (result ≤ found)
-        × ((until : ℕ) →
-        i < until →
-        j < until →
-        result ≡ until →
-        found ≤ until →
-        (found ≡ until) × Precedes terms.now i j) }
-{
-    if precedes(terms, i, j) {
-        return found;
-    }
-    found.min(i.max(j))
-}
-
 // The least later position of two neighbours of which the first does not precede the second; the count of terms where there are none.
 fn least_astray(terms: &[u64], keys: &[u64]) -> usize
     requires { Positions keys.now (term_count terms.now) }
@@ -114,7 +94,10 @@ fn least_astray(terms: &[u64], keys: &[u64]) -> usize
 {
     let mut found = terms.len() / NUMBERS_PER_TERM;
     for pair in keys.windows(2) {
-        found = least_astray_of(terms, found, position_in(pair[0]), position_in(pair[1]));
+        let (i, j) = (position_in(pair[0]), position_in(pair[1]));
+        if !precedes(term_at(terms, i), term_at(terms, j)) {
+            found = found.min(i.max(j));
+        }
     }
     found
 }
@@ -128,30 +111,7 @@ fn least_doubtful(terms: &[u64], keys: &mut [u64]) -> usize
     least_astray(terms, keys)
 }
 
-// Takes term i, if its map is in the part: its map, and its position as a key. Gives how many are taken then.
-fn take_term(
-    terms: &[u64],
-    i: usize,
-    part: Part,
-    maps: &mut [u64],
-    keys: &mut [u64],
-    taken: usize,
-) -> usize
-    requires terms_room { numbers_per_term * (i + 1) ≤ length terms.now }
-    requires sizes { (i < 4294967296) × (taken < length keys.old) × (length maps.old ≡ length keys.old) }
-    requires keys { Keys terms.now i part.low part.high keys.old taken }
-    ensures { Keys terms.now (i + 1) part.low part.high keys.new result }
-{
-    let map = terms[NUMBERS_PER_TERM * i];
-    if part.has(map) {
-        maps[taken] = map;
-        keys[taken] = i as u64;
-        return taken + 1;
-    }
-    taken
-}
-
-// Takes the terms whose maps are in the part.
+// Takes the terms whose maps are in the part: the map of each, and its position as a key. Gives how many are taken.
 fn take_terms(
     terms: &[u64],
     part: Part,
@@ -162,12 +122,17 @@ fn take_terms(
     ensures { Keyed terms.now (term_count terms.now) part.low part.high keys.new result }
 {
     let mut taken = 0;
-    // Kept: what is taken is the term's position, and the chunks of `terms` with `enumerate` would give no more than the range.
+    // Kept: a term's position is what is taken, and `term_at` reads its map by it; over chunks with `enumerate` the head would be longer and the body the same.
     for i in 0..terms.len() / NUMBERS_PER_TERM {
         if taken == keys.len() {
             return Err(NoRoom { at: i });
         }
-        taken = take_term(terms, i, part, &mut *maps, &mut *keys, taken);
+        let map = term_at(terms, i).on_map;
+        if part.has(map) {
+            maps[taken] = map;
+            keys[taken] = i as u64;
+            taken += 1;
+        }
     }
     Ok(taken)
 }
@@ -179,13 +144,13 @@ fn place_of(maps: &[u64], map: u64) -> u64
     maps.partition_point(|&m| m < map) as u64
 }
 
-fn key_of(terms: &[u64], i: usize, maps: &[u64]) -> u64
-    requires room { numbers_per_term * (i + 1) ≤ length terms.now }
-    requires sizes { (i < 4294967296) × (length maps.now < 65536) }
+// The key of the term at position i.
+fn key_of(term: Term, i: usize, maps: &[u64]) -> u64
+    requires { (i < 4294967296) × (length maps.now < 65536) }
     ensures { position_in result ≡ i }
 {
-    let place = place_of(maps, terms[NUMBERS_PER_TERM * i]);
-    let first = term_days(terms, i).map_or(0, |days| days.from);
+    let place = place_of(maps, term.on_map);
+    let first = term.days().map_or(0, |days| days.from);
     (place * DAY_NUMBERS + first % DAY_NUMBERS) * POSITIONS + i as u64
 }
 
@@ -195,7 +160,8 @@ fn complete_keys(terms: &[u64], maps: &[u64], keys: &mut [u64])
     ensures { SamePositions keys.old keys.new }
 {
     for key in keys.iter_mut() {
-        *key = key_of(terms, position_in(*key), maps);
+        let i = position_in(*key);
+        *key = key_of(term_at(terms, i), i, maps);
     }
 }
 
@@ -242,17 +208,6 @@ fn doubt_of_all(terms: &[u64], maps: &mut [u64], keys: &mut [u64]) -> usize
     }
 }
 
-// How many of the first `high` terms are asked about next, of which `apart` are known not to overlap: all of them and half of the rest in turn.
-fn next_part(apart: usize, high: usize, whole: bool) -> usize
-    requires { apart < high }
-    ensures { (apart < result) × (result ≤ high) }
-{
-    if whole {
-        return high;
-    }
-    high - (high - apart) / 2
-}
-
 // How many of the first terms do not overlap, with tables to work in.
 fn apart_terms_by(terms: &[u64], maps: &mut [u64], keys: &mut [u64]) -> usize
     requires sizes { term_count terms.now ≤ 4294967296 }
@@ -262,9 +217,14 @@ fn apart_terms_by(terms: &[u64], maps: &mut [u64], keys: &mut [u64]) -> usize
     let mut apart = 0;
     let mut high = terms.len() / NUMBERS_PER_TERM;
     let mut whole = true;
-    // Kept: how many terms are asked about next depends on what was found of the last; `iter::from_fn` would hold the same state and be no plainer.
+    // All terms are asked about and half of those that are left in turn.
+    // Kept: how many are asked about next depends on what was found of the last; `iter::from_fn` would hold the same state and be no plainer.
     while apart < high {
-        let part = next_part(apart, high, whole);
+        let part = if whole {
+            high
+        } else {
+            high - (high - apart) / 2
+        };
         let first = &terms[..NUMBERS_PER_TERM * part];
         let doubt = doubt_of_all(first, &mut *maps, &mut *keys);
         whole = !whole;

@@ -1,50 +1,37 @@
 // The first term that breaks a rule, 18 or 19.
-ghost use Rattle.std.specs.Prelude.{◌≡◌, true, ◌+◌, ◌*◌, ◌%◌, ◌≤◌, ◌<◌, length, ltb, None};
-ghost use Rattle.catalogue.specs.Terms.{numbers_per_term, term_at, term_count, days_of, term_fault, terms_refusal};
+ghost use Rattle.std.specs.Prelude.{◌≡◌, ◌%◌, ◌≤◌, ◌<◌, ltb};
+ghost use Rattle.catalogue.specs.Terms.{term_count, days_of, terms_refusal};
 ghost use Rattle.refusals.specs.Refusals.{refusal_in};
-ghost use Rattle.pool_terms.specs.Contract.{first_in, end_in};
-ghost use Rattle.pool_faults.specs.Ends.{Latest};
+ghost use Rattle.pool_terms.specs.Contract.{term_as, first_in, end_in};
+ghost use Rattle.pool_faults.specs.Ends.{EndKept, passes};
 ghost use Rattle.pool_faults.specs.Apart.{Sound, Faultless};
 
 use crate::apart::apart_terms;
 use catalogue::sizes::NUMBERS_PER_TERM;
-use pool_terms::terms::{term_days, term_fault};
+use catalogue::slots::slot_of;
+use pool_terms::terms::{Term, term_at, term_fault};
 use refusals::Refusal;
 
 // Maps are told apart by the remainders of their numbers, as far as that goes.
 const SLOTS: usize = 4096;
 
-fn slot_of(map: u64) -> usize
-    ensures { (result ≡ map % 4096) × (result < 4096) }
+// Keeps the latest end of the slot's terms, with this one among them.
+fn keep_end(term: Term, ends: &mut [u64; SLOTS])
+    ensures { EndKept (term_as term) ends.old ends.new }
 {
-    (map % 4096) as usize
-}
-
-// Keeps the latest end of the slot's terms, with term i among them.
-fn keep_end(terms: &[u64], i: usize, ends: &mut [u64; SLOTS])
-    requires terms_room { numbers_per_term * (i + 1) ≤ length terms.now }
-    requires latest { Latest terms.now i ends.old }
-    ensures { Latest terms.now (i + 1) ends.new }
-{
-    if let Some(days) = term_days(terms, i) {
-        let slot = slot_of(terms[NUMBERS_PER_TERM * i]);
+    if let Some(days) = term.days() {
+        let slot = slot_of::<SLOTS>(term.on_map);
         ends[slot] = ends[slot].max(days.to);
     }
 }
 
-// Whether term i is sound, its dates good and its end later than its first day, and starts no earlier than the latest end of its map's slot, so that it breaks
-// no rule.
-fn passes(terms: &[u64], i: usize, ends: &[u64; SLOTS]) -> bool
-    requires terms_room { numbers_per_term * (i + 1) ≤ length terms.now }
-    requires latest { Latest terms.now i ends.now }
-    ensures { result ≡ true → term_fault terms.now i (days_of (term_at terms.now i)) ≡ None }
+// Whether the term is sound, its dates good and its end later than its first day, and starts no earlier than the latest end of its map's slot, so that it
+// breaks no rule.
+fn passes(term: Term, ends: &[u64; SLOTS]) -> bool
+    ensures { result ≡ passes (term_as term) ends.now }
 {
-    match term_days(terms, i) {
-        None => false,
-        Some(days) => {
-            days.from < days.to && ends[slot_of(terms[NUMBERS_PER_TERM * i])] <= days.from
-        }
-    }
+    let latest = ends[slot_of::<SLOTS>(term.on_map)];
+    term.days().is_some_and(|days| days.from < days.to && latest <= days.from)
 }
 
 // How many of the first terms pass, one after the other: all that come in the order of their days.
@@ -53,22 +40,22 @@ fn passing_terms(terms: &[u64]) -> usize
 {
     let count = terms.len() / NUMBERS_PER_TERM;
     let mut ends = [0u64; SLOTS];
-    // Kept: each term passes by the ends of those before it, so that a closure of `find` would change what it asks.
+    // Kept: each term is asked about by the ends of those before it, which a closure of `find` would have to change as it asks.
     for i in 0..count {
-        if !passes(terms, i, &ends) {
+        let term = term_at(terms, i);
+        if !passes(term, &ends) {
             return i;
         }
-        keep_end(terms, i, &mut ends);
+        keep_end(term, &mut ends);
     }
     count
 }
 
-// Whether the dates of term i are good, and its end is later than its first day.
-fn is_sound(terms: &[u64], i: usize) -> bool
-    requires { numbers_per_term * (i + 1) ≤ length terms.now }
-    ensures { result ≡ ltb (first_in (days_of (term_at terms.now i))) (end_in (days_of (term_at terms.now i))) }
+// Whether the term's dates are good, and its end is later than its first day.
+fn is_sound(term: Term) -> bool
+    ensures { result ≡ ltb (first_in (days_of (term_as term))) (end_in (days_of (term_as term))) }
 {
-    term_days(terms, i).is_some_and(|days| days.from < days.to)
+    term.days().is_some_and(|days| days.from < days.to)
 }
 
 // How many of the first terms are sound, where those below `known` are known to be.
@@ -78,7 +65,7 @@ fn sound_terms(terms: &[u64], known: usize) -> usize
 {
     let count = terms.len() / NUMBERS_PER_TERM;
     (known..count)
-        .find(|&i| !is_sound(terms, i))
+        .find(|&i| !is_sound(term_at(terms, i)))
         .unwrap_or(count)
 }
 
@@ -98,7 +85,7 @@ fn faultless_terms(terms: &[u64]) -> usize
 pub fn terms_fault(terms: &[u64]) -> Result<(), Refusal>
     ensures { refusal_in result ≡ terms_refusal terms.now }
 {
-    // Kept: `try_for_each` with the same call is no plainer.
+    // Kept: a `for` with `?`, of which the place of the first refusal is proved by an invariant; `try_for_each` with the same call is no shorter.
     for i in faultless_terms(terms)..terms.len() / NUMBERS_PER_TERM {
         term_fault(terms, i)?;
     }

@@ -1,2 +1,3 @@
 pub mod CalendarTables
 pub mod Days
+pub mod Chunks

@@ -1,8 +1,8 @@
 // The terms of maps in the pool: their days, and the rule that a term breaks, 18 or 19.
-ghost use Rattle.std.specs.Prelude.{◌≡◌, ◌+◌, ◌*◌, ◌≤◌, length, get_or};
-ghost use Rattle.catalogue.specs.Terms.{numbers_per_term, term_at, days_of, contains, overlaps_earlier, term_fault};
+ghost use Rattle.std.specs.Prelude.{◌≡◌, ◌+◌, ◌*◌, ◌≤◌, ◌&&◌, eqb, length};
+ghost use Rattle.catalogue.specs.Terms.{numbers_per_term, term_at, days_of, overlap, contains, overlaps_earlier, term_fault};
 ghost use Rattle.refusals.specs.Refusals.{refusal_in};
-ghost use Rattle.pool_terms.specs.Contract.{date, date_as, days_as, days_in, sharing};
+ghost use Rattle.pool_terms.specs.Contract.{days_as, days_in, term_as, term_in};
 
 use crate::calendar::{Date, day_of, end_of};
 use catalogue::sizes::NUMBERS_PER_TERM;
@@ -15,49 +15,64 @@ pub struct Days {
     pub to: u64,
 }
 
-// The date whose three numbers stand from `at` on.
-fn date_at(terms: &[u64], at: usize) -> Date
-    requires { at + 3 ≤ length terms.now }
-    ensures { date_as result ≡ date (get_or terms.now at 0) (get_or terms.now (at + 1) 0) (get_or terms.now (at + 2) 0) }
-{
-    Date {
-        year: terms[at],
-        month: terms[at + 1],
-        day: terms[at + 2],
+// A term as it is written: any seven numbers.
+#[derive(Clone, Copy)]
+pub struct Term {
+    pub on_map: u64,
+    pub first: Date,
+    pub end: Date,
+}
+
+impl Term {
+    pub fn read(numbers: &[u64; NUMBERS_PER_TERM]) -> Term
+        ensures { term_as result ≡ term_in numbers.now }
+    {
+        let [on_map, year, month, day, end_year, end_month, end_day] = *numbers;
+        Term {
+            on_map,
+            first: Date { year, month, day },
+            end: Date {
+                year: end_year,
+                month: end_month,
+                day: end_day,
+            },
+        }
+    }
+
+    // None where a date is bad.
+    pub fn days(self) -> Option<Days>
+        ensures { days_in result ≡ days_of (term_as self) }
+    {
+        let from = day_of(self.first)?;
+        let to = end_of(self.end)?;
+        Some(Days { from, to })
+    }
+
+    pub fn has_day(self, day: u64) -> bool
+        ensures { result ≡ contains day (days_of (term_as self)) }
+    {
+        self.days()
+            .is_some_and(|days| days.from <= day && day < days.to)
+    }
+
+    // Whether it is of the map and has a day in common with these.
+    fn shares_day(self, map: u64, days: Days) -> bool
+        ensures { result ≡ (eqb self.on_map map && overlap (days_as days) (days_of (term_as self))) }
+    {
+        self.on_map == map
+            && self
+                .days()
+                .is_some_and(|other| days.from < other.to && other.from < days.to)
     }
 }
 
-// None where a date is bad.
-pub fn term_days(terms: &[u64], i: usize) -> Option<Days>
+// Term i of the list.
+pub fn term_at(terms: &[u64], i: usize) -> Term
     requires { numbers_per_term * (i + 1) ≤ length terms.now }
-    ensures { days_in result ≡ days_of (term_at terms.now i) }
+    ensures { term_as result ≡ term_at terms.now i }
 {
-    let at = NUMBERS_PER_TERM * i;
-    let from = day_of(date_at(terms, at + 1))?;
-    let to = end_of(date_at(terms, at + 4))?;
-    Some(Days { from, to })
-}
-
-// Whether the term has the day.
-pub fn has_day(terms: &[u64], i: usize, day: u64) -> bool
-    requires { numbers_per_term * (i + 1) ≤ length terms.now }
-    ensures { result ≡ contains day (days_of (term_at terms.now i)) }
-{
-    term_days(terms, i).is_some_and(|days| days.from <= day && day < days.to)
-}
-
-// Whether term j is of the map and has a day in common with these.
-fn shares_day(terms: &[u64], j: usize, map: u64, days: Days) -> bool
-    requires { numbers_per_term * (j + 1) ≤ length terms.now }
-    ensures { result ≡ sharing terms.now map (days_as days) j }
-{
-    if terms[NUMBERS_PER_TERM * j] != map {
-        return false;
-    }
-    match term_days(terms, j) {
-        None => false,
-        Some(other) => days.from < other.to && other.from < days.to,
-    }
+    let (terms, _) = terms.as_chunks::<NUMBERS_PER_TERM>();
+    Term::read(&terms[i])
 }
 
 // Whether term i, which has these days, overlaps an earlier term of its map.
@@ -65,8 +80,8 @@ fn overlaps_earlier(terms: &[u64], i: usize, days: Days) -> bool
     requires { numbers_per_term * (i + 1) ≤ length terms.now }
     ensures { result ≡ overlaps_earlier terms.now i (days_as days) }
 {
-    let map = terms[NUMBERS_PER_TERM * i];
-    (0..i).any(|j| shares_day(terms, j, map, days))
+    let map = term_at(terms, i).on_map;
+    (0..i).any(|j| term_at(terms, j).shares_day(map, days))
 }
 
 // Refuses term i, if it breaks a rule: 18 for a bad date, 19 where it is empty or overlaps an earlier one.
@@ -74,7 +89,7 @@ pub fn term_fault(terms: &[u64], i: usize) -> Result<(), Refusal>
     requires { numbers_per_term * (i + 1) ≤ length terms.now }
     ensures { refusal_in result ≡ term_fault terms.now i (days_of (term_at terms.now i)) }
 {
-    let days = term_days(terms, i).ok_or(Refusal {
+    let days = term_at(terms, i).days().ok_or(Refusal {
         cause: Cause::Date,
         place: i,
     })?;

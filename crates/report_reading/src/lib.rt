@@ -8,7 +8,7 @@ ghost use Rattle.definitions.specs.Sheet.{read_verdict};
 ghost use Rattle.sheet.specs.Contract.{Answered, by_number};
 ghost use Rattle.report_reading.specs.Contract.{opened_with, limited_reading, OpenedFor, ReadFor};
 
-use refusals::{Cause, Refusal};
+use refusals::{Cause, Refusal, ensure};
 use report_figures::Report;
 use report_figures::call_figures::has_room;
 use report_figures::sums::with_refused;
@@ -109,14 +109,11 @@ pub fn report_reading_read_for_report(
         cells.old spans.old boundaries.old anchors.old result
         cells.new spans.new boundaries.new anchors.new }
 {
-    if has_room(report) {
-        let answer = read_sheet(bytes, cells, spans, boundaries, anchors);
-        opened_for(report, answer)
-    } else {
-        let full = Refusal {
-            cause: Cause::Entries,
-            place: 0,
-        };
-        Opened::from((report, Err(full)))
+    match ensure(has_room(report), Cause::Entries) {
+        Ok(()) => {
+            let answer = read_sheet(bytes, cells, spans, boundaries, anchors);
+            opened_for(report, answer)
+        }
+        Err(full) => Opened::from((report, Err(full))),
     }
 }

@@ -1,10 +1,10 @@
--- `accession::line::put_line` meets its contract. The loop's invariant (`Putting`): the line's front is written, and the records below i make up the rest.
--- The measure is i. Assumes nothing.
+-- `accession::line::put_line` meets its contract. The loop's invariant (`Putting`): the line's front is written, and the records that are left make up the rest.
+-- Assumes nothing.
+use Prim.Native.Nat.{◌-◌}
+use lib.ListN.{length}
+use Rattle.catalogue.specs.Accession.{accession_count}
 use Rattle.accession.proofs.Putting.{Putting}
 use Rattle.accession.proofs.line.put_line.Given as goal
 
-abbrev pub invariant-loop-i : goal.invariant-loop-i
-invariant-loop-i l = Putting l.records l.number l.initial.output l.output l.i l.k
-
-abbrev pub decreases-loop-i : goal.decreases-loop-i
-decreases-loop-i l = l.i
+abbrev pub invariant-loop-record : goal.invariant-loop-record
+invariant-loop-record l = Putting l.fn.records l.number l.initial.output l.output (accession_count l.fn.records - length l.yielded) l.k

@@ -28,7 +28,7 @@ returns-in-Some c =
     let list : List ℕ = c.args.records.now in
     let own : ℕ = c.args.own in
     let out : List ℕ = c.args.output.now in
-    let line : line_of list own ≡ map_line list c.map_of.result = line-of-record list own c.requires.1 c.in-Some.i known_at.0 known_at.1 ∙ ap (map_line list) (sym c.map_of.ensures) in
+    let line : line_of list own ≡ map_line list c.accession_at.result.on_map = line-of-record list own c.requires.1 c.in-Some.i known_at.0 known_at.1 ∙ ap (λ r. map_line list r.on_map) (sym c.accession_at.ensures) in
     let said = c.report_map in
     let room = length out in
     record {

@@ -26,7 +26,7 @@ returns-then-not-own_ascends-goes_on g c =
     let list : List ℕ = c.args.records.now in
     let test : (c.own_ascends.result && c.goes_on.result) ≡ keeps_rules list c.loop-i.i = test-is list c.loop-i.i (one_more c.last_of_map-before.result) c.loop-i.invariant.kept_below_lem c.last_of_map-before.ensures
     c.own_ascends.ensures c.goes_on.ensures in
-    sym (first_faulty_lem (keeps_rules list) (accession_count list) c.loop-i.i (search rules) c.loop-i.invariant.kept_below_lem test c.if-not-own_ascends-goes_on.true-raw)
+    sym (first_faulty_lem (keeps_rules list) (accession_count list) c.loop-i.i (search rules) c.loop-i.invariant.kept_below_lem test (search rules))
 
 pub loop-i-preserved : goal.loop-i-preserved
 loop-i-preserved g c =

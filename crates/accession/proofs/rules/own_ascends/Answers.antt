@@ -7,8 +7,8 @@ use Rattle.accession.proofs.rules.own_ascends.Goals as goal
 
 pub returns-then-i-eq0 : goal.returns-then-i-eq0
 returns-then-i-eq0 c =
-    ap (ltb 0) c.own_of.ensures ∙ ascends_first c.args.records.now c.args.i c.if-i-eq0.true
+    ap (λ r. ltb 0 r.own) c.accession_at.ensures ∙ ascends_first c.args.records.now c.args.i c.if-i-eq0.true
 
 pub returns : goal.returns
 returns c =
-    ap₂ ltb c.own_of-2.ensures c.own_of-3.ensures ∙ ascends_next c.args.records.now c.args.i (search rules)
+    ap₂ (λ q r. ltb q.own r.own) c.accession_at-2.ensures c.accession_at-3.ensures ∙ ascends_next c.args.records.now c.args.i (search rules)

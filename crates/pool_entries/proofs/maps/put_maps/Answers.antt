@@ -1,22 +1,32 @@
--- `maps::put_maps` meets its contract. The invariant: the maps of the terms below i stand at the front. The measure is what is left of the terms. Assumes nothing.
-use mathlib.Core.Path.{refl}
-use Rattle.pool_entries.proofs.Listing.{putting-starts, putting-room, putting-goes_on, putting-ends}
-use borrow.Author.Rules.{rules}
+-- `maps::put_maps` meets its contract. The invariant: the maps of the terms that were passed stand at the front. Assumes nothing.
+use Rattle.std.proofs.Common.{arith, ◌<◌, ◌/◌, length, ◌∙◌}
+use Rattle.pool_terms.proofs.Chunks.{term_in-chunk}
+use Rattle.pool_entries.proofs.Listing.{putting-starts, putting-room, putting-put, putting-left, putting-ends}
+use Rattle.pool_entries.proofs.maps.put_maps.Goals.{then-has_day, else-has_day}
 use Rattle.pool_entries.proofs.maps.put_maps.Goals as goal
 
-pub loop-i-init : goal.loop-i-init
-loop-i-init c = putting-starts refl c.requires
+pub loop-numbers-init : goal.loop-numbers-init
+loop-numbers-init c = putting-starts c.requires
 
-pub put_map-maps-requires : goal.put_map-maps-requires
-put_map-maps-requires c =
-    record {
-      terms_room = search rules;
-      output_room = putting-room c.loop-i.invariant c.loop-i-test.true;
-    }
+pub bounds-output-maps : goal.bounds-output-maps
+bounds-output-maps c =
+    let l = c.args.terms.now in
+    let i = c.loop-numbers.numbers-index in
+    let inside : i < length l / 7 = omega (arith, c.loop-numbers-test.true, c.as_chunks.ensures.front_len) in
+    let term = c.read-term.ensures ∙ term_in-chunk l i c.as_chunks.ensures.front inside in
+    omega (arith, putting-room c.loop-numbers.invariant inside term c.has_day.ensures c.if-has_day.true)
 
-pub loop-i-preserved : goal.loop-i-preserved
-loop-i-preserved c =
-    putting-goes_on c.loop-i.invariant c.loop-i-test.true c.put_map-maps.ensures.output c.put_map-maps.ensures.answer
+pub loop-numbers-preserved : goal.loop-numbers-preserved
+loop-numbers-preserved c =
+    let l = c.args.terms.now in
+    let i = c.loop-numbers.numbers-index in
+    let P = c.loop-numbers.invariant in
+    let inside : i < length l / 7 = omega (arith, c.loop-numbers-test.true, c.as_chunks.ensures.front_len) in
+    let term = c.read-term.ensures ∙ term_in-chunk l i c.as_chunks.ensures.front inside in
+    elim c.if-has_day.branch [
+      | then-has_day w ↦ rw (w.output-is, w.maps-is) (putting-put P inside term c.has_day.ensures w.if-has_day.true)
+      | else-has_day w ↦ rw (w.output-is, w.maps-is) (putting-left P inside term c.has_day.ensures w.if-has_day.false)
+    ]
 
 pub returns : goal.returns
-returns c = putting-ends c.loop-i.invariant c.loop-i-test.false
+returns c = putting-ends c.loop-numbers.invariant (omega (arith, c.loop-numbers-test.false, c.as_chunks.ensures.front_len))

@@ -11,5 +11,5 @@ returns g c =
     let slot = c.slot_of-slot in (
       omega arith,
       holds_more c.args.records.now c.requires.table c.requires.sizes.0 (search rules) slot.result
-          (slot.ensures.0 ∙ ap (λ m. m % g.row.SLOTS) c.map_of.ensures) slot.ensures.1,
+          (slot.ensures.0 ∙ ap (λ r. r.on_map % g.row.SLOTS) c.accession_at.ensures) slot.ensures.1,
     )

@@ -18,13 +18,13 @@ loop-next-init g c =
     let found = c.slot_of in
     reached_first c.args.records.now c.requires c.args.number found.result found.ensures.0 found.ensures.1
 
-pub returns-then-map_of-number : goal.returns-then-map_of-number
+pub returns-then-accession_at-number : goal.returns-then-accession_at-number
 unfolding is_of_map
-returns-then-map_of-number g c =
+returns-then-accession_at-number g c =
     let list : List ℕ = c.args.records.now in
     let number : ℕ = c.args.number in
     let k : ℕ = c.loop-next.next in
-    let is_of_lem : is_of_map list number (k - 1) ≡ true = eq-eqb (accession_at list (k - 1)).on_map number (sym c.map_of.ensures ∙ c.if-map_of-number.true) in
+    let is_of_lem : is_of_map list number (k - 1) ≡ true = eq-eqb (accession_at list (k - 1)).on_map number (sym (ap (λ r. r.on_map) c.accession_at.ensures) ∙ c.if-accession_at-number.true) in
     let e : suc (k - 1) ≡ k = omega arith in
     e ∙ sym (c.loop-next.invariant.rest ∙ last_found (is_of_map list number) k (search rules) is_of_lem)
 
@@ -37,7 +37,7 @@ loop-next-preserved g c =
     let list : List ℕ = c.args.records.now in
     let number : ℕ = c.args.number in
     let k : ℕ = c.loop-next.next in
-    let is_not : is_of_map list number (k - 1) ≡ false = ne_eqb (accession_at list (k - 1)).on_map number (λ e. c.if-map_of-number.false (c.map_of.ensures ∙ e)) in
+    let is_not : is_of_map list number (k - 1) ≡ false = ne_eqb (accession_at list (k - 1)).on_map number (λ e. c.if-accession_at-number.false (ap (λ r. r.on_map) c.accession_at.ensures ∙ e)) in
     reached_next list c.requires number k c.loop-next.invariant (search rules) is_not
 
 pub returns : goal.returns
