@@ -10,18 +10,11 @@ pub mod numbers;
 pub mod points;
 pub mod ramp_geometry;
 
-use span_geometry::PixelPosition;
+pub use span_geometry::Segment;
 
 // A point: pixels, whole or half.
 #[derive(Clone, Copy)]
 pub struct Point {
     pub x: f64,
     pub y: f64,
-}
-
-// The endpoints of a boundary. Segments compare by the first, then the second.
-#[derive(Clone, Copy, PartialEq, Eq, PartialOrd, Ord)]
-pub struct Segment {
-    pub a: PixelPosition,
-    pub b: PixelPosition,
 }

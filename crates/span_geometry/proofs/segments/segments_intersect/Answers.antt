@@ -30,10 +30,10 @@ strictly_opposite-requires-2 c = tt
 pub returns-then-strictly_opposite : goal.returns-then-strictly_opposite
 unfolding segments_intersect
 returns-then-strictly_opposite c =
-    let A : Position = point_of c.args.a in
-    let B : Position = point_of c.args.b in
-    let C : Position = point_of c.args.c in
-    let D : Position = point_of c.args.d in
+    let A : Position = point_of c.args.s.a in
+    let B : Position = point_of c.args.s.b in
+    let C : Position = point_of c.args.t.a in
+    let D : Position = point_of c.args.t.b in
     let abc : to_z w64 (of_z w64 c.cross-abc.result) ≡ cross A B C = given c.cross-abc.type_inv c.cross-abc.ensures in
     let abd : to_z w64 (of_z w64 c.cross-abd.result) ≡ cross A B D = given c.cross-abd.type_inv c.cross-abd.ensures in
     let cda : to_z w64 (of_z w64 c.cross-cda.result) ≡ cross C D A = given c.cross-cda.type_inv c.cross-cda.ensures in
@@ -59,10 +59,10 @@ touches-requires-4 c = tt
 pub returns : goal.returns
 unfolding segments_intersect
 returns c =
-    let A : Position = point_of c.args.a in
-    let B : Position = point_of c.args.b in
-    let C : Position = point_of c.args.c in
-    let D : Position = point_of c.args.d in
+    let A : Position = point_of c.args.s.a in
+    let B : Position = point_of c.args.s.b in
+    let C : Position = point_of c.args.t.a in
+    let D : Position = point_of c.args.t.b in
     let abc : to_z w64 (of_z w64 c.cross-abc.result) ≡ cross A B C = given c.cross-abc.type_inv c.cross-abc.ensures in
     let abd : to_z w64 (of_z w64 c.cross-abd.result) ≡ cross A B D = given c.cross-abd.type_inv c.cross-abd.ensures in
     let cda : to_z w64 (of_z w64 c.cross-cda.result) ≡ cross C D A = given c.cross-cda.type_inv c.cross-cda.ensures in
