@@ -1,10 +1,9 @@
 -- `SpanGeometry::new` meets its contract: the lesser endpoint and the greater are those of `canonical`. Assumes nothing.
-use mathlib.Core.Path.{◌≡◌, refl, subst⁻¹, ◌∙◌}
+use mathlib.Core.Path.{◌≡◌, refl, subst⁻¹}
 use mathlib.Core.Bool.{Bool, true, false, cond}
 use Prim.Native.Nat.{◌≤◌}
 use Rattle.definitions.specs.Grid.{Segment, position_lt, canonical}
 use Rattle.laws.specs.FloatLaws.Pixels.{PixelSegment, canonical-pixel}
-use Rattle.span_geometry.specs.Shapes.{point_of}
 use Rattle.span_geometry.proofs.Canonical.{before-x, not-before-x}
 use Rattle.span_geometry.proofs.SpanGeometry.new.Goals as goal
 
@@ -25,8 +24,3 @@ between-requires c =
       record { x_in = made.second.x-le; y_in = made.second.y-le },
       subst⁻¹ (λ (t : Segment). t.a.x ≤ t.b.x) c.canonical.ensures (ordered s),
     )
-
-pub returns : goal.returns
-returns c =
-    let b = c.between.ensures in
-    record { segment = (λ i. record { a = point_of (b.0 i); b = point_of (b.1 i) }) ∙ c.canonical.ensures; sound = b.2 }

@@ -9,24 +9,6 @@ use Rattle.span_geometry.specs.Shapes.{point_of}
 use Rattle.span_geometry.proofs.Signed.{given}
 use Rattle.span_geometry.proofs.segments.segments_intersect.Goals as goal
 
-pub cross-abc-requires : goal.cross-abc-requires
-cross-abc-requires c = (c.requires.0, c.requires.1, c.requires.2)
-
-pub cross-abd-requires : goal.cross-abd-requires
-cross-abd-requires c = (c.requires.0, c.requires.1, c.requires.3)
-
-pub cross-cda-requires : goal.cross-cda-requires
-cross-cda-requires c = (c.requires.2, c.requires.3, c.requires.0)
-
-pub cross-cdb-requires : goal.cross-cdb-requires
-cross-cdb-requires c = (c.requires.2, c.requires.3, c.requires.1)
-
-pub strictly_opposite-requires : goal.strictly_opposite-requires
-strictly_opposite-requires c = tt
-
-pub strictly_opposite-requires-2 : goal.strictly_opposite-requires-2
-strictly_opposite-requires-2 c = tt
-
 pub returns-then-strictly_opposite : goal.returns-then-strictly_opposite
 unfolding segments_intersect
 returns-then-strictly_opposite c =
@@ -43,18 +25,6 @@ returns-then-strictly_opposite c =
     let answer : Bool → Bool = λ first. first || (is_zero (cross A B C) && on_segment A B C) || (is_zero (cross A B D) && on_segment A B D)
     || (is_zero (cross C D A) && on_segment C D A) || (is_zero (cross C D B) && on_segment C D B) in
     λ i. answer ((sym c.if-strictly_opposite.true ∙ crossing) i)
-
-pub touches-requires : goal.touches-requires
-touches-requires c = tt
-
-pub touches-requires-2 : goal.touches-requires-2
-touches-requires-2 c = tt
-
-pub touches-requires-3 : goal.touches-requires-3
-touches-requires-3 c = tt
-
-pub touches-requires-4 : goal.touches-requires-4
-touches-requires-4 c = tt
 
 pub returns : goal.returns
 unfolding segments_intersect
