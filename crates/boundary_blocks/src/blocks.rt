@@ -5,6 +5,8 @@ ghost use Rattle.definitions.specs.Limits.{max_entries};
 ghost use Rattle.definitions.specs.Lists.{overwrite};
 ghost use Rattle.boundary_blocks.specs.Blocks.{part, left_blocks, left_count};
 
+use definitions::limits::MAX_ENTRIES;
+
 // Copies a block from one list into another.
 pub fn copy_block(from: &[u64], at: usize, to: &mut [u64], place: usize, size: usize)
     requires { (at + size ≤ length from.now) × (place + size ≤ length to.old) }
@@ -22,7 +24,12 @@ fn move_block(list: &mut [u64], at: usize, place: usize, size: usize)
 }
 
 // Moves the blocks that are not removed to the front, and gives how many there are.
-pub fn keep_blocks(list: &mut [u64], size: usize, removed: &[bool; 256], count: usize) -> usize
+pub fn keep_blocks(
+    list: &mut [u64],
+    size: usize,
+    removed: &[bool; MAX_ENTRIES],
+    count: usize,
+) -> usize
     requires { (count ≤ max_entries) × (size * count ≤ length list.old) }
     ensures list { list.new ≡ overwrite (left_blocks removed.now size list.old count) list.old }
     ensures answer { result ≡ left_count removed.now count }

@@ -32,13 +32,7 @@ fn put_spans(rows: &[[u64; NUMBERS_PER_ROW]], spans: &mut [u64])
     ensures { spans.new ≡ overwrite (ends_of_lem (rows_held rows.now)) spans.old }
 {
     for (k, row) in rows.iter().enumerate() {
-        copy_block(
-            row,
-            1,
-            &mut *spans,
-            NUMBERS_PER_SPAN * k,
-            NUMBERS_PER_SPAN,
-        );
+        copy_block(row, 1, &mut *spans, NUMBERS_PER_SPAN * k, NUMBERS_PER_SPAN);
     }
 }
 
@@ -100,7 +94,7 @@ pub fn put_rows(numbers: &[u64], spans: &[u64], kept: usize, output: &mut [u64])
     requires { (kept ≤ length numbers.now) × (4 * kept ≤ length spans.now) × (5 * kept ≤ length output.old) }
     ensures { output.new ≡ overwrite (flat_rows (rows_at numbers.now spans.now kept)) output.old }
 {
-    // Kept: as in `put_spans`.
+    // Kept: k is a place of three lists. Items of `numbers` beside chunks of `spans` would be a zip of two, numbered by k for the output all the same.
     for k in 0..kept {
         let at = NUMBERS_PER_ROW * k;
         output[at] = numbers[k];

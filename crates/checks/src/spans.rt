@@ -10,7 +10,7 @@ use definitions::limits::{NUMBERS_PER_SPAN, PIXELS_PER_WALK_CELL};
 use refusals::{Cause, Refusal};
 
 // 5: "span endpoint above 8 × width or 8 × height", of the four numbers from k on, a span's or a boundary's.
-pub fn both_on_map(width: u64, height: u64, list: &[u64], k: usize) -> bool
+pub(crate) fn both_on_map(width: u64, height: u64, list: &[u64], k: usize) -> bool
     requires { (width ≤ max_side) × (height ≤ max_side) × (k + 3 < length list.now) }
     ensures { result ≡ both_on_map width height (segment_at list.now k) }
 {

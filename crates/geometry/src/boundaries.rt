@@ -1,5 +1,4 @@
 // The one reader of the boundaries of a lent list, nine numbers each: which of them is which. The first four are the endpoints.
-// Kept: list and number, not a struct of nine numbers: C lends one flat list, and a caller reads one or two numbers of a boundary, for which nine would be copied.
 ghost use Rattle.std.specs.Prelude.{◌≡◌, not, ◌+◌, ◌*◌, get_or, eqb};
 ghost use Rattle.definitions.specs.Limits.{numbers_per_boundary};
 ghost use Rattle.definitions.specs.Grid.{segment_at};
@@ -23,8 +22,8 @@ const LOWER: usize = 7;
 
 const UPPER: usize = 8;
 
-// What a boundary is: no part of a ramp, or an end of one. A list that no check has seen may hold another number, which is kept, so that two kinds are equal just where
-// their numbers are.
+// What a boundary is: no part of a ramp, or an end of one. A list that no check has seen may hold another number, which is kept, so that two kinds are equal
+// just where their numbers are.
 #[derive(Clone, Copy, PartialEq, Eq)]
 pub enum BoundaryKind {
     Plain,
@@ -46,6 +45,7 @@ impl From<u64> for BoundaryKind {
     }
 }
 
+// Kept: a list and a number, not nine numbers: the passes name boundaries of one lent list by number, two or three at once, and read one or two of the nine.
 // The endpoints of boundary i as written.
 pub fn segment_of(boundaries: &[u64], i: usize) -> Segment
     requires { HasBoundary boundaries.now i }

@@ -1,4 +1,5 @@
-// The geometry of boundaries, from context.rs and ramp_boundaries.rs: points in doubles, endpoints in pixels, how far they are apart, and when one boundary represents another.
+// The geometry of boundaries, from context.rs and ramp_boundaries.rs: points in doubles, endpoints in pixels, how far they are apart, and when one boundary
+// represents another.
 //
 // Every float operation stands in the Rust's order. Within a map no coordinate is above 8,192, so that no hypotenuse is refused.
 

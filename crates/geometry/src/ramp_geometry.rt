@@ -1,4 +1,5 @@
-// How far two boundaries are apart, and when one represents the other. Endpoints are at most 8,192, so that a product of two differences is at most 2^26, and i64 serves for the Rust's i128.
+// How far two boundaries are apart, and when one represents the other. Endpoints are at most 8,192, so that a product of two differences is at most 2^26, and
+// i64 serves for the Rust's i128.
 ghost use Rattle.std.specs.Prelude.{◌≡◌};
 ghost use Rattle.std.specs.Float.{binary64};
 ghost use Rattle.std.specs.Float.Ieee.{div};
@@ -151,7 +152,8 @@ fn overlap(candidate: Segment, ramp: Segment, ramp_length: f64) -> f64
     )
 }
 
-// Whether the candidate is nearly parallel to the ramp, near its line, and beside most of the shorter of the two. (The Rust also gives the offset, which nothing reads.)
+// Whether the candidate is nearly parallel to the ramp, near its line, and beside most of the shorter of the two. (The Rust also gives the offset, which
+// nothing reads.)
 pub fn overlapping_ramp_representative(candidate: Segment, ramp: Segment) -> bool
     requires { PixelSegment (segment_form candidate) × PixelSegment (segment_form ramp) }
     ensures { result ≡ overlapping_ramp_representative (segment_form candidate) (segment_form ramp) }
