@@ -23,9 +23,6 @@ returns-then-n-k c =
       record { num-le = le_trans square.1 (lit≤ tt); den-le = lit≤ tt; den_some = lit< tt },
     )
 
-pub overflow_mul-result : goal.overflow_mul-result
-overflow_mul-result c = record { fits = lt_of_le_of_lt (mul-le-mul c.height-c.ensures.1 c.height-c.ensures.1) (lit< tt) }
-
 pub returns : goal.returns
 returns c =
     let given = c.args in
