@@ -7,14 +7,14 @@ use mathlib.Core.Bool.{true, false, not}
 use mathlib.Core.List.{List, [], ◌∷◌, ◌++◌, append_assoc, append-nil}
 use lib.ListN.{length, get_or, set, take, drop, replicate, length-append}
 use lib.Seq.{sets, drop-cons, take-suc, length-take-le}
-use Rattle.std.proofs.lemmas.List.{drop_all, get_or-take, length-map, map-append}
+use Rattle.std.proofs.lemmas.List.{get_or-take, length-map, map-append}
 use Rattle.std.specs.Simd.{first_chunks}
 use Rattle.definitions.specs.Scan.{collect, concat_map, only_if}
 use Rattle.definitions.specs.Sort.{sort, list_lt}
 use Rattle.definitions.specs.Grid.{at, canonical, boundary_at}
 use Rattle.definitions.specs.Rows.{Row, row_key, rows_from, flat_rows}
 use Rattle.definitions.specs.Lists.{overwrite}
-use Rattle.laws.specs.ListLaws.FlatRows.{row_at, rows_in_lem, rows_next, rows-length, rows_of-flat, flat_append, flat-length}
+use Rattle.laws.specs.ListLaws.FlatRows.{row_at, rows_in_lem, rows_of-flat, flat_append, flat-length}
 use Rattle.laws.specs.ListLaws.Lists.{All}
 use Rattle.laws.specs.ListLaws.Options.{on_only, on_list}
 use Rattle.laws.specs.ListLaws.Overwritten.{overwrite_more, sets_append}
@@ -24,11 +24,10 @@ use Rattle.laws.specs.ListLaws.ScansOfAll.{collect-below}
 use Rattle.laws.specs.OrderLaws.StableSort.{all-sort}
 use Rattle.laws.specs.ListLaws.Flags.{none_set}
 use Rattle.rows.specs.Contract.{not_removed, kept_rows}
-use Rattle.rest.specs.FlatLists.{flat_segment, flat_boundary}
+use Rattle.rest.specs.FlatLists.{flat_segment}
 use Rattle.rest.specs.StartMaps.{count-all}
 use Rattle.boundary_blocks.specs.Blocks.{part}
-use Rattle.boundary_blocks.specs.Start.{rows_of_all, rows_held, NamedIn, turned_in, place_row, rows_at}
-use Rattle.boundary_blocks.proofs.Copying.{part_length}
+use Rattle.boundary_blocks.specs.Start.{rows_of_all, rows_held, NamedIn, place_row, rows_at}
 
 -- ---- parts, number by number
 
@@ -50,16 +49,6 @@ part-four at l h =
     (ap (λ n. part n 2 l) two
     ∙ part_next (at + 2) 1 l (omega arith)
     ∙ ap {B = List ℕ} (λ r. get_or l (at + 2) 0 ∷ r) (ap (λ n. part n 1 l) three ∙ part_one (at + 3) l (omega arith))))
-
-pub part-five : (at : ℕ) (l : List ℕ) → at + 5 ≤ length l
-    → part at 5 l ≡ get_or l at 0 ∷ get_or l (at + 1) 0 ∷ get_or l (at + 2) 0 ∷ get_or l (at + 3) 0 ∷ get_or l (at + 4) 0 ∷ []
-part-five at l h =
-    let two : at + 1 + 1 ≡ at + 2 = omega arith in
-    let three : at + 1 + 2 ≡ at + 3 = omega arith in
-    let four : at + 1 + 3 ≡ at + 4 = omega arith in
-    part_next at 4 l (omega arith)
-    ∙ ap {B = List ℕ} (λ r. get_or l at 0 ∷ r) (part-four (at + 1) l (omega arith))
-    ∙ (λ t. get_or l at 0 ∷ get_or l (at + 1) 0 ∷ get_or l (two t) 0 ∷ get_or l (three t) 0 ∷ get_or l (four t) 0 ∷ [])
 
 -- ---- one row more
 
@@ -107,35 +96,6 @@ module _
 
 pub ends_block_lem : (row : List ℕ) → 5 ≤ length row → part 1 4 row ≡ flat_segment (row_at row 0).line
 ends_block_lem row h = part-four 1 row (omega arith)
-
--- a boundary's block, stored in two parts
-pub boundary_block_lem : (lent row old : List ℕ) (k : ℕ) → 5 ≤ length row → NamedIn lent (row_at row 0)
-    → sets (sets old (9 * k) (part 1 4 row)) (9 * k + 4) (part (9 * get_or row 0 0 + 4) 5 lent)
-    ≡ sets old (9 * k) (flat_boundary (turned_in lent (row_at row 0)))
-boundary_block_lem lent row old k h named =
-    ap (λ n. sets (sets old (9 * k) (part 1 4 row)) (9 * k + n) (part (9 * number + 4) 5 lent)) (sym (part_length 1 4 row (omega arith)))
-    ∙ sym (sets_append old (9 * k) (part 1 4 row) (part (9 * number + 4) 5 lent))
-    ∙ ap₂ (λ u v. sets old (9 * k) (u ++ v)) (ends_block_lem row h) behind
-  where
-    number : ℕ
-    number = get_or row 0 0
-
-    five : 9 * number + 4 + 1 ≡ 9 * number + 5
-    five = omega arith
-
-    six : 9 * number + 4 + 2 ≡ 9 * number + 6
-    six = omega arith
-
-    seven : 9 * number + 4 + 3 ≡ 9 * number + 7
-    seven = omega arith
-
-    eight : 9 * number + 4 + 4 ≡ 9 * number + 8
-    eight = omega arith
-
-    behind : part (9 * number + 4) 5 lent ≡ get_or lent (9 * number + 4) 0 ∷ get_or lent (9 * number + 5) 0 ∷ get_or lent (9 * number + 6) 0 ∷ get_or lent (9 * number + 7) 0 ∷ get_or lent (9 * number + 8) 0 ∷ []
-    behind =
-        part-five (9 * number + 4) lent (omega (arith, named))
-        ∙ (λ t. get_or lent (9 * number + 4) 0 ∷ get_or lent (five t) 0 ∷ get_or lent (six t) 0 ∷ get_or lent (seven t) 0 ∷ get_or lent (eight t) 0 ∷ [])
 
 -- ---- the rows of all boundaries
 

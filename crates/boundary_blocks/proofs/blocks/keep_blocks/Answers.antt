@@ -2,10 +2,10 @@
 use Prim.Native.Nat.{ℕ, ◌+◌, ◌*◌, ◌≤◌, ◌<◌}
 use native.Mathlib.Omega.{arith}
 use native.Mathlib.Nat.{add-zero}
-use mathlib.Core.Path.{◌≡◌, refl, sym, ap, ap₂, subst, ◌∙◌}
+use mathlib.Core.Path.{refl, sym, ap, ap₂, subst, ◌∙◌}
 use mathlib.Core.Bool.{Bool, false, not}
 use mathlib.Core.List.{List}
-use lib.ListN.{length, take, get_or}
+use lib.ListN.{length, take}
 use lib.Seq.{sets, length-take-le}
 use Rattle.std.proofs.Common.{get_or-take}
 use Rattle.definitions.specs.Scan.{bit, gather, count_below}
@@ -84,11 +84,3 @@ overflow_add-kept c =
     let given = c.args in
     let few = left-few given.removed.now given.size given.list.now given.count c.requires.1 turn.k in
     record { fits = omega (arith, few, turn.invariant.0, turn.invariant.3, c.requires.0) }
-
-pub returns : goal.returns
-returns c =
-    let turn = c.loop-k in
-    let given = c.args in
-    let whole = length-take-le given.count given.removed.now (omega (arith, c.told-removed, c.requires.0)) in
-    let all : turn.k ≡ given.count = omega (arith, turn.invariant.0, c.loop-k-test.false, whole) in
-    record { list = turn.invariant.2 ∙ ap (λ n. overwrite (left_blocks given.removed.now given.size given.list.now n) given.list.now) all; answer = turn.invariant.3 ∙ ap (left_count given.removed.now) all }

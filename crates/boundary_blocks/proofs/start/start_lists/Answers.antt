@@ -2,7 +2,7 @@
 use Prim.Native.Nat.{◌/◌, ◌≤◌}
 use native.Mathlib.Omega.{arith}
 use mathlib.Core.Path.{ap, ◌∙◌}
-use lib.ListN.{length, replicate, take}
+use lib.ListN.{length, replicate}
 use lib.Seq.{length-take-le}
 use Rattle.definitions.specs.Lists.{overwrite}
 use Rattle.boundary_blocks.specs.Start.{numbers_of, ends_of_lem, turned_of}
