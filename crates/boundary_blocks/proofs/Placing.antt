@@ -1,19 +1,20 @@
--- Rows read from a flat list and put into others, block by block: each row gives one block (`row_more`); a row's numbers stand in parts of the list that it is read from. Assumes nothing.
-use Prim.Native.Nat.{ℕ, zero, suc, ◌+◌, ◌*◌, ◌≤◌, ◌<◌}
+-- Rows read one by one and put into flat lists, block by block: each row gives one block (`row_more`). Assumes nothing.
+use Prim.Native.Nat.{ℕ, zero, suc, ◌+◌, ◌*◌, ◌/◌, ◌≤◌, ◌<◌}
 use native.Mathlib.Omega.{arith}
 use native.Mathlib.Numerals.{add-one}
 use mathlib.Core.Path.{◌≡◌, refl, sym, ap, ap₂, subst, ◌∙◌}
 use mathlib.Core.Bool.{true, false, not}
 use mathlib.Core.List.{List, [], ◌∷◌, ◌++◌, append_assoc, append-nil}
 use lib.ListN.{length, get_or, set, take, drop, replicate, length-append}
-use lib.Seq.{sets, drop-cons, length-take-le}
-use Rattle.std.proofs.lemmas.List.{drop_all}
+use lib.Seq.{sets, drop-cons, take-suc, length-take-le}
+use Rattle.std.proofs.lemmas.List.{get_or-take, length-map, map-append}
+use Rattle.std.specs.Simd.{first_chunks}
 use Rattle.definitions.specs.Scan.{collect, concat_map, only_if}
 use Rattle.definitions.specs.Sort.{sort, list_lt}
-use Rattle.definitions.specs.Grid.{canonical, boundary_at}
+use Rattle.definitions.specs.Grid.{at, canonical, boundary_at}
 use Rattle.definitions.specs.Rows.{Row, row_key, rows_from, flat_rows}
 use Rattle.definitions.specs.Lists.{overwrite}
-use Rattle.laws.specs.ListLaws.FlatRows.{row_at, rows_in_lem, rows_next, rows-length, rows_of-flat, flat_append, flat-length}
+use Rattle.laws.specs.ListLaws.FlatRows.{row_at, rows_in_lem, rows_of-flat, flat_append, flat-length}
 use Rattle.laws.specs.ListLaws.Lists.{All}
 use Rattle.laws.specs.ListLaws.Options.{on_only, on_list}
 use Rattle.laws.specs.ListLaws.Overwritten.{overwrite_more, sets_append}
@@ -23,11 +24,10 @@ use Rattle.laws.specs.ListLaws.ScansOfAll.{collect-below}
 use Rattle.laws.specs.OrderLaws.StableSort.{all-sort}
 use Rattle.laws.specs.ListLaws.Flags.{none_set}
 use Rattle.rows.specs.Contract.{not_removed, kept_rows}
-use Rattle.rest.specs.FlatLists.{flat_segment, flat_boundary}
+use Rattle.rest.specs.FlatLists.{flat_segment}
 use Rattle.rest.specs.StartMaps.{count-all}
 use Rattle.boundary_blocks.specs.Blocks.{part}
-use Rattle.boundary_blocks.specs.Start.{rows_of_all, numbers_of, NamedIn, turned_in, place_row, rows_at}
-use Rattle.boundary_blocks.proofs.Copying.{part_length}
+use Rattle.boundary_blocks.specs.Start.{rows_of_all, rows_held, NamedIn, place_row, rows_at}
 
 -- ---- parts, number by number
 
@@ -50,16 +50,6 @@ part-four at l h =
     ∙ part_next (at + 2) 1 l (omega arith)
     ∙ ap {B = List ℕ} (λ r. get_or l (at + 2) 0 ∷ r) (ap (λ n. part n 1 l) three ∙ part_one (at + 3) l (omega arith))))
 
-pub part-five : (at : ℕ) (l : List ℕ) → at + 5 ≤ length l
-    → part at 5 l ≡ get_or l at 0 ∷ get_or l (at + 1) 0 ∷ get_or l (at + 2) 0 ∷ get_or l (at + 3) 0 ∷ get_or l (at + 4) 0 ∷ []
-part-five at l h =
-    let two : at + 1 + 1 ≡ at + 2 = omega arith in
-    let three : at + 1 + 2 ≡ at + 3 = omega arith in
-    let four : at + 1 + 3 ≡ at + 4 = omega arith in
-    part_next at 4 l (omega arith)
-    ∙ ap {B = List ℕ} (λ r. get_or l at 0 ∷ r) (part-four (at + 1) l (omega arith))
-    ∙ (λ t. get_or l at 0 ∷ get_or l (at + 1) 0 ∷ get_or l (two t) 0 ∷ get_or l (three t) 0 ∷ get_or l (four t) 0 ∷ [])
-
 -- ---- one row more
 
 pub concat-append : {A : Type 0} (f : A → List ℕ) (l m : List A) → concat_map f (l ++ m) ≡ concat_map f l ++ concat_map f m
@@ -74,75 +64,38 @@ concat-length f size long step none [] = sym none
 concat-length f size long step none (r ∷ l) =
     length-append (f r) (concat_map f l) ∙ ap₂ ◌+◌ (long r) (concat-length f size long step none l) ∙ sym (step (length l))
 
--- rows are read from `rows`, and each gives a block of this size, which is put into `old`
+-- each list of `chunks` is a row's numbers and gives a block of this size, which is put into `old`
 module _
     (f : Row → List ℕ) (size : ℕ) (long : (r : Row) → length (f r) ≡ size)
-    (step : (n : ℕ) → size * suc n ≡ size + size * n) (none : size * 0 ≡ 0) (rows old : List ℕ) where
-  pub row_more : (k : ℕ) {block : List ℕ} → size * (k + 1) ≤ length old → block ≡ f (row_at rows (5 * k))
-      → sets (overwrite (concat_map f (rows_in_lem k rows)) old) (size * k) block ≡ overwrite (concat_map f (rows_in_lem (k + 1) rows)) old
+    (step : (n : ℕ) → size * suc n ≡ size + size * n) (none : size * 0 ≡ 0) (chunks : List (List ℕ)) (old : List ℕ) where
+  pub row_more : (k : ℕ) (d : List ℕ) {block : List ℕ} → k < length chunks → size * (k + 1) ≤ length old → block ≡ f (row_at (get_or chunks k d) 0)
+      → sets (overwrite (concat_map f (rows_held (take k chunks))) old) (size * k) block ≡ overwrite (concat_map f (rows_held (take (k + 1) chunks))) old
   unfolding concat_map
-  row_more k {block} room e =
-      ap₂ (λ n b. sets (overwrite (concat_map f (rows_in_lem k rows)) old) n b) (sym filled) e
-      ∙ overwrite_more (concat_map f (rows_in_lem k rows)) (f (row_at rows (5 * k))) old (omega (arith, filled, long (row_at rows (5 * k)), step k, ap (λ n. size * n) (add-one k)))
+  row_more k d {block} h room e =
+      ap₂ (λ n b. sets (overwrite (concat_map f (rows_held (take k chunks))) old) n b) (sym filled) e
+      ∙ overwrite_more (concat_map f (rows_held (take k chunks))) (f row) old (omega (arith, filled, long row, step k, ap (λ n. size * n) (add-one k)))
       ∙ ap (λ l. overwrite l old) (sym next)
     where
-      filled : length (concat_map f (rows_in_lem k rows)) ≡ size * k
-      filled = concat-length f size long step none (rows_in_lem k rows) ∙ ap (λ n. size * n) (rows-length k rows)
+      row : Row
+      row = row_at (get_or chunks k d) 0
 
-      next : concat_map f (rows_in_lem (k + 1) rows) ≡ concat_map f (rows_in_lem k rows) ++ f (row_at rows (5 * k))
+      filled : length (concat_map f (rows_held (take k chunks))) ≡ size * k
+      filled =
+          concat-length f size long step none (rows_held (take k chunks))
+          ∙ ap (λ n. size * n) (length-map (take k chunks) (λ c. row_at c 0) ∙ length-take-le k chunks (omega (arith, h)))
+
+      next : concat_map f (rows_held (take (k + 1) chunks)) ≡ concat_map f (rows_held (take k chunks)) ++ f row
       next =
-          ap (λ n. concat_map f (rows_in_lem n rows)) (add-one k)
-          ∙ ap (concat_map f) (rows_next k rows)
-          ∙ concat-append f (rows_in_lem k rows) (row_at rows (5 * k) ∷ [])
-          ∙ ap (λ t. concat_map f (rows_in_lem k rows) ++ t) (append-nil (f (row_at rows (5 * k))))
-
-pub numbers-length : (k : ℕ) (rows : List ℕ) → length (numbers_of (rows_in_lem k rows)) ≡ k
-unfolding numbers_of
-numbers-length k rows = concat-length (λ (r : Row). r.number ∷ []) 1 (λ r. refl) (λ n. omega arith) refl (rows_in_lem k rows) ∙ omega (arith, rows-length k rows)
-
--- as many numbers as the front of a list has, written over that front
-pub front_written : (vs l : List ℕ) (n : ℕ) → length vs ≡ n → n ≤ length l → overwrite vs (take n l) ++ drop n l ≡ overwrite vs l
-front_written vs l n e h =
-    let none : drop (length vs) (take n l) ≡ [] = drop_all (length vs) (take n l) (omega (arith, e, length-take-le n l h)) in
-    ap (λ r. vs ++ r ++ drop n l) none ∙ ap (λ w. w ++ drop n l) (append-nil vs) ∙ ap (λ m. vs ++ drop m l) (sym e)
+          ap (λ n. concat_map f (rows_held (take n chunks))) (add-one k)
+          ∙ ap (λ l. concat_map f (rows_held l)) (take-suc chunks k d h)
+          ∙ ap (concat_map f) (map-append (λ c. row_at c 0) (take k chunks) (get_or chunks k d ∷ []))
+          ∙ concat-append f (rows_held (take k chunks)) (row ∷ [])
+          ∙ ap (λ t. concat_map f (rows_held (take k chunks)) ++ t) (append-nil (f row))
 
 -- ---- what a row's block is
 
-pub ends_block_lem : (rows : List ℕ) (k : ℕ) → 5 * k + 5 ≤ length rows → part (5 * k + 1) 4 rows ≡ flat_segment (row_at rows (5 * k)).line
-ends_block_lem rows k h =
-    let two : 5 * k + 1 + 1 ≡ 5 * k + 2 = omega arith in
-    let three : 5 * k + 1 + 2 ≡ 5 * k + 3 = omega arith in
-    let four : 5 * k + 1 + 3 ≡ 5 * k + 4 = omega arith in
-    part-four (5 * k + 1) rows (omega arith) ∙ (λ t. get_or rows (5 * k + 1) 0 ∷ get_or rows (two t) 0 ∷ get_or rows (three t) 0 ∷ get_or rows (four t) 0 ∷ [])
-
--- a boundary's block, stored in two parts
-pub boundary_block_lem : (lent rows old : List ℕ) (k : ℕ) → 5 * k + 5 ≤ length rows → NamedIn lent (row_at rows (5 * k))
-    → sets (sets old (9 * k) (part (5 * k + 1) 4 rows)) (9 * k + 4) (part (9 * get_or rows (5 * k) 0 + 4) 5 lent)
-    ≡ sets old (9 * k) (flat_boundary (turned_in lent (row_at rows (5 * k))))
-boundary_block_lem lent rows old k h named =
-    ap (λ n. sets (sets old (9 * k) (part (5 * k + 1) 4 rows)) (9 * k + n) (part (9 * number + 4) 5 lent)) (sym (part_length (5 * k + 1) 4 rows (omega arith)))
-    ∙ sym (sets_append old (9 * k) (part (5 * k + 1) 4 rows) (part (9 * number + 4) 5 lent))
-    ∙ ap₂ (λ u v. sets old (9 * k) (u ++ v)) (ends_block_lem rows k h) behind
-  where
-    number : ℕ
-    number = get_or rows (5 * k) 0
-
-    five : 9 * number + 4 + 1 ≡ 9 * number + 5
-    five = omega arith
-
-    six : 9 * number + 4 + 2 ≡ 9 * number + 6
-    six = omega arith
-
-    seven : 9 * number + 4 + 3 ≡ 9 * number + 7
-    seven = omega arith
-
-    eight : 9 * number + 4 + 4 ≡ 9 * number + 8
-    eight = omega arith
-
-    behind : part (9 * number + 4) 5 lent ≡ get_or lent (9 * number + 4) 0 ∷ get_or lent (9 * number + 5) 0 ∷ get_or lent (9 * number + 6) 0 ∷ get_or lent (9 * number + 7) 0 ∷ get_or lent (9 * number + 8) 0 ∷ []
-    behind =
-        part-five (9 * number + 4) lent (omega (arith, named))
-        ∙ (λ t. get_or lent (9 * number + 4) 0 ∷ get_or lent (five t) 0 ∷ get_or lent (six t) 0 ∷ get_or lent (seven t) 0 ∷ get_or lent (eight t) 0 ∷ [])
+pub ends_block_lem : (row : List ℕ) → 5 ≤ length row → part 1 4 row ≡ flat_segment (row_at row 0).line
+ends_block_lem row h = part-four 1 row (omega arith)
 
 -- ---- the rows of all boundaries
 
@@ -170,7 +123,7 @@ rows-count lent count n =
     ∙ count-all count
 
 -- they are read back where they were written
-pub rows-read : (lent : List ℕ) (count n : ℕ) (old : List ℕ) {rows : List ℕ} → rows ≡ overwrite (flat_rows (kept_rows lent count (replicate n false))) old → rows_in_lem count rows ≡ rows_of_all lent count
+rows-read : (lent : List ℕ) (count n : ℕ) (old : List ℕ) {rows : List ℕ} → rows ≡ overwrite (flat_rows (kept_rows lent count (replicate n false))) old → rows_in_lem count rows ≡ rows_of_all lent count
 rows-read lent count n old e =
     let written = kept_rows lent count (replicate n false) in
     ap (rows_in_lem count) e
@@ -178,9 +131,30 @@ rows-read lent count n old e =
     ∙ rows_of-flat written (drop (length (flat_rows written)) old)
     ∙ rows_all lent count n
 
-pub read_named : (lent : List ℕ) (count n : ℕ) (old : List ℕ) {rows : List ℕ} → rows ≡ overwrite (flat_rows (kept_rows lent count (replicate n false))) old → 9 * count ≤ length lent
-    → All (NamedIn lent) (rows_in_lem count rows)
-read_named lent count n old e room = subst (All (NamedIn lent)) (sym (rows-read lent count n old e)) (rows_named lent count room)
+-- a row cut off behind its numbers
+row_alone : (l : List ℕ) → row_at (take 5 l) 0 ≡ row_at l 0
+row_alone l =
+    λ i. record {
+      number = one 0 (omega arith) i;
+      line = record { a = at (one 1 (omega arith) i) (one 2 (omega arith) i); b = at (one 3 (omega arith) i) (one 4 (omega arith) i) };
+    }
+  where
+    one : (j : ℕ) → j < 5 → get_or (take 5 l) j 0 ≡ get_or l j 0
+    one j h = get_or-take 5 l j 0 h
+
+held_are : (count n : ℕ) (l : List ℕ) → count ≤ n → rows_held (take count (first_chunks 5 n l)) ≡ rows_in_lem count l
+unfolding rows_in_lem
+held_are zero n l h = refl
+held_are (suc count) zero l h = absurd (omega arith)
+held_are (suc count) (suc n) l h = ap₂ {C = List Row} (λ r t. r ∷ t) (row_alone l) (held_are count n (drop 5 l) (omega arith))
+
+-- the same, read row by row
+module _ (lent : List ℕ) (count n : ℕ) (old : List ℕ) {rows : List ℕ} {chunks : List (List ℕ)} (e : rows ≡ overwrite (flat_rows (kept_rows lent count (replicate n false))) old) (f : chunks ≡ first_chunks 5 (length rows / 5) rows) (h : count ≤ length rows / 5) where
+  pub held-read : rows_held (take count chunks) ≡ rows_of_all lent count
+  held-read = ap (λ c. rows_held (take count c)) f ∙ held_are count (length rows / 5) rows h ∙ rows-read lent count n old e
+
+  pub held_named : 9 * count ≤ length lent → All (NamedIn lent) (rows_held (take count chunks))
+  held_named room = subst (All (NamedIn lent)) (sym held-read) (rows_named lent count room)
 
 -- ---- one row more of the output
 

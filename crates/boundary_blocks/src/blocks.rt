@@ -1,10 +1,11 @@
 // Lists of numbers in blocks of one size: boundaries, spans, rows.
-ghost use Rattle.std.specs.Prelude.{◌≡◌, ◌+◌, ◌*◌, ◌≤◌, ◌<◌, length};
+ghost use Rattle.std.specs.Prelude.{◌≡◌, ◌+◌, ◌*◌, ◌≤◌, length};
 ghost use Rattle.std.proofs.lemmas.List.Edits.{sets};
 ghost use Rattle.definitions.specs.Limits.{max_entries};
-ghost use Rattle.definitions.specs.Scan.{bit};
 ghost use Rattle.definitions.specs.Lists.{overwrite};
-ghost use Rattle.boundary_blocks.specs.Blocks.{part, is_left, left_block, left_blocks, left_count};
+ghost use Rattle.boundary_blocks.specs.Blocks.{part, left_blocks, left_count};
+
+use definitions::limits::MAX_ENTRIES;
 
 // Copies a block from one list into another.
 pub fn copy_block(from: &[u64], at: usize, to: &mut [u64], place: usize, size: usize)
@@ -22,28 +23,23 @@ fn move_block(list: &mut [u64], at: usize, place: usize, size: usize)
     list.copy_within(at..at + size, place);
 }
 
-// Moves block k behind the blocks that are kept so far, unless it is removed, and gives how many are kept then.
-fn keep_block(list: &mut [u64], size: usize, removed: &[bool; 256], k: usize, kept: usize) -> usize
-    requires { (kept ≤ k) × (k < max_entries) × (size * kept ≤ size * k) × (size * k + size ≤ length list.old) }
-    ensures list { list.new ≡ sets list.old (size * kept) (left_block removed.now size list.old k) }
-    ensures answer { result ≡ kept + bit (is_left removed.now k) }
-{
-    if removed[k] {
-        return kept;
-    }
-    move_block(list, size * k, size * kept, size);
-    kept + 1
-}
-
 // Moves the blocks that are not removed to the front, and gives how many there are.
-pub fn keep_blocks(list: &mut [u64], size: usize, removed: &[bool; 256], count: usize) -> usize
+pub fn keep_blocks(
+    list: &mut [u64],
+    size: usize,
+    removed: &[bool; MAX_ENTRIES],
+    count: usize,
+) -> usize
     requires { (count ≤ max_entries) × (size * count ≤ length list.old) }
     ensures list { list.new ≡ overwrite (left_blocks removed.now size list.old count) list.old }
     ensures answer { result ≡ left_count removed.now count }
 {
     let mut kept = 0;
-    for k in 0..count {
-        kept = keep_block(list, size, removed, k, kept);
+    for (k, &gone) in removed[..count].iter().enumerate() {
+        if !gone {
+            move_block(&mut *list, size * k, size * kept, size);
+            kept += 1;
+        }
     }
     kept
 }

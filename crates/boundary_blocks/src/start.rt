@@ -5,9 +5,9 @@ ghost use Rattle.definitions.specs.Limits.{max_entries};
 ghost use Rattle.definitions.specs.Lists.{overwrite};
 ghost use Rattle.definitions.specs.Rows.{flat_rows};
 ghost use Rattle.laws.specs.ListLaws.Lists.{All};
-ghost use Rattle.laws.specs.ListLaws.FlatRows.{row_at, rows_in_lem};
+ghost use Rattle.laws.specs.ListLaws.FlatRows.{row_at};
 ghost use Rattle.rest.specs.FlatLists.{flat_boundary};
-ghost use Rattle.boundary_blocks.specs.Start.{rows_of_all, numbers_of, ends_of_lem, turned_in, turned_of, NamedIn, rows_at};
+ghost use Rattle.boundary_blocks.specs.Start.{rows_of_all, rows_held, numbers_of, ends_of_lem, turned_in, turned_of, NamedIn, rows_at};
 
 use crate::blocks::copy_block;
 use definitions::limits::{MAX_ENTRIES, NUMBERS_PER_BOUNDARY, NUMBERS_PER_ROW, NUMBERS_PER_SPAN};
@@ -16,43 +16,35 @@ use rows::canonical_output;
 // What stands behind a boundary's endpoints.
 const BEHIND_SIZE: usize = NUMBERS_PER_BOUNDARY - NUMBERS_PER_SPAN;
 
-// The numbers of the first rows.
-fn put_numbers(rows: &[u64], count: usize, numbers: &mut [u64])
-    requires { (5 * count ≤ length rows.now) × (count ≤ length numbers.old) }
-    ensures { numbers.new ≡ overwrite (numbers_of (rows_in_lem count rows.now)) numbers.old }
+// The numbers of the rows.
+fn put_numbers(rows: &[[u64; NUMBERS_PER_ROW]], numbers: &mut [u64])
+    requires { length rows.now ≤ length numbers.old }
+    ensures { numbers.new ≡ overwrite (numbers_of (rows_held rows.now)) numbers.old }
 {
-    for (k, number) in numbers[..count].iter_mut().enumerate() {
-        *number = rows[NUMBERS_PER_ROW * k];
+    for (k, row) in rows.iter().enumerate() {
+        numbers[k] = row[0];
     }
 }
 
 // Their endpoints.
-fn put_spans(rows: &[u64], count: usize, spans: &mut [u64])
-    requires { (5 * count ≤ length rows.now) × (4 * count ≤ length spans.old) }
-    ensures { spans.new ≡ overwrite (ends_of_lem (rows_in_lem count rows.now)) spans.old }
+fn put_spans(rows: &[[u64; NUMBERS_PER_ROW]], spans: &mut [u64])
+    requires { 4 * length rows.now ≤ length spans.old }
+    ensures { spans.new ≡ overwrite (ends_of_lem (rows_held rows.now)) spans.old }
 {
-    // Kept: of a list that `chunks_exact_mut` lends in parts a proof knows no element behind the loop.
-    for k in 0..count {
-        copy_block(
-            rows,
-            NUMBERS_PER_ROW * k + 1,
-            spans,
-            NUMBERS_PER_SPAN * k,
-            NUMBERS_PER_SPAN,
-        );
+    for (k, row) in rows.iter().enumerate() {
+        copy_block(row, 1, &mut *spans, NUMBERS_PER_SPAN * k, NUMBERS_PER_SPAN);
     }
 }
 
-// The boundary that row k names, with the row's endpoints, at place k.
-fn put_boundary(lent: &[u64], rows: &[u64], k: usize, boundaries: &mut [u64])
-    requires { (5 * k + 5 ≤ length rows.now) × (9 * k + 9 ≤ length boundaries.old) × NamedIn lent.now (row_at rows.now (5 * k)) }
+// The boundary that a row names, with the row's endpoints, at place k.
+fn put_boundary(lent: &[u64], row: &[u64; NUMBERS_PER_ROW], k: usize, boundaries: &mut [u64])
+    requires { (9 * k + 9 ≤ length boundaries.old) × NamedIn lent.now (row_at row.now 0) }
     ensures { boundaries.new
-        ≡ sets boundaries.old (9 * k) (flat_boundary (turned_in lent.now (row_at rows.now (5 * k)))) }
+        ≡ sets boundaries.old (9 * k) (flat_boundary (turned_in lent.now (row_at row.now 0))) }
 {
-    let at = NUMBERS_PER_ROW * k;
     let place = NUMBERS_PER_BOUNDARY * k;
-    let number = rows[at] as usize;
-    copy_block(rows, at + 1, boundaries, place, NUMBERS_PER_SPAN);
+    let number = row[0] as usize;
+    copy_block(row, 1, boundaries, place, NUMBERS_PER_SPAN);
     copy_block(
         lent,
         NUMBERS_PER_BOUNDARY * number + NUMBERS_PER_SPAN,
@@ -62,14 +54,13 @@ fn put_boundary(lent: &[u64], rows: &[u64], k: usize, boundaries: &mut [u64])
     );
 }
 
-// The boundaries that the first rows name.
-fn put_boundaries(lent: &[u64], rows: &[u64], count: usize, boundaries: &mut [u64])
-    requires { (5 * count ≤ length rows.now) × (9 * count ≤ length boundaries.old) × All (NamedIn lent.now) (rows_in_lem count rows.now) }
-    ensures { boundaries.new ≡ overwrite (turned_of lent.now (rows_in_lem count rows.now)) boundaries.old }
+// The boundaries that the rows name.
+fn put_boundaries(lent: &[u64], rows: &[[u64; NUMBERS_PER_ROW]], boundaries: &mut [u64])
+    requires { (9 * length rows.now ≤ length boundaries.old) × All (NamedIn lent.now) (rows_held rows.now) }
+    ensures { boundaries.new ≡ overwrite (turned_of lent.now (rows_held rows.now)) boundaries.old }
 {
-    // Kept: as in `put_spans`.
-    for k in 0..count {
-        put_boundary(lent, rows, k, boundaries);
+    for (k, row) in rows.iter().enumerate() {
+        put_boundary(lent, row, k, &mut *boundaries);
     }
 }
 
@@ -91,9 +82,11 @@ pub fn start_lists(
     let none = [false; MAX_ENTRIES];
     let mut rows = [0u64; NUMBERS_PER_ROW * MAX_ENTRIES];
     canonical_output(lent, count, &none, &mut rows);
-    put_numbers(&rows, count, numbers);
-    put_spans(&rows, count, spans);
-    put_boundaries(lent, &rows, count, boundaries);
+    let (rows, _) = rows.as_chunks::<NUMBERS_PER_ROW>();
+    let rows = &rows[..count];
+    put_numbers(rows, numbers);
+    put_spans(rows, spans);
+    put_boundaries(lent, rows, boundaries);
 }
 
 // Writes the rows of what is kept: numbers as lent, and endpoints.
@@ -101,7 +94,7 @@ pub fn put_rows(numbers: &[u64], spans: &[u64], kept: usize, output: &mut [u64])
     requires { (kept ≤ length numbers.now) × (4 * kept ≤ length spans.now) × (5 * kept ≤ length output.old) }
     ensures { output.new ≡ overwrite (flat_rows (rows_at numbers.now spans.now kept)) output.old }
 {
-    // Kept: as in `put_spans`.
+    // Kept: k is a place of three lists. Items of `numbers` beside chunks of `spans` would be a zip of two, numbered by k for the output all the same.
     for k in 0..kept {
         let at = NUMBERS_PER_ROW * k;
         output[at] = numbers[k];

@@ -1,1 +1,1 @@
-pub mod Quotients
+pub mod Chunks

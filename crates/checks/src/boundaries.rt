@@ -8,7 +8,7 @@ use crate::spans::both_on_map;
 use definitions::limits::{MAX_WIDTH_BITS, NUMBERS_PER_BOUNDARY};
 
 // "width not finite, sign bit set, or over 65,536": one comparison, as the bits of an infinity, of a NaN and of what has its sign set are larger.
-pub fn width_fits(bits: u64) -> bool
+fn width_fits(bits: u64) -> bool
     ensures { result ≡ width_fits bits }
 {
     bits <= MAX_WIDTH_BITS

@@ -1,6 +1,6 @@
 // The passes by the names of the Rust's functions, and their numbers in a call (SPECIFICATION 3). A number that is no pass's is check 4.
 ghost use Rattle.std.specs.Prelude.{◌≡◌};
-ghost use Rattle.checks.specs.Passes.{pass_number, PassAsked};
+ghost use Rattle.checks.specs.Passes.{PassAsked};
 
 use refusals::{Cause, Refusal};
 
@@ -26,18 +26,6 @@ impl TryFrom<u64> for Pass {
                 cause: Cause::Pass,
                 place: 0,
             }),
-        }
-    }
-}
-
-impl From<Pass> for u64 {
-    ghost from_gives = { λ pass number. number ≡ pass_number pass };
-
-    fn from(pass: Pass) -> u64 {
-        match pass {
-            Pass::ReplaceRampMouths => 1,
-            Pass::CollapseRampInteriors => 2,
-            Pass::RemoveJunctionBoundaries => 3,
         }
     }
 }

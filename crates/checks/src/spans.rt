@@ -1,16 +1,16 @@
 // The checks of spans: numbers 5 and 6.
-ghost use Rattle.std.specs.Prelude.{◌≡◌, ◌+◌, ◌*◌, ◌≤◌, ◌<◌, length};
-ghost use Rattle.definitions.specs.Limits.{max_side, numbers_per_span};
+ghost use Rattle.std.specs.Prelude.{◌≡◌, ◌+◌, ◌≤◌, ◌<◌, length};
+ghost use Rattle.definitions.specs.Limits.{max_side};
 ghost use Rattle.definitions.specs.Grid.{segment_at};
 ghost use Rattle.definitions.specs.Refusals.{both_on_map, endpoints_differ, spans_refusal};
 ghost use Rattle.refusals.specs.Refusals.{refusal_in};
-ghost use Rattle.checks.specs.Contract.{span_refusal};
+ghost use Rattle.checks.specs.Contract.{segment_refusal};
 
 use definitions::limits::{NUMBERS_PER_SPAN, PIXELS_PER_WALK_CELL};
 use refusals::{Cause, Refusal};
 
 // 5: "span endpoint above 8 × width or 8 × height", of the four numbers from k on, a span's or a boundary's.
-pub fn both_on_map(width: u64, height: u64, list: &[u64], k: usize) -> bool
+pub(crate) fn both_on_map(width: u64, height: u64, list: &[u64], k: usize) -> bool
     requires { (width ≤ max_side) × (height ≤ max_side) × (k + 3 < length list.now) }
     ensures { result ≡ both_on_map width height (segment_at list.now k) }
 {
@@ -21,29 +21,33 @@ pub fn both_on_map(width: u64, height: u64, list: &[u64], k: usize) -> bool
 }
 
 // 6: "span endpoints equal"
-fn endpoints_differ(spans: &[u64], k: usize) -> bool
-    requires { k + 3 < length spans.now }
-    ensures { result ≡ endpoints_differ (segment_at spans.now k) }
+fn endpoints_differ(span: &[u64; NUMBERS_PER_SPAN]) -> bool
+    ensures { result ≡ endpoints_differ (segment_at span.now 0) }
 {
-    !((spans[k] == spans[k + 2]) & (spans[k + 1] == spans[k + 3]))
+    let [x0, y0, x1, y1] = *span;
+    !((x0 == x1) & (y0 == y1))
 }
 
-// Both, of span i: "Numbers 5 and 6 are tested span by span, 5 first."
-fn check_span(width: u64, height: u64, spans: &[u64], i: usize) -> Result<(), Refusal>
-    requires { (width ≤ max_side) × (height ≤ max_side) × (numbers_per_span * i + 3 < length spans.now) }
-    ensures { refusal_in result ≡ span_refusal width height spans.now i }
+// Both, of the span at this place: "Numbers 5 and 6 are tested span by span, 5 first."
+fn check_span(
+    width: u64,
+    height: u64,
+    span: &[u64; NUMBERS_PER_SPAN],
+    place: usize,
+) -> Result<(), Refusal>
+    requires { (width ≤ max_side) × (height ≤ max_side) }
+    ensures { refusal_in result ≡ segment_refusal width height (segment_at span.now 0) place }
 {
-    let k = NUMBERS_PER_SPAN * i;
-    if !both_on_map(width, height, spans, k) {
+    if !both_on_map(width, height, span, 0) {
         return Err(Refusal {
             cause: Cause::SpanOutside,
-            place: i,
+            place,
         });
     }
-    if !endpoints_differ(spans, k) {
+    if !endpoints_differ(span) {
         return Err(Refusal {
             cause: Cause::SpanOfNoLength,
-            place: i,
+            place,
         });
     }
     Ok(())
@@ -53,9 +57,9 @@ pub fn spans_fault(width: u64, height: u64, spans: &[u64]) -> Result<(), Refusal
     requires { (width ≤ max_side) × (height ≤ max_side) }
     ensures { refusal_in result ≡ spans_refusal width height spans.now }
 {
-    // Kept: i is also the place that a refusal names, and with `chunks_exact` it stands beside each span all the same.
-    for i in 0..spans.len() / NUMBERS_PER_SPAN {
-        check_span(width, height, spans, i)?;
+    let (spans, _) = spans.as_chunks::<NUMBERS_PER_SPAN>();
+    for (i, span) in spans.iter().enumerate() {
+        check_span(width, height, span, i)?;
     }
     Ok(())
 }

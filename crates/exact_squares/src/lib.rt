@@ -3,13 +3,13 @@
 
 #![tactic(auto)]
 
-ghost use Rattle.std.specs.Prelude.{◌≡◌, ◌+◌, ◌*◌, ◌^◌, ◌≤◌, ◌<◌, leb, nat_abs};
+ghost use Rattle.std.specs.Prelude.{◌≡◌, ◌+◌, ◌*◌, ◌^◌, ◌≤◌, nat_abs};
 ghost use Rattle.definitions.specs.Spans.{cross};
 ghost use Rattle.definitions.specs.RampGeometry.{intersects};
 ghost use Rattle.laws.specs.FloatLaws.Pixels.{PixelSegment};
 ghost use Rattle.separations.specs.Distance.{end_square, along, lesser, point_square, exact_square};
 ghost use Rattle.span_geometry.specs.Shapes.{max_pixel, InLimits, point_of};
-ghost use Rattle.geometry.specs.Forms.{segment_from, segment_form};
+ghost use Rattle.geometry.specs.Forms.{segment_form};
 ghost use Rattle.exact_squares.specs.Forms.{Bounded, fraction_of};
 
 use geometry::Segment;
@@ -48,55 +48,49 @@ fn products(a: u64, b: u64, c: u64, d: u64, e: u64, f: u64, g: u64, h: u64) -> u
     product(a, b) + product(c, d) + (product(e, f) + product(g, h))
 }
 
-// How far along the segment from a to b the foot of the perpendicular from p lies, in parts of the squared length.
-fn along(p: PixelPosition, a: PixelPosition, b: PixelPosition) -> u64
-    requires { InLimits p × InLimits a × InLimits b }
-    ensures { result ≡ along (point_of p) (segment_from a b) }
+// How far along the segment the foot of the perpendicular from p lies, in parts of the squared length.
+fn along(p: PixelPosition, s: Segment) -> u64
+    requires { InLimits p × InLimits s.a × InLimits s.b }
+    ensures { result ≡ along (point_of p) (segment_form s) }
 {
+    let Segment { a, b } = s;
     let more = products(p.x, b.x, a.x, a.x, p.y, b.y, a.y, a.y);
     let less = products(p.x, a.x, a.x, b.x, p.y, a.y, a.y, b.y);
     more.saturating_sub(less)
 }
 
 // The cross product, without its sign.
-fn height(p: PixelPosition, a: PixelPosition, b: PixelPosition) -> u64
-    requires { InLimits p × InLimits a × InLimits b }
-    ensures { (result ≡ nat_abs (cross (point_of a) (point_of b) (point_of p))) × (result ≤ 2 ^ 27) }
+fn height(p: PixelPosition, s: Segment) -> u64
+    requires { InLimits p × InLimits s.a × InLimits s.b }
+    ensures { (result ≡ nat_abs (cross (point_of s.a) (point_of s.b) (point_of p))) × (result ≤ 2 ^ 27) }
 {
+    let Segment { a, b } = s;
     let more = products(b.x, p.y, a.x, a.y, b.y, a.x, a.y, p.x);
     let less = products(b.x, a.y, a.x, p.y, b.y, p.x, a.y, a.x);
     more.abs_diff(less)
 }
 
-// The square of the distance from p to the segment from a to b.
-fn point_square(p: PixelPosition, a: PixelPosition, b: PixelPosition) -> Square
-    requires { InLimits p × InLimits a × InLimits b }
-    ensures { (fraction_of result ≡ point_square (point_of p) (segment_from a b)) × Bounded result }
+// The square of the distance from p to the segment.
+fn point_square(p: PixelPosition, s: Segment) -> Square
+    requires { InLimits p × InLimits s.a × InLimits s.b }
+    ensures { (fraction_of result ≡ point_square (point_of p) (segment_form s)) × Bounded result }
 {
-    let k = along(p, a, b);
+    let k = along(p, s);
     if k == 0 {
         return Square {
-            num: end_square(p, a),
+            num: end_square(p, s.a),
             den: 1,
         };
     }
-    let n = end_square(b, a);
+    let n = end_square(s.b, s.a);
     if n <= k {
         return Square {
-            num: end_square(p, b),
+            num: end_square(p, s.b),
             den: 1,
         };
     }
-    let c = height(p, a, b);
+    let c = height(p, s);
     Square { num: c * c, den: n }
-}
-
-// Whether a / b is at most c / d.
-fn at_most(a: u64, b: u64, c: u64, d: u64) -> bool
-    requires { (0 < b) × (0 < d) × (b ≤ 2 ^ 27) × (d ≤ 2 ^ 27) }
-    ensures { result ≡ leb (a * d) (c * b) }
-{
-    u128::from(a) * u128::from(d) <= u128::from(c) * u128::from(b)
 }
 
 // The lesser of two, the first where they are equal.
@@ -104,7 +98,7 @@ fn lesser(f: Square, g: Square) -> Square
     requires { Bounded f × Bounded g }
     ensures { (fraction_of result ≡ lesser (fraction_of f) (fraction_of g)) × Bounded result }
 {
-    if at_most(f.num, f.den, g.num, g.den) {
+    if u128::from(f.num) * u128::from(g.den) <= u128::from(g.num) * u128::from(f.den) {
         f
     } else {
         g
@@ -119,9 +113,9 @@ pub fn exact_square(left: Segment, right: Segment, meet: bool) -> Square
     if meet {
         return Square { num: 0, den: 1 };
     }
-    let first = point_square(left.a, right.a, right.b);
-    let second = point_square(left.b, right.a, right.b);
-    let third = point_square(right.a, left.a, left.b);
-    let fourth = point_square(right.b, left.a, left.b);
+    let first = point_square(left.a, right);
+    let second = point_square(left.b, right);
+    let third = point_square(right.a, left);
+    let fourth = point_square(right.b, left);
     lesser(lesser(lesser(first, second), third), fourth)
 }

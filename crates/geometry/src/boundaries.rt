@@ -1,16 +1,16 @@
 // The one reader of the boundaries of a lent list, nine numbers each: which of them is which. The first four are the endpoints.
-ghost use Rattle.std.specs.Prelude.{◌≡◌, not, ◌+◌, ◌*◌, ◌<◌, length, get_or, eqb};
+ghost use Rattle.std.specs.Prelude.{◌≡◌, not, ◌+◌, ◌*◌, get_or, eqb};
 ghost use Rattle.definitions.specs.Limits.{numbers_per_boundary};
 ghost use Rattle.definitions.specs.Grid.{segment_at};
 ghost use Rattle.definitions.specs.Geometry.{center};
 ghost use Rattle.geometry.specs.Forms.{point_form, segment_form};
-ghost use Rattle.geometry.specs.Placed.{Placed};
+ghost use Rattle.geometry.specs.Placed.{HasBoundary, Placed};
 ghost use Rattle.geometry.specs.Kinds.{kind_of};
 
 use crate::points::center;
 use crate::{Point, Segment};
 use definitions::limits::NUMBERS_PER_BOUNDARY;
-use span_geometry::PixelPosition;
+use span_geometry::segments::segment_at;
 
 const WIDTH: usize = 4;
 
@@ -22,8 +22,8 @@ const LOWER: usize = 7;
 
 const UPPER: usize = 8;
 
-// What a boundary is: no part of a ramp, or an end of one. A list that no check has seen may hold another number, which is kept, so that two kinds are equal just where
-// their numbers are.
+// What a boundary is: no part of a ramp, or an end of one. A list that no check has seen may hold another number, which is kept, so that two kinds are equal
+// just where their numbers are.
 #[derive(Clone, Copy, PartialEq, Eq)]
 pub enum BoundaryKind {
     Plain,
@@ -45,21 +45,13 @@ impl From<u64> for BoundaryKind {
     }
 }
 
+// Kept: a list and a number, not nine numbers: the passes name boundaries of one lent list by number, two or three at once, and read one or two of the nine.
 // The endpoints of boundary i as written.
 pub fn segment_of(boundaries: &[u64], i: usize) -> Segment
-    requires { numbers_per_boundary * i + 8 < length boundaries.now }
+    requires { HasBoundary boundaries.now i }
     ensures { segment_form result ≡ segment_at boundaries.now (numbers_per_boundary * i) }
 {
-    let k = NUMBERS_PER_BOUNDARY * i;
-    let a = PixelPosition {
-        x: boundaries[k],
-        y: boundaries[k + 1],
-    };
-    let b = PixelPosition {
-        x: boundaries[k + 2],
-        y: boundaries[k + 3],
-    };
-    Segment { a, b }
+    segment_at(boundaries, NUMBERS_PER_BOUNDARY * i)
 }
 
 // The center of boundary i.
@@ -73,7 +65,7 @@ pub fn center_of(boundaries: &[u64], i: usize) -> Point
 
 // The bits of the width of boundary i.
 pub fn width_at(boundaries: &[u64], i: usize) -> u64
-    requires { numbers_per_boundary * i + 8 < length boundaries.now }
+    requires { HasBoundary boundaries.now i }
     ensures { result ≡ get_or boundaries.now (numbers_per_boundary * i + 4) 0 }
 {
     boundaries[NUMBERS_PER_BOUNDARY * i + WIDTH]
@@ -81,7 +73,7 @@ pub fn width_at(boundaries: &[u64], i: usize) -> u64
 
 // The kind of boundary i.
 pub fn kind_at(boundaries: &[u64], i: usize) -> BoundaryKind
-    requires { numbers_per_boundary * i + 8 < length boundaries.now }
+    requires { HasBoundary boundaries.now i }
     ensures { result ≡ kind_of (get_or boundaries.now (numbers_per_boundary * i + 5) 0) }
 {
     BoundaryKind::from(boundaries[NUMBERS_PER_BOUNDARY * i + KIND])
@@ -89,7 +81,7 @@ pub fn kind_at(boundaries: &[u64], i: usize) -> BoundaryKind
 
 // Whether boundary i is an end of a ramp.
 pub fn has_ramp(boundaries: &[u64], i: usize) -> bool
-    requires { numbers_per_boundary * i + 8 < length boundaries.now }
+    requires { HasBoundary boundaries.now i }
     ensures { result ≡ not (eqb (get_or boundaries.now (numbers_per_boundary * i + 5) 0) 0) }
 {
     kind_at(boundaries, i) != BoundaryKind::Plain
@@ -97,7 +89,7 @@ pub fn has_ramp(boundaries: &[u64], i: usize) -> bool
 
 // Whether boundaries i and j are of one kind.
 pub fn same_kind(boundaries: &[u64], i: usize, j: usize) -> bool
-    requires { (numbers_per_boundary * i + 8 < length boundaries.now) × (numbers_per_boundary * j + 8 < length boundaries.now) }
+    requires { HasBoundary boundaries.now i × HasBoundary boundaries.now j }
     ensures { result ≡ eqb (get_or boundaries.now (numbers_per_boundary * i + 5) 0) (get_or boundaries.now (numbers_per_boundary * j + 5) 0) }
 {
     kind_at(boundaries, i) == kind_at(boundaries, j)
@@ -105,7 +97,7 @@ pub fn same_kind(boundaries: &[u64], i: usize, j: usize) -> bool
 
 // The number of the ramp of boundary i.
 pub fn ramp_at(boundaries: &[u64], i: usize) -> u64
-    requires { numbers_per_boundary * i + 8 < length boundaries.now }
+    requires { HasBoundary boundaries.now i }
     ensures { result ≡ get_or boundaries.now (numbers_per_boundary * i + 6) 0 }
 {
     boundaries[NUMBERS_PER_BOUNDARY * i + RAMP]
@@ -113,7 +105,7 @@ pub fn ramp_at(boundaries: &[u64], i: usize) -> u64
 
 // The elevation of the lower end of boundary i's ramp.
 pub fn lower_at(boundaries: &[u64], i: usize) -> u64
-    requires { numbers_per_boundary * i + 8 < length boundaries.now }
+    requires { HasBoundary boundaries.now i }
     ensures { result ≡ get_or boundaries.now (numbers_per_boundary * i + 7) 0 }
 {
     boundaries[NUMBERS_PER_BOUNDARY * i + LOWER]
@@ -121,7 +113,7 @@ pub fn lower_at(boundaries: &[u64], i: usize) -> u64
 
 // The elevation of the upper end of boundary i's ramp.
 pub fn upper_at(boundaries: &[u64], i: usize) -> u64
-    requires { numbers_per_boundary * i + 8 < length boundaries.now }
+    requires { HasBoundary boundaries.now i }
     ensures { result ≡ get_or boundaries.now (numbers_per_boundary * i + 8) 0 }
 {
     boundaries[NUMBERS_PER_BOUNDARY * i + UPPER]

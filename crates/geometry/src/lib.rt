@@ -1,4 +1,5 @@
-// The geometry of boundaries, from context.rs and ramp_boundaries.rs: points in doubles, endpoints in pixels, how far they are apart, and when one boundary represents another.
+// The geometry of boundaries, from context.rs and ramp_boundaries.rs: points in doubles, endpoints in pixels, how far they are apart, and when one boundary
+// represents another.
 //
 // Every float operation stands in the Rust's order. Within a map no coordinate is above 8,192, so that no hypotenuse is refused.
 
@@ -11,18 +12,11 @@ pub mod points;
 pub mod ramp_geometry;
 pub mod widths;
 
-use span_geometry::PixelPosition;
+pub use span_geometry::Segment;
 
 // A point: pixels, whole or half.
 #[derive(Clone, Copy)]
 pub struct Point {
     pub x: f64,
     pub y: f64,
-}
-
-// The endpoints of a boundary. Segments compare by the first, then the second.
-#[derive(Clone, Copy, PartialEq, Eq, PartialOrd, Ord)]
-pub struct Segment {
-    pub a: PixelPosition,
-    pub b: PixelPosition,
 }

@@ -22,13 +22,15 @@ pub fn difference(m: u64, n: u64) -> f64
     float(m) - float(n)
 }
 
-// Kept: the library's `min` and `max` leave open which of two equal doubles they give, as of 0.0 and -0.0, and pass over a NaN. The definitions say which.
+// The lesser of two, the first where neither is less.
+// Kept: `fmin` and `fmax`: of 0.0 and -0.0 the library's `min` and `max` may give either, and of a NaN and a number the number. The definitions give the first.
 pub fn fmin(a: f64, b: f64) -> f64
     ensures { result ≡ fmin a b }
 {
     if b < a { b } else { a }
 }
 
+// The greater of two, the first where neither is greater.
 pub fn fmax(a: f64, b: f64) -> f64
     ensures { result ≡ fmax a b }
 {

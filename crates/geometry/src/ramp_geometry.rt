@@ -1,4 +1,5 @@
-// How far two boundaries are apart, and when one represents the other. Endpoints are at most 8,192, so that a product of two differences is at most 2^26, and i64 serves for the Rust's i128.
+// How far two boundaries are apart, and when one represents the other. Endpoints are at most 8,192, so that a product of two differences is at most 2^26, and
+// i64 serves for the Rust's i128.
 ghost use Rattle.std.specs.Prelude.{◌≡◌};
 ghost use Rattle.std.specs.Float.{binary64};
 ghost use Rattle.std.specs.Float.Ieee.{div};
@@ -34,20 +35,20 @@ pub fn intersects(left: Segment, right: Segment) -> bool
     let left_right_end = cross(left.a, left.b, right.b);
     let right_left_start = cross(right.a, right.b, left.a);
     let right_left_end = cross(right.a, right.b, left.b);
-    touches(left_right_start, left.a, left.b, right.a)
-        | touches(left_right_end, left.a, left.b, right.b)
-        | touches(right_left_start, right.a, right.b, left.a)
-        | touches(right_left_end, right.a, right.b, left.b)
+    touches(left_right_start, left, right.a)
+        | touches(left_right_end, left, right.b)
+        | touches(right_left_start, right, left.a)
+        | touches(right_left_end, right, left.b)
         | ((left_right_start.signum() != left_right_end.signum())
             & (right_left_start.signum() != right_left_end.signum()))
 }
 
-// How far an endpoint is from the other boundary, from a to b.
-fn endpoint_distance(p: PixelPosition, a: PixelPosition, b: PixelPosition) -> f64
-    requires { InLimits p × InLimits a × InLimits b }
-    ensures { result ≡ point_segment_distance (point (point_of p)) (point (point_of a)) (point (point_of b)) }
+// How far an endpoint is from the other boundary.
+fn endpoint_distance(p: PixelPosition, s: Segment) -> f64
+    requires { InLimits p × InLimits s.a × InLimits s.b }
+    ensures { result ≡ point_segment_distance (point (point_of p)) (point (point_of s.a)) (point (point_of s.b)) }
 {
-    point_segment_distance(point(p), point(a), point(b))
+    point_segment_distance(point(p), point(s.a), point(s.b))
 }
 
 // The separation of two boundaries: 0 where they meet, and else the least of the endpoints' distances.
@@ -58,10 +59,10 @@ pub fn segment_distance(left: Segment, right: Segment) -> f64
     if intersects(left, right) {
         return 0.0;
     }
-    let first = endpoint_distance(left.a, right.a, right.b);
-    let second = endpoint_distance(left.b, right.a, right.b);
-    let third = endpoint_distance(right.a, left.a, left.b);
-    let fourth = endpoint_distance(right.b, left.a, left.b);
+    let first = endpoint_distance(left.a, right);
+    let second = endpoint_distance(left.b, right);
+    let third = endpoint_distance(right.a, left);
+    let fourth = endpoint_distance(right.b, left);
     fmin(fmin(fmin(first, second), third), fourth)
 }
 
@@ -151,7 +152,8 @@ fn overlap(candidate: Segment, ramp: Segment, ramp_length: f64) -> f64
     )
 }
 
-// Whether the candidate is nearly parallel to the ramp, near its line, and beside most of the shorter of the two. (The Rust also gives the offset, which nothing reads.)
+// Whether the candidate is nearly parallel to the ramp, near its line, and beside most of the shorter of the two. (The Rust also gives the offset, which
+// nothing reads.)
 pub fn overlapping_ramp_representative(candidate: Segment, ramp: Segment) -> bool
     requires { PixelSegment (segment_form candidate) × PixelSegment (segment_form ramp) }
     ensures { result ≡ overlapping_ramp_representative (segment_form candidate) (segment_form ramp) }

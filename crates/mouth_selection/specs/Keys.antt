@@ -4,7 +4,7 @@ use Rattle.definitions.specs.Limits.{numbers_per_boundary}
 use Rattle.definitions.specs.Grid.{segment_at}
 use Rattle.definitions.specs.Sort.{list_lt}
 use Rattle.definitions.specs.Context.{endpoints_key}
-use Rattle.geometry.specs.declared.Segment.{Segment}
+use Rattle.span_geometry.specs.declared.Segment.{Segment}
 use Rattle.mouth_proposals.specs.declared.candidates.Candidate.{Candidate}
 use Rattle.mouth_selection.specs.declared.keys.RankKey.{RankKey}
 

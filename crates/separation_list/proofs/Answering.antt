@@ -24,12 +24,6 @@ pub entries-le : (boundaries : List ℕ) {b : Bool} → b ≡ is_whole numbers_p
 entries-le boundaries e f =
     leb-true (boundary_count boundaries) max_entries (both (eqb (length boundaries % numbers_per_boundary) 0) (leb (boundary_count boundaries) max_entries) (sym e ∙ f)).1
 
-pub pairs-le : (n : ℕ) → n ≤ max_entries → pair_count n ≤ max_pairs
-pairs-le n h = le_trans (div-le_self (n * (n - 1)) 2) (mul-le-mul h (le_trans (one_less n) h))
-  where
-    one_less : (n : ℕ) → n - 1 ≤ n
-    one_less n = omega arith
-
 -- an accepted call has at most as many
 second_passed : (a b c d : Option ℕ) (n : ℕ) → (first_refusal (refusal 1 a ∷ refusal 3 b ∷ refusal 7 c ∷ refusal 10 d ∷ []) n).number ≡ 0 → b ≡ None
 second_passed None None c d n h = refl

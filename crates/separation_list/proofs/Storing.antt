@@ -7,7 +7,7 @@ use mathlib.Core.Path.{◌≡◌, refl, sym, ap, ◌∙◌, subst}
 use mathlib.Core.Bool.{not}
 use mathlib.Core.List.{List, [], ◌∷◌}
 use lib.Dec.{T}
-use lib.ListN.{length, length-append}
+use lib.ListN.{length}
 use lib.Seq.{sets}
 use lib.Ieee.{Float, binary64, to_bits, is_nan}
 use Rattle.definitions.specs.Grid.{Segment}
@@ -67,15 +67,6 @@ column-goes_on {boundaries} {output₀} {output} {output'} {k} {j} {i} h l e s =
   where
     next : suc i ≡ i + 1
     next = omega arith
-
-pub column-ends : {boundaries output₀ output : List ℕ} {k j i : ℕ} → ColumnFilled boundaries output₀ k j output i → j ≤ i → output ≡ sets output₀ k (column boundaries j j)
-column-ends {boundaries} {output₀} {output} {k} {j} {i} h l =
-    let e : i ≡ j = le_antisymm h.upto l in
-    h.is ∙ ap (λ n. sets output₀ k (column boundaries j n)) e
-
-pub column-room : {boundaries output₀ output : List ℕ} {k j i : ℕ} → ColumnFilled boundaries output₀ k j output i → i < j → k + 5 * j ≤ length output₀
-    → k + i * 5 + 4 < length output
-column-room h l r = omega (arith, h.long)
 
 -- ---- the rows
 

@@ -102,7 +102,7 @@ fn verdict(width: u64, height: u64, boundaries: &[u64], room: usize) -> Result<u
 }
 
 // The separations of each two of these boundaries, on a map of these sides. Gives how many rows there are.
-pub fn list_separations(
+fn list_separations(
     width: u64,
     height: u64,
     boundaries: &[u64],

@@ -1,11 +1,11 @@
 -- Laws of a canonical segment, whose lesser endpoint is first: its first x is at most its second, and its endpoints differ where those of the segment
 -- that it was made of do. Assumes nothing.
-use mathlib.Core.Path.{◌≡◌, refl, sym, ◌∙◌}
-use mathlib.Core.Bool.{Bool, true, false, not, ◌&&◌, ◌||◌, cond, false≢true}
+use mathlib.Core.Path.{◌≡◌, refl, sym}
+use mathlib.Core.Bool.{Bool, true, false, not, ◌&&◌, ◌||◌, cond}
 use Prim.Native.Nat.{ℕ, ◌≤◌, ◌<◌}
 use native.Mathlib.Nat.{le_of_lt, le_of_eq}
 use lib.Dec.{eqb, ltb}
-use borrow.Author.Tests.{ltb-true, ltb-false, eqb-true, eq-eqb}
+use borrow.Author.Tests.{ltb-true, ltb-false, eqb-true}
 use Rattle.definitions.specs.Grid.{Position, position_lt, Segment, canonical}
 use Rattle.definitions.specs.Refusals.{endpoints_differ}
 use Rattle.laws.specs.ListLaws.Tests.{both, eqb_same}
@@ -34,6 +34,3 @@ canonical-differ s = go (position_lt s.b s.a)
     go : (t : Bool) → endpoints_differ (cond t (record { a = s.b; b = s.a }) s) ≡ endpoints_differ s
     go true = λ i. not (turned s.b.x s.a.x i && turned s.b.y s.a.y i)
     go false = refl
-
-pub differ-apart : (s : Segment) → endpoints_differ s ≡ true → s.a.x ≡ s.b.x → s.a.y ≡ s.b.y → ⊥
-differ-apart s h ex ey = false≢true (sym (λ i. not (eq-eqb s.a.x s.b.x ex i && eq-eqb s.a.y s.b.y ey i)) ∙ h)

@@ -4,10 +4,14 @@ use Rattle.definitions.specs.Limits.{max_side}
 use Rattle.definitions.specs.Grid.{Position, at, Segment, canonical}
 use Rattle.definitions.specs.Spans.{pixels_per_walk_cell}
 use Rattle.span_geometry.specs.declared.PixelPosition.{PixelPosition}
+use Rattle.span_geometry.specs.declared.Segment as ends
 use Rattle.span_geometry.specs.declared.SpanGeometry.{SpanGeometry}
 
 abbrev pub point_of : PixelPosition → Position
 point_of p = at p.x p.y
+
+abbrev pub segment_form : ends.Segment → Segment
+segment_form s = record { a = point_of s.a; b = point_of s.b }
 
 abbrev pub segment_of : SpanGeometry → Segment
 segment_of g = record { a = point_of g.a; b = point_of g.b }

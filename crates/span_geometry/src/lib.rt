@@ -11,12 +11,12 @@ pub mod strips;
 
 ghost use Rattle.std.specs.Prelude.{◌≡◌, ◌≤◌, ◌<◌};
 ghost use Rattle.definitions.specs.Limits.{max_side};
-ghost use Rattle.definitions.specs.Grid.{at, position_lt};
+ghost use Rattle.definitions.specs.Grid.{at};
 ghost use Rattle.definitions.specs.Spans.{cuts};
 ghost use Rattle.span_geometry.specs.Shapes.{max_pixel, InLimits, Sound, Made, point_of, segment_of, segment_from};
 
 use numbers::not_negative;
-use segments::{cell_center, cross, segments_intersect};
+use segments::{canonical, cell_center, cross, segments_intersect};
 
 // A point in pixels. Positions compare by x, then y.
 #[derive(Clone, Copy, PartialEq, Eq, PartialOrd, Ord)]
@@ -25,10 +25,11 @@ pub struct PixelPosition {
     pub y: u64,
 }
 
-pub fn precedes(p: PixelPosition, q: PixelPosition) -> bool
-    ensures { result ≡ position_lt (point_of p) (point_of q) }
-{
-    p < q
+// The endpoints of a boundary or a span. Segments compare by the first, then the second.
+#[derive(Clone, Copy, PartialEq, Eq, PartialOrd, Ord)]
+pub struct Segment {
+    pub a: PixelPosition,
+    pub b: PixelPosition,
 }
 
 // A span: its endpoints, the lesser first, and the least and greatest of their coordinates.
@@ -47,9 +48,9 @@ impl SpanGeometry {
         requires { (x0 ≤ max_pixel) × (y0 ≤ max_pixel) × (x1 ≤ max_pixel) × (y1 ≤ max_pixel) }
         ensures { Made (segment_from x0 y0 x1 y1) result }
     {
-        let first = PixelPosition { x: x0, y: y0 };
-        let second = PixelPosition { x: x1, y: y1 };
-        between(first.min(second), first.max(second))
+        let a = PixelPosition { x: x0, y: y0 };
+        let b = PixelPosition { x: x1, y: y1 };
+        between(canonical(Segment { a, b }))
     }
 
     // Whether the span cuts the step between two cells. Most steps near a span lie on one side of it, and need no more than that test.
@@ -64,15 +65,20 @@ impl SpanGeometry {
         if not_negative(from_side) == not_negative(to_side) {
             return false;
         }
-        segments_intersect(self.a, self.b, from, to)
+        let span = Segment {
+            a: self.a,
+            b: self.b,
+        };
+        segments_intersect(span, Segment { a: from, b: to })
     }
 }
 
 // The span of two endpoints in order.
-fn between(a: PixelPosition, b: PixelPosition) -> SpanGeometry
-    requires { InLimits a × InLimits b × (a.x ≤ b.x) }
-    ensures { (result.a ≡ a) × (result.b ≡ b) × Sound result }
+fn between(ends: Segment) -> SpanGeometry
+    requires { InLimits ends.a × InLimits ends.b × (ends.a.x ≤ ends.b.x) }
+    ensures { (result.a ≡ ends.a) × (result.b ≡ ends.b) × Sound result }
 {
+    let Segment { a, b } = ends;
     SpanGeometry {
         a,
         b,

@@ -1,7 +1,7 @@
 // Differences, quotients and tests of signed numbers.
 ghost use Rattle.std.specs.Prelude.{◌≡◌, ◌-◌, ◌≤◌, ◌<◌};
 ghost use Rattle.std.specs.Int.Signed.{non_neg, shr_z};
-ghost use Rattle.definitions.specs.Spans.{diff, distance_between, is_zero, strictly_opposite};
+ghost use Rattle.definitions.specs.Spans.{diff, strictly_opposite};
 ghost use Rattle.span_geometry.specs.Shapes.{max_pixel};
 
 // m - n, of either sign.
@@ -10,12 +10,6 @@ pub fn difference(m: u64, n: u64) -> i64
     ensures { result ≡ diff m n }
 {
     m as i64 - n as i64
-}
-
-pub fn is_zero(z: i64) -> bool
-    ensures { result ≡ is_zero z }
-{
-    z == 0
 }
 
 pub fn not_negative(z: i64) -> bool
@@ -31,7 +25,7 @@ pub fn strictly_opposite(left: i64, right: i64) -> bool
 }
 
 // The quotient by a positive number, rounded down.
-pub fn div_euclid(n: i64, d: u64) -> i64
+pub(crate) fn div_euclid(n: i64, d: u64) -> i64
     requires { (0 < d) × (d ≤ max_pixel) }
     ensures { result ≡ shr_z n d }
 {

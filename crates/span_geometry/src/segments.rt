@@ -1,13 +1,40 @@
-// A segment against a point and against another segment.
-ghost use Rattle.std.specs.Prelude.{◌≡◌, ◌&&◌, ◌<◌};
+// A segment: where it stands in a list, its endpoints in order, and the segment against a point and against another segment.
+ghost use Rattle.std.specs.Prelude.{◌≡◌, ◌&&◌, ◌+◌, ◌<◌, length};
 ghost use Rattle.definitions.specs.Limits.{max_side};
-ghost use Rattle.definitions.specs.Grid.{at};
+ghost use Rattle.definitions.specs.Grid.{at, segment_at, canonical};
 ghost use Rattle.definitions.specs.Spans.{is_zero, middle_of, cell_center, cross, on_segment, segments_intersect};
-ghost use Rattle.span_geometry.specs.Shapes.{InLimits, point_of};
+ghost use Rattle.span_geometry.specs.Shapes.{InLimits, point_of, segment_form};
 
-use super::PixelPosition;
-use super::numbers::{difference, is_zero, strictly_opposite};
+use super::numbers::{difference, strictly_opposite};
+use super::{PixelPosition, Segment};
 use definitions::limits::PIXELS_PER_WALK_CELL;
+
+// The endpoints that stand from place k of a list on: a span's four numbers, or the first four of a boundary.
+pub fn segment_at(list: &[u64], k: usize) -> Segment
+    requires { k + 3 < length list.now }
+    ensures { segment_form result ≡ segment_at list.now k }
+{
+    Segment {
+        a: PixelPosition {
+            x: list[k],
+            y: list[k + 1],
+        },
+        b: PixelPosition {
+            x: list[k + 2],
+            y: list[k + 3],
+        },
+    }
+}
+
+// The lesser endpoint first.
+pub fn canonical(s: Segment) -> Segment
+    ensures { segment_form result ≡ canonical (segment_form s) }
+{
+    Segment {
+        a: s.a.min(s.b),
+        b: s.a.max(s.b),
+    }
+}
 
 // The pixel in the middle of column, or row, k.
 pub fn middle_of(k: u64) -> u64
@@ -28,6 +55,7 @@ pub fn cell_center(x: u64, y: u64) -> PixelPosition
 }
 
 // The side of the line from a to b on which the point lies: 0 on the line.
+// Kept: three points and not `Segment` and a point, as the three take part alike, and a `SpanGeometry`, which `cut_steps` asks of, holds no `Segment`.
 pub fn cross(a: PixelPosition, b: PixelPosition, point: PixelPosition) -> i64
     requires { InLimits a × InLimits b × InLimits point }
     ensures { result ≡ cross (point_of a) (point_of b) (point_of point) }
@@ -38,38 +66,33 @@ pub fn cross(a: PixelPosition, b: PixelPosition, point: PixelPosition) -> i64
 }
 
 // Whether a point on the segment's line lies between its ends.
-pub fn on_segment(a: PixelPosition, b: PixelPosition, point: PixelPosition) -> bool
-    ensures { result ≡ on_segment (point_of a) (point_of b) (point_of point) }
+pub fn on_segment(s: Segment, point: PixelPosition) -> bool
+    ensures { result ≡ on_segment (point_of s.a) (point_of s.b) (point_of point) }
 {
-    (a.x.min(b.x) <= point.x)
-        & (point.x <= a.x.max(b.x))
-        & (a.y.min(b.y) <= point.y)
-        & (point.y <= a.y.max(b.y))
+    (s.a.x.min(s.b.x) <= point.x)
+        & (point.x <= s.a.x.max(s.b.x))
+        & (s.a.y.min(s.b.y) <= point.y)
+        & (point.y <= s.a.y.max(s.b.y))
 }
 
 // Whether a point whose side is given lies on the segment.
-pub fn touches(side: i64, a: PixelPosition, b: PixelPosition, point: PixelPosition) -> bool
-    ensures { result ≡ (is_zero side && on_segment (point_of a) (point_of b) (point_of point)) }
+pub fn touches(side: i64, s: Segment, point: PixelPosition) -> bool
+    ensures { result ≡ (is_zero side && on_segment (point_of s.a) (point_of s.b) (point_of point)) }
 {
-    is_zero(side) & on_segment(a, b, point)
+    (side == 0) & on_segment(s, point)
 }
 
-// Whether the segments from a to b and from c to d meet. Most that do cross each other, and need no more than the first test.
-pub fn segments_intersect(
-    a: PixelPosition,
-    b: PixelPosition,
-    c: PixelPosition,
-    d: PixelPosition,
-) -> bool
-    requires { InLimits a × InLimits b × InLimits c × InLimits d }
-    ensures { result ≡ segments_intersect (point_of a) (point_of b) (point_of c) (point_of d) }
+// Whether two segments meet. Most that do cross each other, and need no more than the first test.
+pub fn segments_intersect(s: Segment, t: Segment) -> bool
+    requires { InLimits s.a × InLimits s.b × InLimits t.a × InLimits t.b }
+    ensures { result ≡ segments_intersect (point_of s.a) (point_of s.b) (point_of t.a) (point_of t.b) }
 {
-    let abc = cross(a, b, c);
-    let abd = cross(a, b, d);
-    let cda = cross(c, d, a);
-    let cdb = cross(c, d, b);
+    let abc = cross(s.a, s.b, t.a);
+    let abd = cross(s.a, s.b, t.b);
+    let cda = cross(t.a, t.b, s.a);
+    let cdb = cross(t.a, t.b, s.b);
     if strictly_opposite(abc, abd) & strictly_opposite(cda, cdb) {
         return true;
     }
-    touches(abc, a, b, c) | touches(abd, a, b, d) | touches(cda, c, d, a) | touches(cdb, c, d, b)
+    touches(abc, s, t.a) | touches(abd, s, t.b) | touches(cda, t, s.a) | touches(cdb, t, s.b)
 }

@@ -16,7 +16,7 @@ const CANDIDATE_MARGIN_PIXELS: u64 = 16;
 const CANDIDATE_MINOR_RADIUS_CELLS: u64 = 3;
 
 // first, .., last; nothing where last is below first.
-// Kept: the library's has a flag besides, that it is exhausted, and each contract would have to say that it is not.
+// Kept: the library's `RangeInclusive` has a flag that each contract must deny; `Range` ends one behind: each law here and in cut_steps would say end - 1.
 #[derive(Clone, Copy)]
 pub struct RangeInclusive {
     pub first: u64,

@@ -11,7 +11,7 @@ use Rattle.exact_squares.proofs.height.Goals as goal
 
 pub returns : goal.returns
 returns c =
-    let z = cross (point_of c.args.a) (point_of c.args.b) (point_of c.args.p) in
+    let z = cross (point_of c.args.s.a) (point_of c.args.s.b) (point_of c.args.p) in
     let e : c.abs_diff.result ≡ nat_abs z =
-    c.abs_diff.ensures ∙ (λ i. distance_between (c.products-more.ensures i) (c.products-less.ensures i)) ∙ sym (nat_abs_is z (is_cross (point_of c.args.a) (point_of c.args.b) (point_of c.args.p))) in
+    c.abs_diff.ensures ∙ (λ i. distance_between (c.products-more.ensures i) (c.products-less.ensures i)) ∙ sym (nat_abs_is z (is_cross (point_of c.args.s.a) (point_of c.args.s.b) (point_of c.args.p))) in
     (e, le_trans (le_of_eq e) (cross-le (pixel c.requires.1) (pixel c.requires.2) (pixel c.requires.0)))

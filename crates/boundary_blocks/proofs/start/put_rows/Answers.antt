@@ -1,13 +1,12 @@
 -- `boundary_blocks::start::put_rows` meets its contract. The loop's invariant: the rows of the first k places are stored, and nothing else. Assumes nothing.
 use Prim.Native.Nat.{◌+◌, ◌*◌}
 use native.Mathlib.Omega.{arith}
-use mathlib.Core.Path.{◌≡◌, refl, ap, ◌∙◌}
+use mathlib.Core.Path.{refl, ap, ◌∙◌}
 use lib.ListN.{get_or, set, length-set}
 use lib.Seq.{sets}
 use borrow.Author.Rules.{rules}
 use Rattle.definitions.specs.Scan.{collect}
 use Rattle.definitions.specs.Rows.{flat_rows}
-use Rattle.definitions.specs.Lists.{overwrite}
 use Rattle.boundary_blocks.specs.Blocks.{part}
 use Rattle.boundary_blocks.specs.Start.{rows_at}
 use Rattle.boundary_blocks.proofs.Placing.{output_more}
@@ -29,13 +28,3 @@ loop-k-preserved c =
           ∙ ap (λ l. sets (set l (5 * turn.k) (get_or numbers turn.k 0)) (5 * turn.k + 1) (part (4 * turn.k) 4 spans)) turn.invariant.2
           ∙ output_more numbers spans given.output.now turn.k (search rules) (search rules),
     )
-
-pub shape_of-output : goal.shape_of-output
-shape_of-output c = c.loop-k.invariant.1
-
-pub returns : goal.returns
-returns c =
-    let turn = c.loop-k in
-    let given = c.args in
-    let all : turn.k ≡ given.kept = omega arith in
-    turn.invariant.2 ∙ ap (λ n. overwrite (flat_rows (rows_at given.numbers.now given.spans.now n)) given.output.now) all

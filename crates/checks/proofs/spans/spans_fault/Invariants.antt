@@ -6,4 +6,4 @@ use Rattle.checks.specs.Contract.{span_refusal}
 use Rattle.checks.proofs.spans.spans_fault.Given as goal
 
 abbrev pub invariant-loop-i : goal.invariant-loop-i
-invariant-loop-i l = first_below_lem l.i (span_refusal l.width l.height l.spans) ≡ None
+invariant-loop-i l = first_below_lem l.i (span_refusal l.width l.height l.fn.spans) ≡ None

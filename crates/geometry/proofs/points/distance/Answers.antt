@@ -4,9 +4,6 @@ use Rattle.laws.specs.FloatLaws.DistanceRange.{distance-value}
 use Rattle.geometry.specs.Forms.{point_form}
 use Rattle.geometry.proofs.points.distance.Goals as goal
 
-pub hypot-requires : goal.hypot-requires
-hypot-requires c = tt
-
 pub returns : goal.returns
 returns c =
     λ h. c.hypot.ensures ∙ distance-value (point_form c.args.p) (point_form c.args.q) h

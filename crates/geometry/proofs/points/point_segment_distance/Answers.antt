@@ -10,12 +10,6 @@ use Rattle.geometry.proofs.points.point_segment_distance.Goals as goal
 from_nearest : (p a b q : Point) {d : Float} → q ≡ nearest_point p a b → (DistanceInRange p q → d ≡ distance p q) → DistanceInRange p (nearest_point p a b) → d ≡ point_segment_distance p a b
 from_nearest p a b q e f h = f (subst⁻¹ (DistanceInRange p) e h) ∙ ap (distance p) e ∙ sym (point-segment_is p a b)
 
-pub nearest_point-requires : goal.nearest_point-requires
-nearest_point-requires c = tt
-
-pub distance-requires : goal.distance-requires
-distance-requires c = tt
-
 pub returns : goal.returns
 returns c =
     let s = c.args in

@@ -5,9 +5,6 @@ use Rattle.geometry.proofs.AtPoints.{segment_distance_at}
 use Rattle.geometry.proofs.Ends.{pixel}
 use Rattle.geometry.proofs.ramp_geometry.endpoint_distance.Goals as goal
 
-pub point_segment_distance-requires : goal.point_segment_distance-requires
-point_segment_distance-requires c = tt
-
 pub returns : goal.returns
 returns c =
     segment_distance_at c.point.ensures c.point-2.ensures c.point-3.ensures

@@ -15,7 +15,6 @@ use Rattle.definitions.specs.Grid.{Position}
 use Rattle.definitions.specs.Spans.{is_zero, on_segment}
 use Rattle.definitions.specs.RampGeometry.{signum, intersects}
 use Rattle.geometry.specs.Forms.{segment_form}
-use Rattle.geometry.proofs.Ends.{limits}
 use Rattle.geometry.proofs.ramp_geometry.intersects.Goals as goal
 
 one : (n : ℕ) → min (suc n) 1 ≡ 1
@@ -48,18 +47,6 @@ same_signs (negsuc m) (negsuc n) = refl
 differ : {y z v w m n : ℤ} → mag z < 2 ^ 63 → z ≡ y → mag w < 2 ^ 63 → w ≡ v → m ≡ int_signum (to_z w64 (of_z w64 z)) → n ≡ int_signum (to_z w64 (of_z w64 w))
     → eqb (of_z w64 m) (of_z w64 n) ≡ eqb (signum y) (signum v)
 differ {y} {z} {v} {w} f e g d h k = (λ i. eqb (of_z w64 (sign f e h i)) (of_z w64 (sign g d k i))) ∙ same_signs y v
-
-pub cross-left_right_start-requires : goal.cross-left_right_start-requires
-cross-left_right_start-requires c = (limits c.requires.0.first, limits c.requires.0.second, limits c.requires.1.first)
-
-pub cross-left_right_end-requires : goal.cross-left_right_end-requires
-cross-left_right_end-requires c = (limits c.requires.0.first, limits c.requires.0.second, limits c.requires.1.second)
-
-pub cross-right_left_start-requires : goal.cross-right_left_start-requires
-cross-right_left_start-requires c = (limits c.requires.1.first, limits c.requires.1.second, limits c.requires.0.first)
-
-pub cross-right_left_end-requires : goal.cross-right_left_end-requires
-cross-right_left_end-requires c = (limits c.requires.1.first, limits c.requires.1.second, limits c.requires.0.second)
 
 pub returns : goal.returns
 unfolding intersects

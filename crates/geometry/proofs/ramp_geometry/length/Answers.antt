@@ -7,9 +7,6 @@ use Rattle.geometry.specs.Forms.{segment_form}
 use Rattle.geometry.specs.Representatives.{dx_of, dy_of}
 use Rattle.geometry.proofs.ramp_geometry.length.Goals as goal
 
-pub hypot-requires : goal.hypot-requires
-hypot-requires c = tt
-
 pub returns : goal.returns
 returns c =
     let s = segment_form c.args.s in

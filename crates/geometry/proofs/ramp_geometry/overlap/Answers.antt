@@ -18,21 +18,6 @@ by_parts n {first} {second} {a} {b} {least} {greatest} {upper} {lower} da db dl 
     low : lower ≡ fmax (float 0) (fmin a b)
     low = dw ∙ (λ i. fmax (zero_is i) (dl i)) ∙ (λ i. fmax (float 0) (fmin (da i) (db i)))
 
-pub fmin-candidate_min-requires : goal.fmin-candidate_min-requires
-fmin-candidate_min-requires c = tt
-
-pub fmax-candidate_max-requires : goal.fmax-candidate_max-requires
-fmax-candidate_max-requires c = tt
-
-pub fmin-requires : goal.fmin-requires
-fmin-requires c = tt
-
-pub fmax-requires : goal.fmax-requires
-fmax-requires c = tt
-
-pub fmax-requires-2 : goal.fmax-requires-2
-fmax-requires-2 c = tt
-
 pub returns : goal.returns
 returns c =
     by_parts c.args.ramp_length c.project-start.ensures c.project-end.ensures c.fmin-candidate_min.ensures c.fmax-candidate_max.ensures

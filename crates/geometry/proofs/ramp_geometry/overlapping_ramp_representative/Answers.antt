@@ -105,9 +105,6 @@ overlap-requires c =
     let t_in : PixelSegment T = made-canonical c.canonical-t.ensures c.requires.1 in
     (s_in, t_in)
 
-pub fmin-requires : goal.fmin-requires
-fmin-requires c = tt
-
 pub returns : goal.returns
 returns c =
     let S : Segment = segment_form c.canonical-s.result in

@@ -37,15 +37,6 @@ returns-then-intersects c =
     let start = c.args in
     zero_is ∙ by_test (segment_form start.left) (segment_form start.right) c.intersects.ensures c.if-intersects.true
 
-pub fmin-requires : goal.fmin-requires
-fmin-requires c = tt
-
-pub fmin-requires-2 : goal.fmin-requires-2
-fmin-requires-2 c = tt
-
-pub fmin-requires-3 : goal.fmin-requires-3
-fmin-requires-3 c = tt
-
 pub returns : goal.returns
 returns c =
     let start = c.args in

@@ -8,24 +8,6 @@ use Rattle.span_geometry.specs.Shapes.{point_of, segment_of}
 use Rattle.span_geometry.proofs.Signed.{given}
 use Rattle.span_geometry.proofs.SpanGeometry.cuts.Goals as goal
 
-pub cell_center-from-requires : goal.cell_center-from-requires
-cell_center-from-requires c = (c.requires.1, c.requires.2)
-
-pub cell_center-to-requires : goal.cell_center-to-requires
-cell_center-to-requires c = (c.requires.3, c.requires.4)
-
-pub cross-from_side-requires : goal.cross-from_side-requires
-cross-from_side-requires c = (c.requires.0.a_in, c.requires.0.b_in, c.cell_center-from.ensures.1)
-
-pub cross-to_side-requires : goal.cross-to_side-requires
-cross-to_side-requires c = (c.requires.0.a_in, c.requires.0.b_in, c.cell_center-to.ensures.1)
-
-pub not_negative-requires : goal.not_negative-requires
-not_negative-requires c = tt
-
-pub not_negative-requires-2 : goal.not_negative-requires-2
-not_negative-requires-2 c = tt
-
 pub returns-then-not_negative : goal.returns-then-not_negative
 unfolding cuts
 returns-then-not_negative c =

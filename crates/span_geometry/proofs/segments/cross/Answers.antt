@@ -15,21 +15,9 @@ use Rattle.span_geometry.specs.Shapes.{max_pixel, InLimits}
 use Rattle.span_geometry.proofs.Signed.{fits, product_is, product_fits}
 use Rattle.span_geometry.proofs.segments.cross.Goals as goal
 
-pub difference-delta_x-requires : goal.difference-delta_x-requires
-difference-delta_x-requires c = (c.requires.1.x_in, c.requires.0.x_in)
-
-pub difference-delta_y-requires : goal.difference-delta_y-requires
-difference-delta_y-requires c = (c.requires.1.y_in, c.requires.0.y_in)
-
-pub difference-requires : goal.difference-requires
-difference-requires c = (c.requires.2.y_in, c.requires.0.y_in)
-
 pub overflow_mul-result : goal.overflow_mul-result
 overflow_mul-result c =
     product_fits c.args.b.x c.args.a.x c.args.point.y c.args.a.y c.difference-delta_x.type_inv c.difference-delta_x.ensures c.difference.type_inv c.difference.ensures c.requires.1.x_in c.requires.0.x_in c.requires.2.y_in c.requires.0.y_in
-
-pub difference-requires-2 : goal.difference-requires-2
-difference-requires-2 c = (c.requires.2.x_in, c.requires.0.x_in)
 
 pub overflow_mul-result-2 : goal.overflow_mul-result-2
 overflow_mul-result-2 c =

@@ -4,18 +4,6 @@ use lib.Dec.{leb}
 use Rattle.definitions.specs.Spans.{on_segment}
 use Rattle.span_geometry.proofs.segments.on_segment.Goals as goal
 
-pub min-requires : goal.min-requires
-min-requires c = tt
-
-pub max-requires : goal.max-requires
-max-requires c = tt
-
-pub min-requires-2 : goal.min-requires-2
-min-requires-2 c = tt
-
-pub max-requires-2 : goal.max-requires-2
-max-requires-2 c = tt
-
 pub returns : goal.returns
 unfolding on_segment
 returns c =

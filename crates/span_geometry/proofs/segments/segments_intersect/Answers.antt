@@ -9,31 +9,13 @@ use Rattle.span_geometry.specs.Shapes.{point_of}
 use Rattle.span_geometry.proofs.Signed.{given}
 use Rattle.span_geometry.proofs.segments.segments_intersect.Goals as goal
 
-pub cross-abc-requires : goal.cross-abc-requires
-cross-abc-requires c = (c.requires.0, c.requires.1, c.requires.2)
-
-pub cross-abd-requires : goal.cross-abd-requires
-cross-abd-requires c = (c.requires.0, c.requires.1, c.requires.3)
-
-pub cross-cda-requires : goal.cross-cda-requires
-cross-cda-requires c = (c.requires.2, c.requires.3, c.requires.0)
-
-pub cross-cdb-requires : goal.cross-cdb-requires
-cross-cdb-requires c = (c.requires.2, c.requires.3, c.requires.1)
-
-pub strictly_opposite-requires : goal.strictly_opposite-requires
-strictly_opposite-requires c = tt
-
-pub strictly_opposite-requires-2 : goal.strictly_opposite-requires-2
-strictly_opposite-requires-2 c = tt
-
 pub returns-then-strictly_opposite : goal.returns-then-strictly_opposite
 unfolding segments_intersect
 returns-then-strictly_opposite c =
-    let A : Position = point_of c.args.a in
-    let B : Position = point_of c.args.b in
-    let C : Position = point_of c.args.c in
-    let D : Position = point_of c.args.d in
+    let A : Position = point_of c.args.s.a in
+    let B : Position = point_of c.args.s.b in
+    let C : Position = point_of c.args.t.a in
+    let D : Position = point_of c.args.t.b in
     let abc : to_z w64 (of_z w64 c.cross-abc.result) ≡ cross A B C = given c.cross-abc.type_inv c.cross-abc.ensures in
     let abd : to_z w64 (of_z w64 c.cross-abd.result) ≡ cross A B D = given c.cross-abd.type_inv c.cross-abd.ensures in
     let cda : to_z w64 (of_z w64 c.cross-cda.result) ≡ cross C D A = given c.cross-cda.type_inv c.cross-cda.ensures in
@@ -44,25 +26,13 @@ returns-then-strictly_opposite c =
     || (is_zero (cross C D A) && on_segment C D A) || (is_zero (cross C D B) && on_segment C D B) in
     λ i. answer ((sym c.if-strictly_opposite.true ∙ crossing) i)
 
-pub touches-requires : goal.touches-requires
-touches-requires c = tt
-
-pub touches-requires-2 : goal.touches-requires-2
-touches-requires-2 c = tt
-
-pub touches-requires-3 : goal.touches-requires-3
-touches-requires-3 c = tt
-
-pub touches-requires-4 : goal.touches-requires-4
-touches-requires-4 c = tt
-
 pub returns : goal.returns
 unfolding segments_intersect
 returns c =
-    let A : Position = point_of c.args.a in
-    let B : Position = point_of c.args.b in
-    let C : Position = point_of c.args.c in
-    let D : Position = point_of c.args.d in
+    let A : Position = point_of c.args.s.a in
+    let B : Position = point_of c.args.s.b in
+    let C : Position = point_of c.args.t.a in
+    let D : Position = point_of c.args.t.b in
     let abc : to_z w64 (of_z w64 c.cross-abc.result) ≡ cross A B C = given c.cross-abc.type_inv c.cross-abc.ensures in
     let abd : to_z w64 (of_z w64 c.cross-abd.result) ≡ cross A B D = given c.cross-abd.type_inv c.cross-abd.ensures in
     let cda : to_z w64 (of_z w64 c.cross-cda.result) ≡ cross C D A = given c.cross-cda.type_inv c.cross-cda.ensures in

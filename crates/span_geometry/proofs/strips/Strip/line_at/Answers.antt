@@ -86,12 +86,6 @@ module _ (t : Strip) (usable : Usable t) where
         quotient_of : nat_abs (to_z w64 (of_z w64 q)) ≡ line_of t k
         quotient_of = ap nat_abs (quotient_is ∙ whole_is) ∙ sym (ap nat_of whole_is)
 
-pub overflow_mul-start : goal.overflow_mul-start
-overflow_mul-start c = record { fits = omega (arith, begins c.args.self c.requires.0) }
-
-pub overflow_cast-line : goal.overflow_cast-line
-overflow_cast-line c = record { sfits = begins c.args.self c.requires.0 }
-
 pub overflow_mul-line : goal.overflow_mul-line
 overflow_mul-line c =
     risen_fits c.args.self c.requires.0 c.args.k c.middle_of.ensures c.min.ensures c.max-reached.ensures c.difference.type_inv c.difference.ensures c.difference-2.type_inv c.difference-2.ensures

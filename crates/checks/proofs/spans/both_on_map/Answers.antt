@@ -1,6 +1,0 @@
--- `checks::spans::both_on_map` meets its contract: each number is read within the list, and the code is the test as it stands. Assumes nothing.
-use mathlib.Core.Path.{refl}
-use Rattle.checks.proofs.spans.both_on_map.Goals as goal
-
-pub returns : goal.returns
-returns c = refl
