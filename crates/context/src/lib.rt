@@ -10,7 +10,8 @@ pub mod records;
 pub mod region_marks;
 pub mod runs;
 
-// The record of a region, as RegionStats of context.rs: SPECIFICATION 9; its ramp cells are counted. Edges are in pixels; bit e of `elevations` says that a cell has elevation e.
+// The record of a region, as RegionStats of context.rs: SPECIFICATION 9; its ramp cells are counted. Edges are in pixels; bit e of `elevations` says that a cell
+// has elevation e.
 #[repr(C)]
 #[derive(Clone, Copy)]
 pub struct Region {
@@ -24,8 +25,8 @@ pub struct Region {
     pub elevation_counts: [usize; 4],
 }
 
-// What a pass reads of a partition by its boundaries (`PartitionContext` of context.rs): the boundaries as lent, two tallies of each, the rows of pairs, the first
-// row of each boundary's pairs and the end of the last, and how many boundaries there are.
+// What a pass reads of a partition by its boundaries (`PartitionContext` of context.rs): the boundaries as lent, two tallies of each, the rows of pairs, the
+// first row of each boundary's pairs and the end of the last, and how many boundaries there are.
 #[derive(Clone, Copy)]
 pub struct PartitionContext<'a> {
     pub boundaries: &'a [u64],
