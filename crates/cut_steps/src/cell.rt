@@ -34,9 +34,9 @@ fn side_of(g: SpanGeometry, cell: WalkPosition) -> i64
     cross(g.a, g.b, cell_center(cell.x as u64, cell.y as u64))
 }
 
-// Whether a cell is so far from the span's line that the centre of every neighbour of larger number lies on the same side of it: a step changes the side value by at
-// most 8 pixels times both extents of the span. On the positive side its extent along y is enough: the first endpoint is not to the right of the second, so that a
-// step to the south never lowers the value.
+// Whether a cell is so far from the span's line that the centre of every neighbour of larger number lies on the same side of it: a step changes the side value
+// by at most 8 pixels times both extents of the span. On the positive side its extent along y is enough: the first endpoint is not to the right of the second, so
+// that a step to the south never lowers the value.
 fn is_far(g: SpanGeometry, cell: WalkPosition) -> bool
     requires { Sound g × (cell.x < max_side) × (cell.y < max_side) }
     ensures { result ≡ true → Far (segment_of g) (at cell.x cell.y) }

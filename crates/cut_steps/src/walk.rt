@@ -129,8 +129,9 @@ fn is_placed(beyond: usize, limit: usize) -> bool
     beyond - 2 < limit
 }
 
-// Visits the cut steps of the cell at `beyond` - 2 across column, or row, k, if there is one. Its changes of sides are given. Whether the strip goes by columns is a
-// parameter of the type, so that the loop between the span's ends is compiled for either: asked at each cell, it made assessing long spans take a seventh longer.
+// Visits the cut steps of the cell at `beyond` - 2 across column, or row, k, if there is one. Its changes of sides are given. Whether the strip goes by columns
+// is a parameter of the type, so that the loop between the span's ends is compiled for either: asked at each cell, it made assessing long spans take a seventh
+// longer.
 fn walk_across<V: StepVisitor, const COLUMNS: bool>(
     walk: SpanWalk,
     visitor: &mut V,
@@ -283,8 +284,8 @@ pub fn walk_span<V: StepVisitor>(grid: TerrainGrid, g: SpanGeometry, visitor: &m
     };
     let parts = parts_of(walk.strip, walk.length());
     let mut k = parts.first;
-    // Kept: with a loop before, a call between and a loop behind, maps of short spans took a quarter longer (docs/DECISIONS.md), since the walk of a column is then
-    // called at two places.
+    // Kept: with a loop before, a call between and a loop behind, maps of short spans took a quarter longer (docs/DECISIONS.md), since the walk of a column is
+    // then called at two places.
     while k < parts.end {
         let next = part_end(parts, k);
         walk_part(walk, visitor, k, next);
