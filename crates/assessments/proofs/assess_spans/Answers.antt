@@ -2,7 +2,7 @@
 use Prim.Native.Nat.{◌+◌, ◌*◌, ◌/◌, ◌≤◌, ◌<◌}
 use mathlib.Core.Path.{◌≡◌, sym, ap}
 use native.Mathlib.Omega.{arith}
-use lib.ListN.{length, length-set}
+use lib.ListN.{length}
 use Rattle.definitions.specs.Limits.{numbers_per_span}
 use Rattle.grid_steps.specs.Walk.{grid_of}
 use Rattle.cut_steps.specs.CutSteps.{cut_span}
@@ -20,11 +20,6 @@ span_of-g-requires c =
     let few : c.loop-s.s < length c.args.spans.now / numbers_per_span = omega (arith, c.loop-s-test.true, c.as_chunks.ensures.front_len) in
     chunk-asked c.args.spans.now c.as_chunks.ensures.front few (span_at-asked c.requires.checked few)
 
-pub overflow_cast-s : goal.overflow_cast-s
-overflow_cast-s c =
-    let few : c.loop-s.s < length c.args.spans.now / numbers_per_span = omega (arith, c.loop-s-test.true, c.as_chunks.ensures.front_len) in
-    omega (arith, few, c.requires.asked.few)
-
 pub assess_span-a-requires : goal.assess_span-a-requires
 assess_span-a-requires c =
     let few : c.loop-s.s < length c.args.spans.now / numbers_per_span = omega (arith, c.loop-s-test.true, c.as_chunks.ensures.front_len) in
@@ -32,47 +27,11 @@ assess_span-a-requires c =
     let shown = shown_as (ap (cut_span (grid_of c.args.grid.width c.args.grid.height c.args.grid.cells.now)) (sym G.segment)) (c.requires.asked.shown c.loop-s.s few) in
     record { asked = span-asked c.args.grid c.requires.checked few G; labels_long = c.requires.asked.labels_long; shown = shown; first_within = c.loop-s.invariant.counted }
 
-pub overflow_mul-at : goal.overflow_mul-at
-overflow_mul-at c =
-    let few : c.loop-s.s < length c.args.spans.now / numbers_per_span = omega (arith, c.loop-s-test.true, c.as_chunks.ensures.front_len) in
-    omega (arith, few, c.requires.asked.few)
-
-pub offset_bounds-tallies-at : goal.offset_bounds-tallies-at
-offset_bounds-tallies-at c =
-    let few : c.loop-s.s < length c.args.spans.now / numbers_per_span = omega (arith, c.loop-s-test.true, c.as_chunks.ensures.front_len) in
-    omega (arith, few, c.requires.asked.few)
-
-pub bounds-tallies-at : goal.bounds-tallies-at
-bounds-tallies-at c =
-    let few : c.loop-s.s < length c.args.spans.now / numbers_per_span = omega (arith, c.loop-s-test.true, c.as_chunks.ensures.front_len) in
-    omega (arith, few, c.requires.asked.tallies_long, c.loop-s.invariant.tallies_long)
-
-pub overflow_add-tallies : goal.overflow_add-tallies
-overflow_add-tallies c =
-    let few : c.loop-s.s < length c.args.spans.now / numbers_per_span = omega (arith, c.loop-s-test.true, c.as_chunks.ensures.front_len) in
-    omega (arith, few, c.requires.asked.few)
-
-pub offset_bounds-tallies-at-in-loop-s : goal.offset_bounds-tallies-at-in-loop-s
-offset_bounds-tallies-at-in-loop-s c =
-    let few : c.loop-s.s < length c.args.spans.now / numbers_per_span = omega (arith, c.loop-s-test.true, c.as_chunks.ensures.front_len) in
-    omega (arith, few, c.requires.asked.few)
-
-pub bounds-tallies-at-in-loop-s : goal.bounds-tallies-at-in-loop-s
-bounds-tallies-at-in-loop-s c =
-    let few : c.loop-s.s < length c.args.spans.now / numbers_per_span = omega (arith, c.loop-s-test.true, c.as_chunks.ensures.front_len) in
-    simp length-set (omega (arith, few, c.requires.asked.tallies_long, c.loop-s.invariant.tallies_long))
-
 pub loop-s-preserved : goal.loop-s-preserved
 loop-s-preserved c =
     let few : c.loop-s.s < length c.args.spans.now / numbers_per_span = omega (arith, c.loop-s-test.true, c.as_chunks.ensures.front_len) in
     let room : 2 * (c.loop-s.s + 1) ≤ length c.args.tallies.now = omega (arith, few, c.requires.asked.tallies_long) in
     before_next c.loop-s.invariant (chunk-made c.args.spans.now c.as_chunks.ensures.front few c.span_of-g.ensures) c.assess_span-a.ensures.still_counting c.assess_span-a.ensures.assessed room
-
-pub shape_of-tallies : goal.shape_of-tallies
-shape_of-tallies c = c.loop-s.invariant.tallies_long
-
-pub shape_of-pairs : goal.shape_of-pairs
-shape_of-pairs c = c.loop-s.invariant.held.long
 
 pub returns : goal.returns
 returns c =
