@@ -16,7 +16,6 @@ ghost use Rattle.cut_steps.specs.Walks.{SpanIn};
 ghost use Rattle.cut_steps.specs.Marking.{SpanAtAsked, Marked, SpansMarked};
 ghost use Rattle.cut_steps.specs.MarkVisits.{MarkReady, MarkVisited, mark_laws};
 
-use cell::crossed_directions;
 use definitions::limits::NUMBERS_PER_SPAN;
 use grid_steps::grid::{TerrainGrid, WalkPosition};
 use span_geometry::SpanGeometry;
@@ -34,7 +33,7 @@ impl StepVisitor for Marking<'_> {
     ghost visited = { MarkVisited };
 
     fn crossed_directions(&self, walk: SpanWalk, cell: WalkPosition, changes: u16) -> u16 {
-        crossed_directions(walk.grid, walk.g, cell, changes)
+        walk.crossed_directions(cell, changes)
     }
 
     // Each cut step has its bit at this cell, the smaller of its two.

@@ -12,7 +12,7 @@ ghost use Rattle.cut_steps.specs.Crossed.{Crossed, CrossedAt, FollowsIn, Between
 ghost use Rattle.cut_steps.specs.Visits.{VisitLaws};
 ghost use Rattle.cut_steps.specs.Walks.{walk_map, cell_steps, across_steps, column_steps, columns_steps, CellIn, ColumnIn, ColumnsIn, SpanIn, CutIn, max_cells};
 
-use super::cell::{cut_directions, is_near, side_changes};
+use super::cell::side_changes;
 use super::extents::{near_axis, near_range};
 use definitions::limits::PIXELS_PER_WALK_CELL;
 use grid_steps::grid::{TerrainGrid, WalkPosition};
@@ -98,10 +98,10 @@ fn walk_cell<V: StepVisitor>(walk: SpanWalk, visitor: &mut V, cell: WalkPosition
     requires is_ready { V.ready (walk_map walk) (cell_steps walk cell) 1 visitor.old }
     ensures { V.visited (walk_map walk.entry) (cell_steps walk.entry cell) 1 visitor.old visitor.new }
 {
-    if !is_near(walk.grid, walk.g, cell) {
+    if !walk.is_near(cell) {
         return;
     }
-    let directions = cut_directions(walk.grid, walk.g, cell);
+    let directions = walk.cut_directions(cell);
     visitor.visit(walk, cell, directions);
 }
 
