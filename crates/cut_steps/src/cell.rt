@@ -248,7 +248,9 @@ impl SpanWalk<'_> {
         self.is_cut_onward(inner, cell, EAST)
     }
 
-    // The directions of a walkable cell in which a step leads to a cell of larger number and is cut, a bit for each.
+    // The directions of a walkable cell in which a step leads to a cell of larger number and is cut, a bit for each. A call of its own would copy the walk for every
+    // cell.
+    #[inline(always)]
     pub fn cut_directions(self, cell: WalkPosition) -> u16
         requires asked { CellIn self cell }
         requires walkable_cell { walkable (walk_map self) (at cell.x cell.y) ≡ true }
