@@ -2,7 +2,7 @@
 ghost use Rattle.std.specs.Prelude.{◌≡◌, ◌≤◌, length};
 ghost use Rattle.definitions.specs.Lists.{zeroed};
 
-// Masks and queue, which a call is lent to work in: SPECIFICATION 3, in document 01's words "Masks and queue are then zero over the needed length".
+// Masks and queue, which a call is lent to work in: by SPECIFICATION 3 they are zero over the needed length once it returns.
 pub fn clear_scratch(masks: &mut [u16], queue: &mut [u32], needed: usize)
     requires { (needed ≤ length masks.old) × (needed ≤ length queue.old) }
     ensures { (masks.new ≡ zeroed needed masks.old) × (queue.new ≡ zeroed needed queue.old) }

@@ -1,3 +1,4 @@
+mod Halved
 mod Insertion
 mod Holding
 mod Gathering

@@ -4,7 +4,11 @@ use mathlib.Core.Path.{◌≡◌, refl, sym, ap, ◌∙◌, subst}
 use mathlib.Core.List.{List, [], ◌∷◌, append-nil}
 use native.Mathlib.Omega.{arith}
 use native.Mathlib.Numerals.{add-one}
+use mathlib.Core.Bool.{Bool, true, false}
 use lib.ListN.{length, set, length-append, length-set}
+use lib.Dec.{leb}
+use borrow.Author.Tests.{leb-true, leb-false}
+use Rattle.std.specs.Bool.{then_some}
 use Rattle.definitions.specs.Limits.{numbers_per_span}
 use Rattle.definitions.specs.Lists.{overwrite}
 use Rattle.definitions.specs.Scan.{gather, filter}
@@ -113,8 +117,15 @@ module _ {w h : ℕ} {cells spans labels tallies₀ pairs₀ : List ℕ} where
             answer = subst (λ l. Answers r l pairs₀ pairs) (ap (rows_below w h cells spans labels) last ∙ sym (rows_same S labels L)) a;
           }
 
-      pub all_there : end ≤ room_of pairs → SpansAssessed w h cells spans labels tallies₀ pairs₀ tallies pairs (Some end)
+      all_there : end ≤ room_of pairs → SpansAssessed w h cells spans labels tallies₀ pairs₀ tallies pairs (Some end)
       all_there l = of_map (there l)
 
-      pub all-over : room_of pairs < end → SpansAssessed w h cells spans labels tallies₀ pairs₀ tallies pairs None
+      all-over : room_of pairs < end → SpansAssessed w h cells spans labels tallies₀ pairs₀ tallies pairs None
       all-over l = of_map (over l)
+
+      pub answered : SpansAssessed w h cells spans labels tallies₀ pairs₀ tallies pairs (then_some (leb end (room_of pairs)) end)
+      answered = go (leb end (room_of pairs)) refl
+        where
+          go : (b : Bool) → leb end (room_of pairs) ≡ b → SpansAssessed w h cells spans labels tallies₀ pairs₀ tallies pairs (then_some b end)
+          go true e = all_there (leb-true _ _ e)
+          go false e = all-over (leb-false _ _ e)

@@ -2,7 +2,7 @@
 
 #![tactic(auto)]
 
-pub mod ascending_rows;
+mod ascending_rows;
 
 ghost use Rattle.std.specs.Prelude.{◌≡◌, [], ◌∷◌, ◌+◌, ◌-◌, ◌*◌, ◌≤◌, ◌<◌, length};
 ghost use Rattle.definitions.specs.Grid.{at};
@@ -18,7 +18,7 @@ ghost use Rattle.assessments.specs.Assessing.{Keeps, CountingIn, AssessesIn, Ass
 ghost use Rattle.assessments.specs.Contract.{AssessAsked, SpansAssessed};
 
 use ascending_rows::{Rows, put_pair};
-use cut_steps::span_at;
+use cut_steps::span_of;
 use cut_steps::walk::{SpanWalk, StepVisitor, walk_span};
 use definitions::limits::{NUMBERS_PER_PAIR, NUMBERS_PER_SPAN, TALLIES_PER_SPAN};
 use grid_steps::grid::{Direction, EAST, SOUTH, SOUTH_EAST, SOUTH_WEST, TerrainGrid, WalkPosition};
@@ -85,10 +85,10 @@ impl Assessing<'_> {
         ensures still_counting { CountingIn (self.old.found.removed + 1) self.new }
         ensures assessed { AssessesIn (step_in_lem grid.entry.width cell.x cell.y mask (at direction.dx direction.dy)) self.old self.new }
     {
-        let Direction { dx, dy } = direction;
-        if !is_set(mask, dy * 3 + dx) {
+        if !is_set(mask, direction.bit()) {
             return;
         }
+        let Direction { dx, dy } = direction;
         let WalkPosition { x, y } = cell;
         self.step(y * grid.width + x, (y + dy - 1) * grid.width + (x + dx - 1));
     }
@@ -152,8 +152,8 @@ fn assess_span(
     assessing.found
 }
 
-// Assesses every span by the labels of the partition and the masks of cut steps: two tallies a span, and the rows of pairs as far as there is room. Gives how many rows
-// there are, or none where they are more than the list has room for.
+// Assesses every span by the labels of the partition and the masks of cut steps: two tallies a span, and the rows of pairs as far as there is room. Gives how many
+// rows there are, or none where they are more than the list has room for.
 pub fn assess_spans(
     grid: TerrainGrid,
     masks: &[u16],
@@ -167,19 +167,14 @@ pub fn assess_spans(
     ensures { SpansAssessed grid.entry.width grid.entry.height grid.entry.cells.now spans.now labels.now tallies.old
         pairs.old tallies.new pairs.new result }
 {
-    let count = spans.len() / NUMBERS_PER_SPAN;
     let mut end = 0;
-    for s in 0..count {
-        let g = span_at(spans, s);
+    for (s, &span) in spans.as_chunks::<NUMBERS_PER_SPAN>().0.iter().enumerate() {
+        let g = span_of(span);
         let a = assess_span(grid, g, masks, labels, pairs, s as u32, end);
         let at = TALLIES_PER_SPAN * s;
         tallies[at] = a.removed;
         tallies[at + 1] = a.separated;
         end = a.end;
     }
-    if end <= pairs.len() / NUMBERS_PER_PAIR {
-        Some(end)
-    } else {
-        None
-    }
+    (end <= pairs.len() / NUMBERS_PER_PAIR).then_some(end)
 }

@@ -13,7 +13,8 @@ use Rattle.definitions.specs.Context.{Context, only_pair, full_cut, full_pair}
 use Rattle.laws.specs.ListLaws.Lists.{length_run}
 use Rattle.region_pairs.specs.declared.Pair as declared
 use Rattle.context.specs.Shown.{pair_at, pairs_between, ShownTallies, ShownPairs}
-use Rattle.context.specs.Rows.{full_pair_of}
+use Rattle.std.specs.Bool.{then_some}
+use Rattle.context.specs.Rows.{pair_form, full_pair_of}
 
 -- ---- one boundary
 
@@ -44,14 +45,18 @@ module _ (C : Context) {rows starts : List ℕ} {i : ℕ} (P : ShownPairs C rows
       only_one (full_cut C i) (C.pairs i)
       (λ e. h (sym (between-length rows (get_or starts i 0) (get_or starts (i + 1) 0)) ∙ ap length (sym (P.at i l)) ∙ e))
 
-  pub pair-uncut : false ≡ full_cut C i → None ≡ full_pair C i
+  pair-uncut : false ≡ full_cut C i → None ≡ full_pair C i
   unfolding full_pair
   pair-uncut h = ap (λ b. only_pair b (C.pairs i)) h
 
-  pub pair_one : get_or starts (i + 1) 0 - get_or starts i 0 ≡ 1 → true ≡ full_cut C i → Some (pair_at rows (get_or starts i 0)) ≡ full_pair C i
+  pair_one : get_or starts (i + 1) 0 - get_or starts i 0 ≡ 1 → true ≡ full_cut C i → Some (pair_at rows (get_or starts i 0)) ≡ full_pair C i
   unfolding full_pair
   pair_one h k =
       ap₂ only_pair k (sym (between_one rows (get_or starts i 0) (get_or starts (i + 1) 0) h) ∙ sym (P.at i l))
+
+  pub pair_when : get_or starts (i + 1) 0 - get_or starts i 0 ≡ 1 → (cut : Bool) → cut ≡ full_cut C i → (p : declared.Pair) → pair_form p ≡ pair_at rows (get_or starts i 0) → full_pair_of (then_some cut p) ≡ full_pair C i
+  pair_when h true k p e = ap Some e ∙ pair_one h k
+  pair_when h false k p e = pair-uncut k
 
 -- ---- all boundaries below i
 

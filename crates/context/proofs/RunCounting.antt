@@ -6,9 +6,8 @@ use native.Mathlib.Nat.{add-zero}
 use mathlib.Core.Path.{◌≡◌, refl, sym, ap, ap₂, ◌∙◌, subst}
 use mathlib.Core.Bool.{Bool, true, false, not}
 use mathlib.Core.List.{List, [], ◌∷◌}
-use lib.ListN.{length, get_or, set, take, drop, length-append}
-use lib.Seq.{length-take-le, get_or-take}
-use Rattle.std.proofs.lemmas.List.{length-drop, get_or-drop, get_or-append-add, get_or_append_left}
+use lib.ListN.{length, get_or, set, length-append}
+use Rattle.std.proofs.lemmas.List.{get_or-append-add, get_or_append_left}
 use Rattle.std.specs.List.{AllAdjacentBelow}
 use mathlib.Core.List.{◌++◌}
 use Rattle.std.proofs.Common.{add-one}
@@ -74,21 +73,18 @@ pub record Counting (bytes : List ℕ) (from end : ℕ) (rest : List ℕ) (ramps
   pub ramps_are : ramps ≡ ramps_among bytes from (end - from - length rest)
   pub elevations_are : elevations ≡ elevations_among bytes from (end - from - length rest)
 
-pub counting-starts : (bytes : List ℕ) (from end : ℕ) {rest : List ℕ} → from ≤ end → end ≤ length bytes → rest ≡ take (end - from) (drop from bytes) → Counting bytes from end rest 0 (0 ∷ 0 ∷ 0 ∷ 0 ∷ [])
+pub counting-starts : (bytes : List ℕ) {rest : List ℕ} → rest ≡ bytes → Counting bytes 0 (length bytes) rest 0 (0 ∷ 0 ∷ 0 ∷ 0 ∷ [])
 unfolding count_below
-counting-starts bytes from end {rest} h inside e =
+counting-starts bytes {rest} e =
     record {
-      few = omega (arith, long);
-      at = λ i l. ap (λ r. get_or r i 0) e ∙ get_or-take (end - from) (drop from bytes) i 0 (omega (arith, long)) ∙ get_or-drop from bytes i 0 ∙ ap (λ k. get_or bytes k 0) (omega (arith, long));
-      ramps_are = ap (ramps_among bytes from) none;
-      elevations_are = ap (elevations_among bytes from) none;
+      few = omega (arith, ap length e);
+      at = λ i l. ap (λ r. get_or r i 0) e ∙ ap (λ k. get_or bytes k 0) (omega (arith, ap length e));
+      ramps_are = ap (ramps_among bytes 0) none;
+      elevations_are = ap (elevations_among bytes 0) none;
     }
   where
-    long : length rest ≡ end - from
-    long = ap length e ∙ length-take-le (end - from) (drop from bytes) (omega (arith, length-drop from bytes))
-
-    none : 0 ≡ end - from - length rest
-    none = omega (arith, long)
+    none : 0 ≡ length bytes - 0 - length rest
+    none = omega (arith, ap length e)
 
 module _ {bytes : List ℕ} {from end ramps : ℕ} {rest elevations : List ℕ} (C : Counting bytes from end rest ramps elevations) where
   pub counting-few : ramps ≤ end - from - length rest

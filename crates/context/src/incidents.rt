@@ -55,7 +55,7 @@ fn count_rows(pairs: &[u32], rows: Range<usize>, span: u32, counts: &mut [u32])
     requires places { (span < max_entries) × Packed span counts.old }
     ensures { counts.new ≡ count_pairs span counts.old (pairs_between pairs.now rows.start rows.end) }
 {
-    for k in rows.start..rows.end {
+    for k in rows {
         count_pair(pairs, k, span, &mut *counts);
     }
 }
@@ -75,7 +75,7 @@ impl PartitionContext<'_> {
         requires { Stretch self.pairs.now self.starts.now i }
         ensures { (C : Context) → ShownPairs C self.entry.pairs.now self.entry.starts.now → i < C.count → result ≡ is_incident C i r }
     {
-        (self.starts[i]..self.starts[i + 1]).any(|k| row_at(self.pairs, k).contains(r))
+        self.rows(i).any(|k| row_at(self.pairs, k).contains(r))
     }
 
     // Every span's rows, each span once for each region that it names.
@@ -85,8 +85,7 @@ impl PartitionContext<'_> {
         ensures { counts.new ≡ count_spans (span_pairs self.entry.pairs.now self.entry.starts.now) self.entry.count counts.old }
     {
         for i in 0..self.count {
-            let rows = self.starts[i]..self.starts[i + 1];
-            count_rows(self.pairs, rows, i as u32, &mut *counts);
+            count_rows(self.pairs, self.rows(i), i as u32, &mut *counts);
         }
     }
 

@@ -29,8 +29,8 @@ pub fn pair_starts(pairs: &[u32], rows: usize, count: usize, starts: &mut [usize
     ensures { (C : Context) → PairRows C pairs.now rows count → ShownPairs C pairs.now starts.new }
 {
     let mut k = 0;
-    for s in 0..count {
-        starts[s] = k;
+    for (s, start) in starts[..count].iter_mut().enumerate() {
+        *start = k;
         k = span_end(pairs, rows, k, s);
     }
     starts[count] = k;
@@ -64,16 +64,11 @@ impl PartitionContext<'_> {
             i < C.count →
             full_pair_of result ≡ full_pair C i }
     {
-        let first = self.starts[i];
-        let end = self.starts[i + 1];
-        if end - first != 1 {
+        let rows = self.rows(i);
+        if rows.end - rows.start != 1 {
             return None;
         }
-        if self.full_cut(i) {
-            Some(row_at(self.pairs, first))
-        } else {
-            None
-        }
+        self.full_cut(i).then_some(row_at(self.pairs, rows.start))
     }
 
     // The full pair of each boundary.

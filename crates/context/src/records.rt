@@ -1,6 +1,6 @@
 // A region's record by value: the empty record, the cells of a run added, and what is asked of a record (RegionStats of context.rs; dominance and flatness of
 // junctions.rs).
-ghost use Rattle.std.specs.Prelude.{◌≡◌, map, ◌-◌, ◌*◌, ◌≤◌};
+ghost use Rattle.std.specs.Prelude.{◌≡◌, map, ◌*◌, ◌≤◌, length};
 ghost use Rattle.definitions.specs.Limits.{max_side};
 ghost use Rattle.definitions.specs.Spans.{pixels_per_walk_cell};
 ghost use Rattle.definitions.specs.Geometry.{float};
@@ -56,15 +56,15 @@ impl Region {
     }
 
     // The record with the cells of a run added, which stand in row y from column x on. A run is added once, not cell by cell.
-    pub fn with_run(self, x: usize, y: usize, cells: &[u8], from: usize, end: usize) -> Self
+    pub fn with_run(self, x: usize, y: usize, run: &[u8]) -> Self
         requires counted { Counted (record_of self) }
-        requires fitting { FittingRun (record_of self) x y cells.now from end }
-        ensures { record_of result ≡ add_run (record_of self) x y cells.now from (end - from) }
+        requires fitting { FittingRun (record_of self) x y run.now 0 (length run.now) }
+        ensures { record_of result ≡ add_run (record_of self) x y run.now 0 (length run.now) }
     {
         let first = self.cells == 0;
-        let length = end - from;
-        let run = run_counts(cells, from, end);
-        let added = run.elevations;
+        let length = run.len();
+        let more = run_counts(run);
+        let added = more.elevations;
         let old = self.elevation_counts;
         let counts = sums(old, added);
         Self {
@@ -73,7 +73,7 @@ impl Region {
             min_y: lesser_edge(first, self.min_y, edge(y)),
             max_x: greater_edge(first, self.max_x, edge(x + length)),
             max_y: greater_edge(first, self.max_y, edge(y + 1)),
-            ramp_cells: self.ramp_cells + run.ramps,
+            ramp_cells: self.ramp_cells + more.ramps,
             elevations: self.elevations | mask_of(added),
             elevation_counts: counts,
         }

@@ -1,4 +1,4 @@
-// What the cells of a run add to a record, in numbers: how many have each elevation, and how many the ramp bit. Cells that equal the first are counted together.
+// What the cells of a run add to a record, in numbers: how many have each elevation, and how many the ramp bit. Neighbours that are equal are counted together.
 ghost use Rattle.std.specs.Prelude.{◌≡◌, map, [], ◌∷◌, ℕ, ◌+◌, ◌-◌, ◌≤◌, ◌<◌, length, get_or, ltb};
 ghost use Rattle.definitions.specs.Scan.{bit};
 ghost use Rattle.definitions.specs.Grid.{elevation, is_ramp};
@@ -12,7 +12,7 @@ pub struct RunCounts {
     pub elevations: [usize; 4],
 }
 
-pub fn elevation_of(cell: u8) -> usize
+fn elevation_of(cell: u8) -> usize
     ensures { result ≡ elevation cell }
 {
     usize::from(cell / 4)
@@ -25,14 +25,13 @@ fn ramp_bit(cell: u8) -> usize
     usize::from(cell / 2 % 2)
 }
 
-// The counts of the cells from `from` to before `end`.
-pub fn run_counts(cells: &[u8], from: usize, end: usize) -> RunCounts
-    requires { Within cells.now from end }
-    ensures { RunCounted cells.now from (end - from) result }
+pub fn run_counts(run: &[u8]) -> RunCounts
+    requires { Within run.now 0 (length run.now) }
+    ensures { RunCounted run.now 0 (length run.now) result }
 {
     let mut ramps = 0;
     let mut elevations = [0; 4];
-    for alike in cells[from..end].chunk_by(|a, b| a == b) {
+    for alike in run.chunk_by(|a, b| a == b) {
         let e = elevation_of(alike[0]);
         ramps += alike.len() * ramp_bit(alike[0]);
         elevations[e] += alike.len();

@@ -13,5 +13,6 @@ mod Walks
 pub mod Beyond
 pub mod Across
 pub mod SpanParts
+pub mod Chunks
 pub mod Spans
 pub mod Shown

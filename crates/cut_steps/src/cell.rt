@@ -1,4 +1,4 @@
-// The steps of one cell that a span cuts, as a mask of directions.
+// The steps of one cell that a span cuts, as a mask of directions: what the walk of a span asks of a cell.
 ghost use Rattle.std.specs.Prelude.{◌≡◌, true, false, cond, ◌+◌, ◌*◌, ◌≤◌, ◌<◌, length, ltb, nat_abs};
 ghost use Rattle.definitions.specs.Limits.{max_side};
 ghost use Rattle.definitions.specs.Grid.{at, walkable, is_step};
@@ -7,8 +7,10 @@ ghost use Rattle.grid_steps.specs.Grids.{terrain_of};
 ghost use Rattle.grid_steps.specs.Inner.{Inner};
 ghost use Rattle.cut_steps.specs.CutSteps.{is_cut_onward};
 ghost use Rattle.cut_steps.specs.Crossed.{InGrid, Crossed, steps_onward, changes_at, SideWord};
-ghost use Rattle.cut_steps.specs.Cell.{CellAsked, OnwardAsked, CutDirections, side_of, Uncut, Far, max_reach, onward_mask};
+ghost use Rattle.cut_steps.specs.Walks.{walk_map, CellIn, CutIn};
+ghost use Rattle.cut_steps.specs.Cell.{OnwardAsked, side_of, Uncut, Far, max_reach, onward_mask};
 
+use super::walk::SpanWalk;
 use definitions::limits::PIXELS_PER_WALK_CELL;
 use grid_steps::grid::{
     Direction, EAST, EAST_BIT, SOUTH, SOUTH_BIT, SOUTH_EAST, SOUTH_EAST_BIT, SOUTH_WEST,
@@ -34,9 +36,9 @@ fn side_of(g: SpanGeometry, cell: WalkPosition) -> i64
     cross(g.a, g.b, cell_center(cell.x as u64, cell.y as u64))
 }
 
-// Whether a cell is so far from the span's line that the centre of every neighbour of larger number lies on the same side of it: a step changes the side value by at
-// most 8 pixels times both extents of the span. On the positive side its extent along y is enough: the first endpoint is not to the right of the second, so that a
-// step to the south never lowers the value.
+// Whether a cell is so far from the span's line that the centre of every neighbour of larger number lies on the same side of it: a step changes the side value
+// by at most 8 pixels times both extents of the span. On the positive side its extent along y is enough: the first endpoint is not to the right of the second, so
+// that a step to the south never lowers the value.
 fn is_far(g: SpanGeometry, cell: WalkPosition) -> bool
     requires { Sound g × (cell.x < max_side) × (cell.y < max_side) }
     ensures { result ≡ true → Far (segment_of g) (at cell.x cell.y) }
@@ -75,64 +77,6 @@ fn walks_south(grid: TerrainGrid, cell: WalkPosition) -> bool
     is_walkable(grid, cell.x, cell.y + 1)
 }
 
-// Whether a cell is walkable and may have a cut step to a cell of larger number: of most candidates these tests say that it has none.
-pub fn is_near(grid: TerrainGrid, g: SpanGeometry, cell: WalkPosition) -> bool
-    requires { CellAsked grid.width grid.height grid.cells.now g cell.x cell.y }
-    ensures where_true { result ≡ true → walkable (terrain_of grid.entry) (at cell.x cell.y) ≡ true }
-    ensures where_false { result ≡ false →
-        CutDirections grid.entry.width grid.entry.height grid.entry.cells.now (segment_of g) cell.x cell.y 0 }
-{
-    if !is_walkable(grid, cell.x, cell.y) {
-        return false;
-    }
-    if is_far(g, cell) {
-        return false;
-    }
-    if walks_south(grid, cell) {
-        return true;
-    }
-    !is_far_eastward(g, cell)
-}
-
-// Whether the step from a walkable cell in a direction to cells of larger number is there and is cut.
-fn is_cut_onward(
-    grid: TerrainGrid,
-    g: SpanGeometry,
-    inner: bool,
-    cell: WalkPosition,
-    direction: Direction,
-) -> bool
-    requires asked { OnwardAsked grid.width grid.height grid.cells.now g cell.x cell.y direction.dx direction.dy }
-    requires inner_cell { inner ≡ true → Inner grid.width grid.height cell.x cell.y }
-    ensures { result ≡ is_cut_onward (terrain_of grid.entry) (segment_of g) (at cell.x cell.y) (at direction.dx direction.dy) }
-{
-    if !grid.is_inside(inner, cell, direction) {
-        return false;
-    }
-    if !grid.is_step(cell, direction) {
-        return false;
-    }
-    let WalkPosition { x, y } = cell;
-    g.cuts(
-        x as u64,
-        y as u64,
-        (x + direction.dx - 1) as u64,
-        (y + direction.dy - 1) as u64,
-    )
-}
-
-// Whether the step east from a walkable cell is there and is cut. Beside a flat span most are ruled out by the first test.
-fn is_cut_east(grid: TerrainGrid, g: SpanGeometry, inner: bool, cell: WalkPosition) -> bool
-    requires asked { OnwardAsked grid.width grid.height grid.cells.now g cell.x cell.y 2 1 }
-    requires inner_cell { inner ≡ true → Inner grid.width grid.height cell.x cell.y }
-    ensures { result ≡ is_cut_onward (terrain_of grid.entry) (segment_of g) (at cell.x cell.y) (at 2 1) }
-{
-    if is_far_eastward(g, cell) {
-        return false;
-    }
-    is_cut_onward(grid, g, inner, cell, EAST)
-}
-
 // The value where the test holds, else 0.
 fn value_if(test: bool, value: u16) -> u16
     ensures { (result ≡ cond test value 0) × (result ≤ value) }
@@ -156,21 +100,6 @@ fn onward_mask(east: bool, south_west: bool, south: bool, south_east: bool) -> u
         + value_if(south_west, SOUTH_WEST_MASK)
         + value_if(south, SOUTH_MASK)
         + value_if(south_east, SOUTH_EAST_MASK)
-}
-
-// The directions of a walkable cell in which a step leads to a cell of larger number and is cut, a bit for each.
-pub fn cut_directions(grid: TerrainGrid, g: SpanGeometry, cell: WalkPosition) -> u16
-    requires asked { CellAsked grid.width grid.height grid.cells.now g cell.x cell.y }
-    requires walkable_cell { walkable (terrain_of grid) (at cell.x cell.y) ≡ true }
-    ensures { CutDirections grid.entry.width grid.entry.height grid.entry.cells.now (segment_of g) cell.x cell.y result }
-{
-    let inner = grid.is_inner(cell);
-    onward_mask(
-        is_cut_east(grid, g, inner, cell),
-        is_cut_onward(grid, g, inner, cell, SOUTH_WEST),
-        is_cut_onward(grid, g, inner, cell, SOUTH),
-        is_cut_onward(grid, g, inner, cell, SOUTH_EAST),
-    )
 }
 
 // The steps from a walkable cell to cells of larger number, a bit for each, where all cells about it but those of the row before are in the grid.
@@ -267,20 +196,85 @@ pub fn side_changes(columns: bool, back: usize, ahead: usize, j: usize) -> u16
     (places % 16 * 32) as u16
 }
 
-// The directions of a cell in which a step leads to a cell of larger number and is cut, a bit for each. The cell is between the span's ends, and its changes
-// of sides are given.
-pub fn crossed_directions(
-    grid: TerrainGrid,
-    g: SpanGeometry,
-    cell: WalkPosition,
-    changes: u16,
-) -> u16
-    requires asked { CellAsked grid.width grid.height grid.cells.now g cell.x cell.y }
-    requires crossed { Crossed (segment_of g) (at cell.x cell.y) changes }
-    ensures { CutDirections grid.entry.width grid.entry.height grid.entry.cells.now (segment_of g) cell.x cell.y result }
-{
-    if !is_walkable(grid, cell.x, cell.y) {
-        return 0;
+impl SpanWalk<'_> {
+    // Whether a cell is walkable and may have a cut step to a cell of larger number: of most candidates these tests say that it has none.
+    pub fn is_near(self, cell: WalkPosition) -> bool
+        requires { CellIn self cell }
+        ensures where_true { result ≡ true → walkable (walk_map self.entry) (at cell.x cell.y) ≡ true }
+        ensures where_false { result ≡ false → CutIn self.entry cell 0 }
+    {
+        if !is_walkable(self.grid, cell.x, cell.y) {
+            return false;
+        }
+        if is_far(self.g, cell) {
+            return false;
+        }
+        if walks_south(self.grid, cell) {
+            return true;
+        }
+        !is_far_eastward(self.g, cell)
     }
-    changes & steps_onward(grid, cell)
+
+    // Whether the step from a walkable cell in a direction to cells of larger number is there and is cut.
+    fn is_cut_onward(self, inner: bool, cell: WalkPosition, direction: Direction) -> bool
+        requires asked { OnwardAsked self.grid.width self.grid.height self.grid.cells.now self.g cell.x cell.y direction.dx direction.dy }
+        requires inner_cell { inner ≡ true → Inner self.grid.width self.grid.height cell.x cell.y }
+        ensures { result ≡ is_cut_onward (walk_map self.entry) (segment_of self.entry.g) (at cell.x cell.y) (at direction.dx direction.dy) }
+    {
+        if !self.grid.is_inside(inner, cell, direction) {
+            return false;
+        }
+        if !self.grid.is_step(cell, direction) {
+            return false;
+        }
+        let WalkPosition { x, y } = cell;
+        self.g.cuts(
+            x as u64,
+            y as u64,
+            (x + direction.dx - 1) as u64,
+            (y + direction.dy - 1) as u64,
+        )
+    }
+
+    // Whether the step east from a walkable cell is there and is cut. Beside a flat span most are ruled out by the first test.
+    fn is_cut_east(self, inner: bool, cell: WalkPosition) -> bool
+        requires asked { OnwardAsked self.grid.width self.grid.height self.grid.cells.now self.g cell.x cell.y 2 1 }
+        requires inner_cell { inner ≡ true → Inner self.grid.width self.grid.height cell.x cell.y }
+        ensures { result ≡ is_cut_onward (walk_map self.entry) (segment_of self.entry.g) (at cell.x cell.y) (at 2 1) }
+    {
+        if is_far_eastward(self.g, cell) {
+            return false;
+        }
+        self.is_cut_onward(inner, cell, EAST)
+    }
+
+    // The directions of a walkable cell in which a step leads to a cell of larger number and is cut, a bit for each. A call of its own would copy the walk for every
+    // cell.
+    #[inline(always)]
+    pub fn cut_directions(self, cell: WalkPosition) -> u16
+        requires asked { CellIn self cell }
+        requires walkable_cell { walkable (walk_map self) (at cell.x cell.y) ≡ true }
+        ensures { CutIn self.entry cell result }
+    {
+        let inner = self.grid.is_inner(cell);
+        onward_mask(
+            self.is_cut_east(inner, cell),
+            self.is_cut_onward(inner, cell, SOUTH_WEST),
+            self.is_cut_onward(inner, cell, SOUTH),
+            self.is_cut_onward(inner, cell, SOUTH_EAST),
+        )
+    }
+
+    // The directions of a cell in which a step leads to a cell of larger number and is cut, a bit for each. The cell is between the span's ends, and its changes
+    // of sides are given.
+    pub fn crossed_directions(self, cell: WalkPosition, changes: u16) -> u16
+        requires asked { CellIn self cell }
+        requires crossed { Crossed (segment_of self.g) (at cell.x cell.y) changes }
+        ensures { CutIn self.entry cell result }
+    {
+        if !is_walkable(self.grid, cell.x, cell.y) {
+            return 0;
+        }
+        changes & steps_onward(self.grid, cell)
+    }
 }

@@ -19,7 +19,7 @@ const REACHES_AFTER: u64 = 5;
 const REACHES_BEFORE: u64 = 4;
 
 // The places of a range from which a step can reach the pixels from `least` to `greatest`.
-pub fn narrowed(range: RangeInclusive, least: u64, greatest: u64) -> RangeInclusive
+fn narrowed(range: RangeInclusive, least: u64, greatest: u64) -> RangeInclusive
     requires { greatest ≤ max_pixel }
     ensures { Narrows least greatest range result }
 {

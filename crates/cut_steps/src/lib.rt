@@ -3,11 +3,10 @@
 #![tactic(auto)]
 
 pub mod cell;
-pub mod extents;
+mod extents;
 pub mod walk;
 
 ghost use Rattle.std.specs.Prelude.{◌≡◌, ℕ, ◌*◌, ◌≤◌, ◌<◌, length, get_or};
-ghost use Rattle.definitions.specs.Limits.{numbers_per_span};
 ghost use Rattle.definitions.specs.Grid.{segment_at};
 ghost use Rattle.span_geometry.specs.Shapes.{Made, segment_of};
 ghost use Rattle.grid_steps.specs.Grids.{terrain_of};
@@ -17,7 +16,6 @@ ghost use Rattle.cut_steps.specs.Walks.{SpanIn};
 ghost use Rattle.cut_steps.specs.Marking.{SpanAtAsked, Marked, SpansMarked};
 ghost use Rattle.cut_steps.specs.MarkVisits.{MarkReady, MarkVisited, mark_laws};
 
-use cell::crossed_directions;
 use definitions::limits::NUMBERS_PER_SPAN;
 use grid_steps::grid::{TerrainGrid, WalkPosition};
 use span_geometry::SpanGeometry;
@@ -35,7 +33,7 @@ impl StepVisitor for Marking<'_> {
     ghost visited = { MarkVisited };
 
     fn crossed_directions(&self, walk: SpanWalk, cell: WalkPosition, changes: u16) -> u16 {
-        crossed_directions(walk.grid, walk.g, cell, changes)
+        walk.crossed_directions(cell, changes)
     }
 
     // Each cut step has its bit at this cell, the smaller of its two.
@@ -57,13 +55,13 @@ fn mark_span(grid: TerrainGrid, g: SpanGeometry, masks: &mut [u16])
     walk_span(grid, g, &mut marking);
 }
 
-// Span i of the list.
-pub fn span_at(spans: &[u64], i: usize) -> SpanGeometry
-    requires { SpanAtAsked spans.now i }
-    ensures { Made (segment_at spans.now (numbers_per_span * i)) result }
+// The span of four numbers, as a list has them: the endpoints, x before y.
+pub fn span_of(span: [u64; NUMBERS_PER_SPAN]) -> SpanGeometry
+    requires { SpanAtAsked span 0 }
+    ensures { Made (segment_at span 0) result }
 {
-    let at = NUMBERS_PER_SPAN * i;
-    SpanGeometry::new(spans[at], spans[at + 1], spans[at + 2], spans[at + 3])
+    let [x0, y0, x1, y1] = span;
+    SpanGeometry::new(x0, y0, x1, y1)
 }
 
 // The cut steps of all spans, in masks of zeros.
@@ -72,9 +70,7 @@ pub fn mark_spans(grid: TerrainGrid, spans: &[u64], masks: &mut [u16])
     requires sizes { (grid.height * grid.width ≤ length masks.old) × ((c : ℕ) → c < grid.height * grid.width → get_or masks.old c 0 ≡ 0) }
     ensures { SpansMarked grid.entry.width grid.entry.height grid.entry.cells.now spans.now masks.old masks.new }
 {
-    let count = spans.len() / NUMBERS_PER_SPAN;
-    // Kept: `span_at` reads a span by its number here as where spans are assessed, which is done by number.
-    for i in 0..count {
-        mark_span(grid, span_at(spans, i), masks);
+    for span in spans.as_chunks::<NUMBERS_PER_SPAN>().0 {
+        mark_span(grid, span_of(*span), masks);
     }
 }

@@ -12,7 +12,7 @@ ghost use Rattle.cut_steps.specs.Crossed.{Crossed, CrossedAt, FollowsIn, Between
 ghost use Rattle.cut_steps.specs.Visits.{VisitLaws};
 ghost use Rattle.cut_steps.specs.Walks.{walk_map, cell_steps, across_steps, column_steps, columns_steps, CellIn, ColumnIn, ColumnsIn, SpanIn, CutIn, max_cells};
 
-use super::cell::{cut_directions, is_near, side_changes};
+use super::cell::side_changes;
 use super::extents::{near_axis, near_range};
 use definitions::limits::PIXELS_PER_WALK_CELL;
 use grid_steps::grid::{TerrainGrid, WalkPosition};
@@ -98,10 +98,10 @@ fn walk_cell<V: StepVisitor>(walk: SpanWalk, visitor: &mut V, cell: WalkPosition
     requires is_ready { V.ready (walk_map walk) (cell_steps walk cell) 1 visitor.old }
     ensures { V.visited (walk_map walk.entry) (cell_steps walk.entry cell) 1 visitor.old visitor.new }
 {
-    if !is_near(walk.grid, walk.g, cell) {
+    if !walk.is_near(cell) {
         return;
     }
-    let directions = cut_directions(walk.grid, walk.g, cell);
+    let directions = walk.cut_directions(cell);
     visitor.visit(walk, cell, directions);
 }
 
@@ -129,8 +129,9 @@ fn is_placed(beyond: usize, limit: usize) -> bool
     beyond - 2 < limit
 }
 
-// Visits the cut steps of the cell at `beyond` - 2 across column, or row, k, if there is one. Its changes of sides are given. Whether the strip goes by columns is a
-// parameter of the type, so that the loop between the span's ends is compiled for either: asked at each cell, it made assessing long spans take a seventh longer.
+// Visits the cut steps of the cell at `beyond` - 2 across column, or row, k, if there is one. Its changes of sides are given. Whether the strip goes by columns
+// is a parameter of the type, so that the loop between the span's ends is compiled for either: asked at each cell, it made assessing long spans take a seventh
+// longer.
 fn walk_across<V: StepVisitor, const COLUMNS: bool>(
     walk: SpanWalk,
     visitor: &mut V,
@@ -283,8 +284,8 @@ pub fn walk_span<V: StepVisitor>(grid: TerrainGrid, g: SpanGeometry, visitor: &m
     };
     let parts = parts_of(walk.strip, walk.length());
     let mut k = parts.first;
-    // Kept: with a loop before, a call between and a loop behind, maps of short spans took a quarter longer (docs/DECISIONS.md), since the walk of a column is then
-    // called at two places.
+    // Kept: with a loop before, a call between and a loop behind, maps of short spans took a quarter longer (docs/DECISIONS.md), since the walk of a column is
+    // then called at two places.
     while k < parts.end {
         let next = part_end(parts, k);
         walk_part(walk, visitor, k, next);

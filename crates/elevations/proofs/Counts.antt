@@ -1,18 +1,11 @@
--- Four counts: what holds of each, and the dominance from its two parts. Assumes nothing.
-use Prim.Native.Nat.{ℕ, zero, suc, ◌*◌, ◌/◌, ◌%◌, ◌≤◌}
+-- The share of a count, and the dominance from its two parts. Assumes nothing.
+use Prim.Native.Nat.{ℕ, zero, suc, ◌*◌, ◌/◌, ◌%◌}
 use native.Mathlib.Omega.{arith}
 use mathlib.Core.Path.{◌≡◌, refl, ap, ◌∙◌}
 use Rattle.std.specs.Prelude.{Option, None, Some}
-use mathlib.Core.List.{List, [], ◌∷◌}
+use mathlib.Core.List.{List}
 use lib.ListN.{get_or}
 use Rattle.definitions.specs.RegionRecord.{Share, Dominance, most_common_elevation, share_of, dominance_of}
-
-pub each_below : {a b c d m : ℕ} → a ≤ m → b ≤ m → c ≤ m → d ≤ m → (e : ℕ) → get_or (a ∷ b ∷ c ∷ d ∷ []) e 0 ≤ m
-each_below ha hb hc hd zero = ha
-each_below ha hb hc hd (suc zero) = hb
-each_below ha hb hc hd (suc (suc zero)) = hc
-each_below ha hb hc hd (suc (suc (suc zero))) = hd
-each_below ha hb hc hd (suc (suc (suc (suc e)))) = omega arith
 
 pub share_some : (count n : ℕ) → (n ≡ 0 → ⊥) → Some (record { percent = count * 100 / n; remainder = count * 100 % n }) ≡ share_of count n
 unfolding share_of

@@ -1,4 +1,4 @@
-// The elevation of most cells and its share of all, from counts by elevation: by value, and for programs in other languages (document 02, request 2).
+// The elevation of most cells and its share of all, from counts by elevation: by value, and for programs in other languages.
 
 #![tactic(auto)]
 

@@ -21,15 +21,6 @@ module _ (w h x y dx dy : ℕ) where
   pub inner-inside : Nearby w h x y dx dy → Inner w h x y → Inside w h x y dx dy
   inner-inside N i = record { left = omega (arith, i.left); up = omega (arith, i.up); right = omega (arith, i.right, N.near_x); down = omega (arith, i.down, N.near_y) }
 
-  pub says_yes : Inside w h x y dx dy → Says true (Inside w h x y dx dy)
-  says_yes i = ((λ e. i), λ e. absurd (true≢false e))
-
-  pub says_no : (Inside w h x y dx dy → ⊥) → Says false (Inside w h x y dx dy)
-  says_no n = ((λ e. absurd (false≢true e)), λ e. n)
-
-  pub says_last : 1 ≤ x + dx → 1 ≤ y + dy → x + dx ≤ w → Says (leb (y + dy) h) (Inside w h x y dx dy)
-  says_last a b c = ((λ e. record { left = a; up = b; right = c; down = leb-true _ _ e }), λ e i. omega (arith, leb-false (y + dy) h e, i.down))
-
   -- ---- the cells about it
 
   pub grid-small : Nearby w h x y dx dy → h * w ≤ 1048576

@@ -1,6 +1,7 @@
 // The grid of a map, as lent, its cells and the directions of its steps, those of `neighbors` of lib.rs.
 ghost use Rattle.std.specs.Prelude.{◌≡◌, true, ◌≤◌, ◌<◌};
 ghost use Rattle.definitions.specs.Grid.{at, is_step};
+ghost use Rattle.grid_steps.specs.Masks.{bit_of};
 ghost use Rattle.grid_steps.specs.Grids.{terrain_of};
 ghost use Rattle.grid_steps.specs.Inner.{Nearby, Inner, Inside, Says, Stepping};
 
@@ -28,6 +29,16 @@ pub struct Direction {
     pub dy: usize,
 }
 
+impl Direction {
+    // Its bit in a mask of cut steps: its place in the three by three square around the cell, row by row from 0.
+    pub fn bit(self) -> usize
+        requires { (self.dx ≤ 2) × (self.dy ≤ 2) }
+        ensures { result ≡ bit_of (at self.dx self.dy) }
+    {
+        self.dy * 3 + self.dx
+    }
+}
+
 // The four directions to cells of larger number.
 pub const EAST: Direction = Direction { dx: 2, dy: 1 };
 
@@ -37,7 +48,8 @@ pub const SOUTH: Direction = Direction { dx: 1, dy: 2 };
 
 pub const SOUTH_EAST: Direction = Direction { dx: 2, dy: 2 };
 
-// The bit of each in a mask of cut steps: its place in the three by three square around the cell, row by row from 0.
+// The bit of each in a mask of cut steps.
+// Kept: by the formula of `Direction::bit`, since a constant's value cannot call a function, and the loops over cells are to have constants here.
 pub const EAST_BIT: usize = EAST.dy * 3 + EAST.dx;
 
 pub const SOUTH_WEST_BIT: usize = SOUTH_WEST.dy * 3 + SOUTH_WEST.dx;

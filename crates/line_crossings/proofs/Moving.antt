@@ -1,17 +1,14 @@
 -- The line's total from one column, or row, to the next, and the first place past it, at first and from one to the next. Assumes nothing.
-use mathlib.Core.Path.{◌≡◌, refl, sym, ap, ◌∙◌}
+use mathlib.Core.Path.{◌≡◌, ap, ◌∙◌}
 use mathlib.Core.Logic.{⊎_elim}
-use mathlib.Core.Bool.{Bool, true, false, cond}
 use Prim.Native.Nat.{ℕ, ◌+◌, ◌-◌, ◌*◌, ◌/◌, ◌%◌, ◌≤◌, ◌<◌}
 use native.Mathlib.Nat.{le_refl, mul-add, mul_comm, mul_assoc, mul-le-mul, div-add-mod', mod-lt}
 use native.Mathlib.Omega.{arith}
-use lib.Dec.{leb}
-use Rattle.definitions.specs.Grid.{Segment}
 use Rattle.definitions.specs.Spans.{middle_of}
 use Rattle.span_geometry.specs.declared.strips.Strip.{Strip}
-use Rattle.span_geometry.specs.Strips.{Usable, by_columns, strip_by_columns, strip_by_rows, strip_of}
+use Rattle.span_geometry.specs.Strips.{Usable}
 use Rattle.laws.specs.NumberLaws.Comparisons.{le_or_lt}
-use Rattle.line_crossings.specs.Crossings.{run_of, reached, line_total, Between, tie_of, Crossing, Gentle}
+use Rattle.line_crossings.specs.Crossings.{run_of, reached, line_total, Between, Crossing, Gentle}
 
 -- ---- the first place
 
@@ -106,19 +103,3 @@ pub begins : {t : Strip} {tie k : ℕ} (q : ℕ) → Usable t → q ≡ line_tot
 begins {t} {tie} {k} q U e =
     let p = at_first (run_of t) (line_total t (reached t k) + tie) q (omega (arith, U.forward)) e in
     record { total = p.0; less = p.1 }
-
--- ---- ties
-
-module _ {t : Strip} (s : Segment) (e : t ≡ strip_of s) where
-  by_columns_lem : {v : Bool} → t.columns ≡ v → by_columns s ≡ v
-  by_columns_lem h = sym (ap (λ t. t.columns) e ∙ go (by_columns s)) ∙ h
-    where
-      go : (v : Bool) → (cond v (strip_by_columns s) (strip_by_rows s)).columns ≡ v
-      go true = refl
-      go false = refl
-
-  pub tie-columns : t.columns ≡ true → 0 ≡ tie_of s
-  tie-columns h = sym (ap (λ v. cond v 0 (cond (leb s.a.y s.b.y) 1 0)) (by_columns_lem h))
-
-  pub tie-rows : t.columns ≡ false → {v : Bool} → leb s.a.y s.b.y ≡ v → cond v 1 0 ≡ tie_of s
-  tie-rows h i = sym (ap (λ v. cond v 0 (cond (leb s.a.y s.b.y) 1 0)) (by_columns_lem h) ∙ ap (λ v. cond v 1 0) i)

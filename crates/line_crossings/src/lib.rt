@@ -25,10 +25,7 @@ pub fn tie_of(g: SpanGeometry, strip: Strip) -> u64
     requires { strip ≡ strip_of (segment_of g) }
     ensures { result ≡ tie_of (segment_of g) }
 {
-    if strip.columns {
-        return 0;
-    }
-    if g.a.y <= g.b.y { 1 } else { 0 }
+    u64::from(!strip.columns && g.a.y <= g.b.y)
 }
 
 // The first place past the line in column, or row, k.

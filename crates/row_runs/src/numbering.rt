@@ -29,7 +29,8 @@ pub fn number(cells: &[u8], labels: &mut [u32], queue: &[u32], n: usize) -> usiz
 {
     let mut id: u32 = 0;
     let mut c = 0;
-    // Kept: `iter::successors` could give these places, and is no plainer: each would be read from the queue once for the way and once as the end of its stretch.
+    // Kept: `iter::successors` could give these places, and is no plainer: each would be read from the queue once for the way and once as the end of its
+    // stretch.
     while c < n {
         let e = queue[c] as usize;
         let label = label_at(cells, labels, c, id);

@@ -1,12 +1,11 @@
 // The stretches of one row, each by its end, the first cell that a test does not hold of.
-ghost use Rattle.std.specs.Prelude.{◌≡◌, false, ◌+◌, ◌≤◌, length};
+ghost use Rattle.std.specs.Prelude.{◌≡◌, false, ◌+◌, ◌≤◌, ◌<◌, length};
 ghost use Rattle.grid_steps.specs.Masks.{cut_bit};
 ghost use Rattle.row_runs.specs.Stretch.{walks_as, goes_on, Clear, Until, Stretch, StretchAsked};
 
 use crate::grid::CutGrid;
-use crate::tests::goes_on;
 use crate::words::first_unlike;
-use grid_steps::grid::SOUTH_BIT;
+use grid_steps::grid::{EAST_BIT, SOUTH_BIT};
 use grid_steps::{is_cut, is_walkable};
 
 // Whether a step from a cell of the row is cut. Of most rows none is.
@@ -33,11 +32,20 @@ fn alike_end(cells: &[u8], from: usize, end: usize, walkable: bool) -> usize
     ensures { Until (walks_as walkable cells.now) from end result }
 {
     let words = (end - from) / 8;
-    let found = (0..words).find_map(|k| first_unlike(cells, from + 8 * k, walkable));
-    match found {
-        Some(c) => c,
-        None => alike_rest(cells, from + 8 * words, end, walkable),
+    (0..words)
+        .find_map(|k| first_unlike(cells, from + 8 * k, walkable))
+        .unwrap_or_else(|| alike_rest(cells, from + 8 * words, end, walkable))
+}
+
+// Whether the run of the cell to the west has cell c: c is walkable, and the step to it is not cut.
+fn goes_on(grid: CutGrid, c: usize) -> bool
+    requires { (1 ≤ c) × (c < length grid.cells.now) × (c < length grid.masks.now) }
+    ensures { result ≡ goes_on grid.entry.cells.now grid.entry.masks.now c }
+{
+    if !is_walkable(grid.cells[c]) {
+        return false;
     }
+    !is_cut(grid.masks, c - 1, EAST_BIT)
 }
 
 // The first cell from `from` on that the run of the cell before `from` has not.

@@ -16,7 +16,7 @@ pub fn put_alike(list: &mut [u32], from: usize, end: usize, value: u32)
     list[from..end].fill(value);
 }
 
-pub fn put_run(parents: &mut [u32], from: usize, end: usize)
+fn put_run(parents: &mut [u32], from: usize, end: usize)
     requires { RunAsked parents.old from end }
     ensures { (n : ℕ) (name : ℕ → ℕ) →
         Forest n name parents.old →
@@ -28,7 +28,7 @@ pub fn put_run(parents: &mut [u32], from: usize, end: usize)
 }
 
 // A gap's cells stay alone.
-pub fn put_stretch(cells: &[u8], parents: &mut [u32], from: usize, end: usize)
+fn put_stretch(cells: &[u8], parents: &mut [u32], from: usize, end: usize)
     requires { PutAsked cells.now parents.old from end }
     ensures { (n : ℕ) (name : ℕ → ℕ) →
         Forest n name parents.old →

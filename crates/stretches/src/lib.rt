@@ -1,5 +1,5 @@
-// Along the stretches of a map: at the first cell of a stretch the queue has where it ends, and all its cells have one label. The record of a region with the cells
-// of a stretch added.
+// Along the stretches of a map: at the first cell of a stretch the queue has where it ends, and all its cells have one label. The record of a region with the
+// cells of a stretch added.
 
 #![tactic(auto)]
 
@@ -37,5 +37,5 @@ pub fn with_stretch(region: Region, width: usize, cells: &[u8], from: usize, end
         Adding M width cells.now from end id (record_of region) →
         record_of result ≡ region_up_to M (labels M) id end }
 {
-    region.with_run(from % width, from / width, cells, from, end)
+    region.with_run(from % width, from / width, &cells[from..end])
 }

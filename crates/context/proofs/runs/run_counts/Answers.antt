@@ -12,8 +12,7 @@ product n (suc (suc r)) h = absurd (omega arith)
 
 pub loop-alike-init : goal.loop-alike-init
 loop-alike-init c =
-    counting-starts _ _ _ (omega (arith, c.requires.some)) c.requires.inside
-    (ap (λ i. i.rest.now) c.into_iter-alike-iterator.ensures.into_iter_gives ∙ c.chunk_by-alike-items.ensures.rest)
+    counting-starts _ (ap (λ i. i.rest.now) c.into_iter-alike-iterator.ensures.into_iter_gives ∙ c.chunk_by-alike-items.ensures.rest)
 
 pub overflow_add-ramps : goal.overflow_add-ramps
 overflow_add-ramps c =

@@ -1,5 +1,5 @@
 -- `row_runs::row::alike_end` meets its contract: the first word that has one, or the cells behind the words. Assumes nothing.
-use Rattle.std.proofs.Common.{rules, tests, arith, ℕ, ◌+◌, ◌-◌, ◌*◌, ◌/◌, ◌≤◌, ◌<◌, Bool, subst}
+use Rattle.std.proofs.Common.{rules, tests, arith, ℕ, ◌+◌, ◌-◌, ◌*◌, ◌/◌, ◌≤◌, ◌<◌, Bool, ◌≡◌, sym, subst}
 use Rattle.std.specs.Prelude.{Option, None, Some, MatchOption}
 use Rattle.row_runs.specs.Stretch.{Until, walks_as}
 use Rattle.row_runs.specs.Words.{FirstOfEight}
@@ -21,16 +21,13 @@ module _ (test : ℕ → Bool) (from end : ℕ) (order : from ≤ end) where
   found_is None all = passing_eights ((end - from) / 8) (omega arith) (λ k l. all k (omega arith) l)
   found_is (Some y) (i, low, high, hit, before) = passing-stops_on (passing_eights i (omega arith) (λ k l. before k (omega arith) l)) (omega arith) hit.0 hit.1
 
-pub returns-in-Some : goal.returns-in-Some
-returns-in-Some c =
-    let a = c.args in
-    let test : ℕ → Bool = walks_as a.walkable a.cells.now in
-    let first = first_given_from_Range _ _ (λ x r q k. search (rules, tests)) (λ k. Word test a.from a.end c.requires.0 k None) (λ k r. Word test a.from a.end c.requires.0 k (Some r)) (λ x k. search (rules, tests)) (λ x y k. search (rules, tests)) c.find_map-found.result c.find_map-found.ensures.runs in
-    subst (Found test a.from a.end c.requires.0) c.in-Some.is (found_is test a.from a.end c.requires.0 c.find_map-found.result first)
+  ends : (r : Option ℕ) (e : ℕ) {Rest : Type 0} → (Rest → Until test (from + 8 * ((end - from) / 8)) end e) → Found r → MatchOption r Rest (λ y. e ≡ y) → Until test from end e
+  ends None e rest found h = passing-ends_on found (rest h)
+  ends (Some y) e rest found h = subst (Until test from end) (sym h) found
 
-pub returns-in-None : goal.returns-in-None
-returns-in-None c =
+pub returns : goal.returns
+returns c =
     let a = c.args in
     let test : ℕ → Bool = walks_as a.walkable a.cells.now in
-    let first = first_given_from_Range _ _ (λ x r q k. search (rules, tests)) (λ k. Word test a.from a.end c.requires.0 k None) (λ k r. Word test a.from a.end c.requires.0 k (Some r)) (λ x k. search (rules, tests)) (λ x y k. search (rules, tests)) c.find_map-found.result c.find_map-found.ensures.runs in
-    passing-ends_on (subst (Found test a.from a.end c.requires.0) c.in-None.is (found_is test a.from a.end c.requires.0 c.find_map-found.result first)) c.alike_rest.ensures
+    let first = first_given_from_Range _ _ (λ x r q k. search (rules, tests)) (λ k. Word test a.from a.end c.requires.0 k None) (λ k r. Word test a.from a.end c.requires.0 k (Some r)) (λ x k. search (rules, tests)) (λ x y k. search (rules, tests)) c.find_map.result c.find_map.ensures.runs in
+    ends test a.from a.end c.requires.0 c.find_map.result c.unwrap_or_else.result (λ k. search (rules, tests)) (found_is test a.from a.end c.requires.0 c.find_map.result first) c.unwrap_or_else.ensures

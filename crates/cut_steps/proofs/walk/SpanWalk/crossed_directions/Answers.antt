@@ -1,4 +1,4 @@
--- `cell::crossed_directions` meets its contract: of the steps that change sides those that are there (`crossed-cell`). Assumes nothing.
+-- `SpanWalk::crossed_directions` meets its contract: of the steps that change sides those that are there (`crossed-cell`). Assumes nothing.
 use native.Mathlib.Omega.{arith}
 use mathlib.Core.Path.{refl, sym, ◌∙◌}
 use borrow.Author.Tests.{not-true, not-false}
@@ -8,13 +8,13 @@ use Rattle.grid_steps.specs.Walk.{grid_of}
 use Rattle.cut_steps.proofs.Onward.{no_step, no_bits}
 use Rattle.cut_steps.proofs.Changes.{crossed-cell}
 use Rattle.cut_steps.proofs.Steps.{in_grid_of}
-use Rattle.cut_steps.proofs.cell.crossed_directions.Goals as goal
+use Rattle.cut_steps.proofs.walk.SpanWalk.crossed_directions.Goals as goal
 
 pub returns-then-not-is_walkable : goal.returns-then-not-is_walkable
 returns-then-not-is_walkable c =
     let a = c.args in
-    let M = grid_of a.grid.width a.grid.height a.grid.cells.now in
-    record { small = omega arith; bits = no_bits M (segment_of a.g) (at a.cell.x a.cell.y) (no_step M (segment_of a.g) (at a.cell.x a.cell.y) (sym c.is_walkable.ensures ∙ not-true _ c.if-not-is_walkable.true-raw)) }
+    let M = grid_of a.self.grid.width a.self.grid.height a.self.grid.cells.now in
+    record { small = omega arith; bits = no_bits M (segment_of a.self.g) (at a.cell.x a.cell.y) (no_step M (segment_of a.self.g) (at a.cell.x a.cell.y) (sym c.is_walkable.ensures ∙ not-true _ c.if-not-is_walkable.true-raw)) }
 
 pub steps_onward-requires : goal.steps_onward-requires
 steps_onward-requires c = (in_grid_of c.requires.asked, sym c.is_walkable.ensures ∙ not-false _ c.if-not-is_walkable.false-raw)

@@ -1,10 +1,10 @@
--- `cell::is_cut_east` meets its contract: of a cell that is far the step is not cut, and else `is_cut_onward` decides. Assumes nothing.
+-- `SpanWalk::is_cut_east` meets its contract: of a cell that is far the step is not cut, and else `is_cut_onward` decides. Assumes nothing.
 use Rattle.definitions.specs.Grid.{at}
 use Rattle.span_geometry.specs.Shapes.{segment_of}
 use Rattle.grid_steps.specs.Walk.{grid_of}
 use Rattle.cut_steps.proofs.Onward.{clear_of}
 use Rattle.cut_steps.proofs.Cells.{in_limits}
-use Rattle.cut_steps.proofs.cell.is_cut_east.Goals as goal
+use Rattle.cut_steps.proofs.walk.SpanWalk.is_cut_east.Goals as goal
 
 pub is_far_eastward-requires : goal.is_far_eastward-requires
 is_far_eastward-requires c = in_limits c.requires.asked.cell
@@ -12,7 +12,7 @@ is_far_eastward-requires c = in_limits c.requires.asked.cell
 pub returns-then-is_far_eastward : goal.returns-then-is_far_eastward
 returns-then-is_far_eastward c =
     let a = c.args in
-    clear_of (grid_of a.grid.width a.grid.height a.grid.cells.now) (segment_of a.g) (at a.cell.x a.cell.y) (at 2 1) (c.is_far_eastward.ensures c.if-is_far_eastward.true)
+    clear_of (grid_of a.self.grid.width a.self.grid.height a.self.grid.cells.now) (segment_of a.self.g) (at a.cell.x a.cell.y) (at 2 1) (c.is_far_eastward.ensures c.if-is_far_eastward.true)
 
 pub is_cut_onward-requires : goal.is_cut_onward-requires
 is_cut_onward-requires c = c.requires

@@ -1,4 +1,4 @@
--- `cell::is_near` meets its contract: a cell that is not walkable has no step, of a cell that is far no step is cut, and without the cell to the south only the step
+-- `SpanWalk::is_near` meets its contract: a cell that is not walkable has no step, of a cell that is far no step is cut, and without the cell to the south only the step
 -- east is left. Assumes nothing.
 use mathlib.Core.Path.{sym, ◌∙◌}
 use mathlib.Core.Bool.{true≢false, false≢true}
@@ -6,7 +6,7 @@ use borrow.Author.Tests.{not-true, not-false}
 use Rattle.span_geometry.specs.Shapes.{segment_of}
 use Rattle.cut_steps.proofs.Cells.{in_limits, no_directions, far-directions, east-directions}
 use Rattle.cut_steps.proofs.Steps.{in_grid_of}
-use Rattle.cut_steps.proofs.cell.is_near.Goals as goal
+use Rattle.cut_steps.proofs.walk.SpanWalk.is_near.Goals as goal
 
 pub is_walkable-requires : goal.is_walkable-requires
 is_walkable-requires c = in_grid_of c.requires
@@ -14,7 +14,7 @@ is_walkable-requires c = in_grid_of c.requires
 pub returns-then-not-is_walkable : goal.returns-then-not-is_walkable
 returns-then-not-is_walkable c =
     let a = c.args in
-    record { where_true = λ e. absurd (false≢true e); where_false = λ e. no_directions a.grid.width a.grid.height a.grid.cells.now (segment_of a.g) a.cell.x a.cell.y (sym c.is_walkable.ensures ∙ not-true _ c.if-not-is_walkable.true-raw) }
+    record { where_true = λ e. absurd (false≢true e); where_false = λ e. no_directions a.self.grid.width a.self.grid.height a.self.grid.cells.now (segment_of a.self.g) a.cell.x a.cell.y (sym c.is_walkable.ensures ∙ not-true _ c.if-not-is_walkable.true-raw) }
 
 pub is_far-requires : goal.is_far-requires
 is_far-requires c = in_limits c.requires
@@ -22,7 +22,7 @@ is_far-requires c = in_limits c.requires
 pub returns-then-is_far : goal.returns-then-is_far
 returns-then-is_far c =
     let a = c.args in
-    record { where_true = λ e. absurd (false≢true e); where_false = λ e. far-directions a.grid.width a.grid.height a.grid.cells.now (segment_of a.g) a.cell.x a.cell.y (c.is_far.ensures c.if-is_far.true) }
+    record { where_true = λ e. absurd (false≢true e); where_false = λ e. far-directions a.self.grid.width a.self.grid.height a.self.grid.cells.now (segment_of a.self.g) a.cell.x a.cell.y (c.is_far.ensures c.if-is_far.true) }
 
 pub walks_south-requires : goal.walks_south-requires
 walks_south-requires c = in_grid_of c.requires
@@ -40,5 +40,5 @@ returns c =
     let a = c.args in
     record {
       where_true = λ e. sym c.is_walkable.ensures ∙ not-false _ c.if-not-is_walkable.false-raw;
-      where_false = λ e. east-directions a.grid.width a.grid.height a.grid.cells.now (segment_of a.g) a.cell.x a.cell.y (sym c.walks_south.ensures ∙ c.if-walks_south.false) (c.is_far_eastward.ensures (not-false _ e));
+      where_false = λ e. east-directions a.self.grid.width a.self.grid.height a.self.grid.cells.now (segment_of a.self.g) a.cell.x a.cell.y (sym c.walks_south.ensures ∙ c.if-walks_south.false) (c.is_far_eastward.ensures (not-false _ e));
     }

@@ -1,8 +1,8 @@
--- `cell::cut_directions` meets its contract: the four calls give the four bits. Assumes nothing.
+-- `SpanWalk::cut_directions` meets its contract: the four calls give the four bits. Assumes nothing.
 use native.Mathlib.Omega.{arith}
 use Rattle.span_geometry.specs.Shapes.{segment_of}
 use Rattle.cut_steps.proofs.Cells.{onward-asked, four-directions}
-use Rattle.cut_steps.proofs.cell.cut_directions.Goals as goal
+use Rattle.cut_steps.proofs.walk.SpanWalk.cut_directions.Goals as goal
 
 pub is_cut_east-requires : goal.is_cut_east-requires
 is_cut_east-requires c = record { asked = onward-asked c.requires.asked 2 1 (omega arith) (omega arith) (omega arith) c.requires.walkable_cell; inner_cell = c.is_inner-inner.ensures }
@@ -19,4 +19,4 @@ is_cut_onward-requires-3 c = record { asked = onward-asked c.requires.asked 2 2 
 pub returns : goal.returns
 returns c =
     let a = c.args in
-    four-directions a.grid.width a.grid.height a.grid.cells.now (segment_of a.g) a.cell.x a.cell.y c.is_cut_east.ensures c.is_cut_onward.ensures c.is_cut_onward-2.ensures c.is_cut_onward-3.ensures c.onward_mask.ensures
+    four-directions a.self.grid.width a.self.grid.height a.self.grid.cells.now (segment_of a.self.g) a.cell.x a.cell.y c.is_cut_east.ensures c.is_cut_onward.ensures c.is_cut_onward-2.ensures c.is_cut_onward-3.ensures c.onward_mask.ensures
