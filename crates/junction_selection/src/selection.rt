@@ -14,12 +14,12 @@ use junction_proposals::proposals::{Candidate, MAX_PROPOSALS};
 // Whether row p reserves boundary j as a port.
 pub fn reserves(found: &FoundRows, p: usize, j: usize) -> bool
     requires { (p < length found.now.rows.now) × (j < 256) }
-    ensures { result ≡ reserves_at found.now.full.now (row_at found.now.rows.now p) j }
+    ensures { result ≡ reserves_at found.now.lists.now.full.now (row_at found.now.rows.now p) j }
 {
     let row = found.rows[p];
     let union = row.kind.is_union();
-    let first = names_region(found.full[j], row.first);
-    let second = names_region(found.full[j], row.second);
+    let first = names_region(found.lists.full[j], row.first);
+    let second = names_region(found.lists.full[j], row.second);
     (first | (union & second)) & !(union & (j == row.index))
 }
 
@@ -53,13 +53,13 @@ fn region_taken(rows: &[Candidate], taken: &[u32], p: usize) -> bool
 
 // Marks the ports of row p.
 fn reserve_ports(found: &FoundRows, reserved: &mut [bool], p: usize)
-    requires { (p < length found.now.rows.now) × ((found.now.count ≤ 256) × (found.now.count ≤ length reserved.old)) }
+    requires { (p < length found.now.rows.now) × ((found.now.lists.now.count ≤ 256) × (found.now.lists.now.count ≤ length reserved.old)) }
     ensures { (j : ℕ) →
-        j < found.now.count →
+        j < found.now.lists.now.count →
         get_or reserved.new j false
-        ≡ (get_or reserved.old j false || reserves_at found.now.full.now (row_at found.now.rows.now p) j) }
+        ≡ (get_or reserved.old j false || reserves_at found.now.lists.now.full.now (row_at found.now.rows.now p) j) }
 {
-    for j in 0..found.count {
+    for j in 0..found.lists.count {
         reserved[j] |= reserves(found, p, j);
     }
 }
@@ -76,22 +76,22 @@ struct Selection<'a> {
 impl Selection<'_> {
     // Whether a port of row p is removed or reserved.
     fn port_taken(&self, found: &FoundRows, p: usize) -> bool
-        requires { Within found.now.rows.now self.now.removed.now self.now.reserved found.now.count p }
-        ensures { result ≡ any_below_lem found.now.count (λ j. reserves_at found.now.full.now (row_at found.now.rows.now p) j
+        requires { Within found.now.rows.now self.now.removed.now self.now.reserved found.now.lists.now.count p }
+        ensures { result ≡ any_below_lem found.now.lists.now.count (λ j. reserves_at found.now.lists.now.full.now (row_at found.now.rows.now p) j
             && (get_or self.now.removed.now j false || get_or self.now.reserved j false)) }
     {
-        (0..found.count).any(|j| (self.removed[j] | self.reserved[j]) & reserves(found, p, j))
+        (0..found.lists.count).any(|j| (self.removed[j] | self.reserved[j]) & reserves(found, p, j))
     }
 
     // Whether a taken row conflicts with row p.
     fn refuses(&self, found: &FoundRows, p: usize) -> bool
-        requires selecting { Selecting found.now.rows.now self.now.taken self.now.removed.now self.now.reserved found.now.count found.now.n }
-        requires places { (self.now.count ≤ found.now.n) × (p < found.now.n) }
-        requires listed { Rows self.now.taken self.now.count found.now.n }
+        requires selecting { Selecting found.now.rows.now self.now.taken self.now.removed.now self.now.reserved found.now.lists.now.count (length found.now.rows.now) }
+        requires places { (self.now.count ≤ (length found.now.rows.now)) × (p < (length found.now.rows.now)) }
+        requires listed { Rows self.now.taken self.now.count (length found.now.rows.now) }
         ensures { (chosen : List Proposal) →
-            Standing found.now.full.now found.now.rows.now self.now.taken self.now.removed.now self.now.reserved
-            found.now.count found.now.n self.now.count chosen →
-            result ≡ any (λ q. conflict_at found.now.full.now found.now.count q (row_at found.now.rows.now p)) chosen }
+            Standing found.now.lists.now.full.now found.now.rows.now self.now.taken self.now.removed.now self.now.reserved
+            found.now.lists.now.count (length found.now.rows.now) self.now.count chosen →
+            result ≡ any (λ q. conflict_at found.now.lists.now.full.now found.now.lists.now.count q (row_at found.now.rows.now p)) chosen }
     {
         let own = self.reserved[found.rows[p].index];
         let ports = self.port_taken(found, p);
@@ -100,17 +100,17 @@ impl Selection<'_> {
 
     // Takes row p, unless a taken row conflicts with it.
     fn take_if_free(&mut self, found: &FoundRows, p: usize)
-        requires selecting { Selecting found.now.rows.now self.old.taken self.old.removed.now self.old.reserved found.now.count found.now.n }
-        requires places { (self.old.count < found.now.n) × (p < found.now.n) }
-        requires listed { Rows self.old.taken self.old.count found.now.n }
+        requires selecting { Selecting found.now.rows.now self.old.taken self.old.removed.now self.old.reserved found.now.lists.now.count (length found.now.rows.now) }
+        requires places { (self.old.count < (length found.now.rows.now)) × (p < (length found.now.rows.now)) }
+        requires listed { Rows self.old.taken self.old.count (length found.now.rows.now) }
         ensures same_removed { self.new.removed.ghost_name ≡ self.old.removed.ghost_name }
-        ensures selecting { Selecting found.now.rows.now self.new.taken self.new.removed.now self.new.reserved found.now.count found.now.n }
+        ensures selecting { Selecting found.now.rows.now self.new.taken self.new.removed.now self.new.reserved found.now.lists.now.count (length found.now.rows.now) }
         ensures standing { (chosen : List Proposal) →
-            Standing found.now.full.now found.now.rows.now self.old.taken self.old.removed.now self.old.reserved
-            found.now.count found.now.n self.old.count chosen →
-            Standing found.now.full.now found.now.rows.now
-            self.new.taken self.new.removed.now self.new.reserved found.now.count found.now.n self.new.count
-            (cond (any (λ q. conflict_at found.now.full.now found.now.count q (row_at found.now.rows.now p)) chosen) chosen
+            Standing found.now.lists.now.full.now found.now.rows.now self.old.taken self.old.removed.now self.old.reserved
+            found.now.lists.now.count (length found.now.rows.now) self.old.count chosen →
+            Standing found.now.lists.now.full.now found.now.rows.now
+            self.new.taken self.new.removed.now self.new.reserved found.now.lists.now.count (length found.now.rows.now) self.new.count
+            (cond (any (λ q. conflict_at found.now.lists.now.full.now found.now.lists.now.count q (row_at found.now.rows.now p)) chosen) chosen
             (chosen ++ (row_at found.now.rows.now p ∷ []))) }
         ensures bound { self.new.count ≤ self.old.count + 1 }
     {
@@ -126,14 +126,14 @@ impl Selection<'_> {
 
 // Takes the rows that the order names, one after the other, where they are free, and marks their boundaries.
 fn select_ranked(found: &FoundRows, order: &[u32], removed: &mut [bool])
-    requires selectable { Selectable found.now.rows.now removed.old found.now.count found.now.n }
-    requires few { length order.now ≤ found.now.n }
-    requires listed { Rows order.now (length order.now) found.now.n }
-    requires removed_clear { (j : ℕ) → j < found.now.count → get_or removed.old j false ≡ false }
+    requires selectable { Selectable found.now.rows.now removed.old found.now.lists.now.count (length found.now.rows.now) }
+    requires few { length order.now ≤ (length found.now.rows.now) }
+    requires listed { Rows order.now (length order.now) (length found.now.rows.now) }
+    requires removed_clear { (j : ℕ) → j < found.now.lists.now.count → get_or removed.old j false ≡ false }
     ensures { (j : ℕ) →
-        j < found.now.count →
+        j < found.now.lists.now.count →
         get_or removed.new j false
-        ≡ any (λ q. eqb j q.index) (selected_of found.now.full.now found.now.rows.now order.now found.now.count (length order.now)) }
+        ≡ any (λ q. eqb j q.index) (selected_of found.now.lists.now.full.now found.now.rows.now order.now found.now.lists.now.count (length order.now)) }
 {
     let mut selection = Selection {
         removed,
@@ -148,11 +148,11 @@ fn select_ranked(found: &FoundRows, order: &[u32], removed: &mut [bool])
 
 // Marks the boundaries of the proposals that the greedy selection takes, of the rows that are allowed.
 pub fn select_proposals(found: &FoundRows, verdicts: &[bool], removed: &mut [bool])
-    requires { Judged found.now.boundaries.now found.now.rows.now verdicts.now removed.old found.now.count found.now.n }
+    requires { Judged found.now.lists.now.boundaries.now found.now.rows.now verdicts.now removed.old found.now.lists.now.count (length found.now.rows.now) }
     ensures { (j : ℕ) →
-        j < found.now.count →
+        j < found.now.lists.now.count →
         get_or removed.new j false
-        ≡ removed_at found.now.boundaries.now found.now.full.now found.now.rows.now verdicts.now found.now.count found.now.n j }
+        ≡ removed_at found.now.lists.now.boundaries.now found.now.lists.now.full.now found.now.rows.now verdicts.now found.now.lists.now.count (length found.now.rows.now) j }
 {
     let mut order = [0u32; MAX_PROPOSALS];
     let m = rank_proposals(found, verdicts, &mut order);

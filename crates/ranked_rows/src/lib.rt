@@ -22,17 +22,17 @@ pub const NUMBERS_PER_RANKED: usize = 6;
 
 // Whether some boundary is a port of both rows.
 fn share_port(found: &FoundRows, q: usize, p: usize) -> bool
-    requires { TwoRows found.now.rows.now found.now.count q p }
-    ensures { result ≡ any_below_lem found.now.count (λ j. reserves_at found.now.full.now (row_at found.now.rows.now p) j
-        && reserves_at found.now.full.now (row_at found.now.rows.now q) j) }
+    requires { TwoRows found.now.rows.now found.now.lists.now.count q p }
+    ensures { result ≡ any_below_lem found.now.lists.now.count (λ j. reserves_at found.now.lists.now.full.now (row_at found.now.rows.now p) j
+        && reserves_at found.now.lists.now.full.now (row_at found.now.rows.now q) j) }
 {
-    (0..found.count).any(|j| reserves(found, p, j) & reserves(found, q, j))
+    (0..found.lists.count).any(|j| reserves(found, p, j) & reserves(found, q, j))
 }
 
 // Whether row q, taken, keeps row p from being taken.
 fn conflicts(found: &FoundRows, q: usize, p: usize) -> bool
-    requires { TwoRows found.now.rows.now found.now.count q p }
-    ensures { result ≡ conflict_at found.now.full.now found.now.count (row_at found.now.rows.now q) (row_at found.now.rows.now p) }
+    requires { TwoRows found.now.rows.now found.now.lists.now.count q p }
+    ensures { result ≡ conflict_at found.now.lists.now.full.now found.now.lists.now.count (row_at found.now.rows.now q) (row_at found.now.rows.now p) }
 {
     let i = found.rows[q].index;
     let j = found.rows[p].index;
@@ -44,8 +44,8 @@ fn conflicts(found: &FoundRows, q: usize, p: usize) -> bool
 // Whether the row of rank r was taken and conflicts with row p.
 fn blocks(found: &FoundRows, order: &[u32], listed: &[u32], r: usize, p: usize) -> bool
     requires room { (r < length order.now) × (numbers_per_ranked * r + 5 < length listed.now) }
-    requires two_rows { TwoRows found.now.rows.now found.now.count (get_or order.now r 0) p }
-    ensures { result ≡ blocks_at found.now.full.now found.now.count found.now.rows.now order.now listed.now p r }
+    requires two_rows { TwoRows found.now.rows.now found.now.lists.now.count (get_or order.now r 0) p }
+    ensures { result ≡ blocks_at found.now.lists.now.full.now found.now.lists.now.count found.now.rows.now order.now listed.now p r }
 {
     if listed[NUMBERS_PER_RANKED * r + 4] != 1 {
         return false;
@@ -55,9 +55,9 @@ fn blocks(found: &FoundRows, order: &[u32], listed: &[u32], r: usize, p: usize) 
 
 // The first rank below k that was taken and conflicts with row p.
 fn refused_by(found: &FoundRows, order: &[u32], listed: &[u32], k: usize, p: usize) -> Option<usize>
-    requires listing { Listing found.now.rows.now order.now listed.now found.now.count found.now.n }
-    requires rank { RankOf order.now found.now.n k p }
-    ensures first { FirstIn (blocks_at found.now.full.now found.now.count found.now.rows.now order.now listed.now p)
+    requires listing { Listing found.now.rows.now order.now listed.now found.now.lists.now.count (length found.now.rows.now) }
+    requires rank { RankOf order.now (length found.now.rows.now) k p }
+    ensures first { FirstIn (blocks_at found.now.lists.now.full.now found.now.lists.now.count found.now.rows.now order.now listed.now p)
         0 k result }
     ensures bound { IfSome result (λ r. r < k) }
 {
@@ -86,9 +86,9 @@ fn put_ranked(rows: &[Candidate], listed: &mut [u32], k: usize, p: usize, by: Op
 
 // Judges row p, of rank k, and writes it.
 fn list_row(found: &FoundRows, order: &[u32], listed: &mut [u32], k: usize, p: usize)
-    requires listing { Listing found.now.rows.now order.now listed.old found.now.count found.now.n }
-    requires rank { RankOf order.now found.now.n k p }
-    ensures { Following found.now.full.now found.now.count found.now.rows.now order.now k p
+    requires listing { Listing found.now.rows.now order.now listed.old found.now.lists.now.count (length found.now.rows.now) }
+    requires rank { RankOf order.now (length found.now.rows.now) k p }
+    ensures { Following found.now.lists.now.full.now found.now.lists.now.count found.now.rows.now order.now k p
         listed.old listed.new }
 {
     let by = refused_by(found, order, listed, k, p);
@@ -97,10 +97,10 @@ fn list_row(found: &FoundRows, order: &[u32], listed: &mut [u32], k: usize, p: u
 
 // Writes the rows that the order names, by rank.
 fn list_in_order(found: &FoundRows, order: &[u32], listed: &mut [u32])
-    requires listing { Listing found.now.rows.now order.now listed.old found.now.count found.now.n }
-    requires rows { Rows order.now (length order.now) found.now.n }
+    requires listing { Listing found.now.rows.now order.now listed.old found.now.lists.now.count (length found.now.rows.now) }
+    requires rows { Rows order.now (length order.now) (length found.now.rows.now) }
     ensures { listed.new
-        ≡ overwrite (flat_ranked (listed_from found.now.full.now found.now.count (order_of found.now.rows.now order.now (length order.now))))
+        ≡ overwrite (flat_ranked (listed_from found.now.lists.now.full.now found.now.lists.now.count (order_of found.now.rows.now order.now (length order.now))))
         listed.old }
 {
     for (k, &p) in order.iter().enumerate() {
@@ -110,12 +110,12 @@ fn list_in_order(found: &FoundRows, order: &[u32], listed: &mut [u32])
 
 // Lists the rows that are allowed, by rank, and says how many there are.
 pub fn list_ranked(found: &FoundRows, verdicts: &[bool], listed: &mut [u32]) -> usize
-    requires { Allowed found.now.boundaries.now found.now.rows.now verdicts.now listed.old found.now.count found.now.n }
-    ensures many { result ≡ length (allowed_list found.now.full.now found.now.count found.now.boundaries.now found.now.rows.now
-        verdicts.now found.now.n) }
+    requires { Allowed found.now.lists.now.boundaries.now found.now.rows.now verdicts.now listed.old found.now.lists.now.count (length found.now.rows.now) }
+    ensures many { result ≡ length (allowed_list found.now.lists.now.full.now found.now.lists.now.count found.now.lists.now.boundaries.now found.now.rows.now
+        verdicts.now (length found.now.rows.now)) }
     ensures list { listed.new
-        ≡ overwrite (flat_ranked (allowed_list found.now.full.now found.now.count found.now.boundaries.now found.now.rows.now
-        verdicts.now found.now.n)) listed.old }
+        ≡ overwrite (flat_ranked (allowed_list found.now.lists.now.full.now found.now.lists.now.count found.now.lists.now.boundaries.now found.now.rows.now
+        verdicts.now (length found.now.rows.now))) listed.old }
 {
     let mut order = [0u32; MAX_PROPOSALS];
     let m = rank_proposals(found, verdicts, &mut order);

@@ -13,11 +13,11 @@ use Rattle.ranked_rows.proofs.list_in_order.Goals as goal
 pub loop-k-init : goal.loop-k-init
 loop-k-init c =
     let a = c.args in
-    listed_none a.found.now.full.now a.found.now.rows.now a.order.now a.found.now.count (length a.order.now) a.listed.now
+    listed_none a.found.now.lists.now.full.now a.found.now.rows.now a.order.now a.found.now.lists.now.count (length a.order.now) a.listed.now
 
 pub list_row-requires : goal.list_row-requires
 list_row-requires c =
-    let asked : Listing c.args.found.now.rows.now c.args.order.now c.loop-k.listed c.args.found.now.count c.args.found.now.n = listing_of c.loop-k.listed c.requires.listing c.loop-k.invariant.long in
+    let asked : Listing c.args.found.now.rows.now c.args.order.now c.loop-k.listed c.args.found.now.lists.now.count (length c.args.found.now.rows.now) = listing_of c.loop-k.listed c.requires.listing c.loop-k.invariant.long in
     let rows_in = c.requires.rows in
     let k = c.loop-k.k in record {
       listing = asked;
@@ -40,4 +40,4 @@ returns c =
     let h = c.loop-k.invariant in
     let a = c.args in
     h.is
-    ∙ ap (λ k. overwrite (flat_ranked (listed_from a.found.now.full.now a.found.now.count (order_of a.found.now.rows.now a.order.now k))) a.listed.now) (le_antisymm h.upto c.loop-k-test.false)
+    ∙ ap (λ k. overwrite (flat_ranked (listed_from a.found.now.lists.now.full.now a.found.now.lists.now.count (order_of a.found.now.rows.now a.order.now k))) a.listed.now) (le_antisymm h.upto c.loop-k-test.false)

@@ -5,4 +5,4 @@ use Rattle.ranked_rows.proofs.list_in_order.Given as goal
 
 abbrev pub invariant-loop-k : goal.invariant-loop-k
 invariant-loop-k l =
-    ListedTo l.found.full.now l.found.rows.now l.order l.found.count (length l.order) l.initial.listed l.listed l.k
+    ListedTo l.found.lists.now.full.now l.found.rows.now l.order l.found.lists.now.count (length l.order) l.initial.listed l.listed l.k

@@ -29,6 +29,6 @@ returns c =
     let m = c.rank_proposals-m in
     let short : m.result ≤ length m.new.order = omega (arith, m.ensures.listed_then.1, c.requires.few, m.auto.order) in
     let front = order-front a.found.now.rows.now m.new.order m.result short in record {
-      many = listed-count a.found.now.full.now a.found.now.count a.found.now.rows.now _ m.result _ m.ensures.order;
-      list = c.list_in_order.ensures ∙ ap (λ all. overwrite (flat_ranked (listed_from a.found.now.full.now a.found.now.count all)) a.listed.now) (front ∙ m.ensures.order);
+      many = listed-count a.found.now.lists.now.full.now a.found.now.lists.now.count a.found.now.rows.now _ m.result _ m.ensures.order;
+      list = c.list_in_order.ensures ∙ ap (λ all. overwrite (flat_ranked (listed_from a.found.now.lists.now.full.now a.found.now.lists.now.count all)) a.listed.now) (front ∙ m.ensures.order);
     }

@@ -8,4 +8,4 @@ use Rattle.junction_selection.proofs.selection.reserve_ports.Given as goal
 
 abbrev pub invariant-loop-j : goal.invariant-loop-j
 invariant-loop-j l =
-    (l.j ≤ l.found.count) × Marked l.initial.reserved l.reserved (reserves_at l.found.full.now (row_at l.found.rows.now l.p)) l.j
+    (l.j ≤ l.found.lists.now.count) × Marked l.initial.reserved l.reserved (reserves_at l.found.lists.now.full.now (row_at l.found.rows.now l.p)) l.j
