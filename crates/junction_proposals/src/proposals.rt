@@ -38,7 +38,7 @@ impl Kind {
 // What is proposed: the boundary that would go, and the two regions of a union, or the pocket and the region beyond.
 #[derive(Clone, Copy)]
 pub struct Candidate {
-    pub index: usize,
+    pub index: u8,
     pub kind: Kind,
     pub first: u32,
     pub second: u32,
@@ -53,7 +53,7 @@ fn union_row(lists: &JunctionLists, i: usize) -> Option<Candidate>
     let union = lists.full[i]?;
     if is_union(lists, i) {
         Some(Candidate {
-            index: i,
+            index: i as u8,
             kind: Kind::Union,
             first: union.lo,
             second: union.hi,

@@ -2,35 +2,32 @@
 ghost use Rattle.std.specs.Prelude.{◌≡◌, false, ◌&&◌, ◌||◌, cond, List, [], ◌∷◌, ◌++◌, ℕ, ◌+◌, ◌*◌, ◌≤◌, ◌<◌, length, get_or, eqb};
 ghost use Rattle.definitions.specs.Scan.{any, any_below_lem};
 ghost use Rattle.definitions.specs.Junctions.{Proposal, region_conflict};
-ghost use Rattle.junction_proposals.specs.Rows.{row_at};
+ghost use Rattle.junction_proposals.specs.Rows.{form, row_at};
 ghost use Rattle.junction_selection.specs.Ranks.{order_of, reserves_at, conflict_at, selected_of, Rows};
 ghost use Rattle.junction_selection.specs.Taken.{Within, Selectable, Selecting, Standing, Judged, removed_at};
 
 use crate::found::FoundRows;
 use crate::ranks::rank_proposals;
+use context::pairs::Pair;
+use junction_proposals::lists::JunctionLists;
 use junction_proposals::ports::names_region;
 use junction_proposals::proposals::{Candidate, MAX_PROPOSALS};
 
-// Whether row p reserves boundary j as a port.
-pub fn reserves(found: &FoundRows, p: usize, j: usize) -> bool
-    requires { (p < length found.now.rows.now) × (j < 256) }
-    ensures { result ≡ reserves_at found.now.lists.now.full.now (row_at found.now.rows.now p) j }
+// Whether a row reserves boundary j as a port.
+pub fn reserves(full: &[Option<Pair>; 256], row: Candidate, j: usize) -> bool
+    requires { j < 256 }
+    ensures { result ≡ reserves_at full.now (form row) j }
 {
-    let row = found.rows[p];
     let union = row.kind.is_union();
-    let first = names_region(found.lists.full[j], row.first);
-    let second = names_region(found.lists.full[j], row.second);
-    (first | (union & second)) & !(union & (j == row.index))
+    let first = names_region(full[j], row.first);
+    let second = names_region(full[j], row.second);
+    (first | (union & second)) & !(union & (j == row.index as usize))
 }
 
-// Whether row q, taken, keeps row p from being taken by its regions: two bridges may share their exterior, and nothing else.
-pub fn region_conflict(rows: &[Candidate], q: usize, p: usize) -> bool
-    requires { (q < length rows.now) × (p < length rows.now) }
-    ensures { result ≡ region_conflict (row_at rows.now q).kind (row_at rows.now p).kind (row_at rows.now q)
-        (row_at rows.now p) }
+// Whether a taken row keeps another from being taken by its regions: two bridges may share their exterior, and nothing else.
+pub fn region_conflict(taken: Candidate, other: Candidate) -> bool
+    ensures { result ≡ region_conflict (form taken).kind (form other).kind (form taken) (form other) }
 {
-    let taken = rows[q];
-    let other = rows[p];
     let pockets = taken.first == other.first;
     let outward = taken.first == other.second;
     let inward = taken.second == other.first;
@@ -48,19 +45,21 @@ fn region_taken(rows: &[Candidate], taken: &[u32], p: usize) -> bool
     ensures { result ≡ any (λ q. region_conflict q.kind (row_at rows.now p).kind q (row_at rows.now p))
         (order_of rows.now taken.now (length taken.now)) }
 {
-    taken.iter().any(|&q| region_conflict(rows, q as usize, p))
+    taken
+        .iter()
+        .any(|&q| region_conflict(rows[q as usize], rows[p]))
 }
 
-// Marks the ports of row p.
-fn reserve_ports(found: &FoundRows, reserved: &mut [bool], p: usize)
-    requires { (p < length found.now.rows.now) × ((found.now.lists.now.count ≤ 256) × (found.now.lists.now.count ≤ length reserved.old)) }
+// Marks the ports of a row.
+fn reserve_ports(lists: &JunctionLists, reserved: &mut [bool; 256], row: Candidate)
+    requires { lists.now.count ≤ 256 }
     ensures { (j : ℕ) →
-        j < found.now.lists.now.count →
-        get_or reserved.new j false
-        ≡ (get_or reserved.old j false || reserves_at found.now.lists.now.full.now (row_at found.now.rows.now p) j) }
+        j < lists.now.count →
+        get_or reserved.new j false ≡ (get_or reserved.old j false || reserves_at lists.now.full.now (form row) j) }
 {
-    for j in 0..found.lists.count {
-        reserved[j] |= reserves(found, p, j);
+    // Kept: of what `iter_mut().enumerate()` lends a proof knows nothing behind the loop.
+    for j in 0..lists.count {
+        reserved[j] |= reserves(lists.full, row, j);
     }
 }
 
@@ -80,7 +79,10 @@ impl Selection<'_> {
         ensures { result ≡ any_below_lem found.now.lists.now.count (λ j. reserves_at found.now.lists.now.full.now (row_at found.now.rows.now p) j
             && (get_or self.now.removed.now j false || get_or self.now.reserved j false)) }
     {
-        (0..found.lists.count).any(|j| (self.removed[j] | self.reserved[j]) & reserves(found, p, j))
+        let row = found.rows[p];
+        (0..found.lists.count).any(|j| {
+            (self.removed[j] | self.reserved[j]) & reserves(found.lists.full, row, j)
+        })
     }
 
     // Whether a taken row conflicts with row p.
@@ -93,7 +95,7 @@ impl Selection<'_> {
             found.now.lists.now.count (length found.now.rows.now) self.now.count chosen →
             result ≡ any (λ q. conflict_at found.now.lists.now.full.now found.now.lists.now.count q (row_at found.now.rows.now p)) chosen }
     {
-        let own = self.reserved[found.rows[p].index];
+        let own = self.reserved[found.rows[p].index as usize];
         let ports = self.port_taken(found, p);
         ports | own | region_taken(found.rows, &self.taken[..self.count], p)
     }
@@ -117,8 +119,9 @@ impl Selection<'_> {
         if self.refuses(found, p) {
             return;
         }
-        self.removed[found.rows[p].index] = true;
-        reserve_ports(found, &mut self.reserved, p);
+        let row = found.rows[p];
+        self.removed[row.index as usize] = true;
+        reserve_ports(found.lists, &mut self.reserved, row);
         self.taken[self.count] = p as u32;
         self.count += 1;
     }

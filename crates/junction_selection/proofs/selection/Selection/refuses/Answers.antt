@@ -10,10 +10,6 @@ use Rattle.junction_proposals.specs.Rows.{row_at}
 use Rattle.junction_selection.proofs.Standings.{refused, order-front, rows-front}
 use Rattle.junction_selection.proofs.selection.Selection.refuses.Goals as goal
 
-pub bounds-self-found : goal.bounds-self-found
-bounds-self-found c =
-    omega (arith, c.requires.selecting.below c.args.p c.requires.places.1, c.requires.selecting.reserved_long)
-
 pub port_taken-ports-requires : goal.port_taken-ports-requires
 port_taken-ports-requires c =
     let h = c.requires.selecting in

@@ -1,5 +1,6 @@
 -- `junction_selection::selection::Selection::take_if_free` meets its contract, from what its callees ensure. Assumes nothing.
 use native.Mathlib.Omega.{arith}
+use borrow.Author.Rules.{rules}
 use mathlib.Core.Path.{refl}
 use lib.ListN.{length, length-set}
 use Rattle.junction_selection.proofs.Lists.{selecting_of}
@@ -18,10 +19,6 @@ pub returns-then-refuses-clause-standing : goal.returns-then-refuses-clause-stan
 returns-then-refuses-clause-standing c =
     λ chosen st. standing-kept c.args.found.now.lists.now.full.now c.args.found.now.rows.now c.args.self.now.taken c.args.self.now.removed.now c.args.self.now.reserved c.args.found.now.lists.now.count (length c.args.found.now.rows.now) c.args.self.now.count chosen st c.args.p (c.refuses.ensures chosen st) c.if-refuses.true
 
-pub reserve_ports-requires : goal.reserve_ports-requires
-reserve_ports-requires c =
-    (omega (arith, c.requires.selecting.whole, c.requires.places), (c.requires.selecting.small, c.requires.selecting.reserved_long))
-
 pub returns-clause-standing : goal.returns-clause-standing
 returns-clause-standing c =
     λ chosen st.
@@ -30,4 +27,4 @@ returns-clause-standing c =
 
 pub returns-clause-selecting : goal.returns-clause-selecting
 returns-clause-selecting c =
-    selecting_of _ _ _ c.requires.selecting (length-set _ _ _) c.reserve_ports.auto.reserved (length-set _ _ _)
+    selecting_of _ _ c.reserve_ports.new.reserved c.requires.selecting (length-set _ _ _) (search rules) (length-set _ _ _)
