@@ -1,8 +1,10 @@
--- `ranked_rows::list_in_order` meets its contract. The loop's invariant: the rows of the first k ranks are written (`ListedTo`). Assumes nothing.
+-- `ranked_rows::list_in_order` meets its contract. The loop's invariant: the rows of the first k ranks are listed (`ListedTo`). Assumes nothing.
+use Prim.Native.Nat.{◌≤◌}
+use mathlib.Core.Path.{◌≡◌}
 use lib.ListN.{length}
 use Rattle.ranked_rows.proofs.Following.{ListedTo}
 use Rattle.ranked_rows.proofs.list_in_order.Given as goal
 
 abbrev pub invariant-loop-k : goal.invariant-loop-k
 invariant-loop-k l =
-    ListedTo l.found.lists.now.full.now l.found.rows.now l.order l.found.lists.now.count (length l.order) l.initial.listed l.listed l.k
+    (l.k ≤ length l.order) × (length l.listed ≡ length l.initial.listed) × ListedTo l.found.lists.now.full.now l.found.lists.now.count l.found.rows.now l.order l.listed l.k
