@@ -6,9 +6,9 @@ use mathlib.Core.Path.{◌≡◌, refl, sym, ap, ap₂, ◌∙◌}
 use mathlib.Core.Bool.{Bool}
 use Rattle.std.specs.Prelude.{Option, None, Some}
 use mathlib.Core.List.{List, [], ◌∷◌, ◌++◌, map}
-use lib.ListN.{length, get_or, set, take, length-append, length-map, get_or-map}
-use Rattle.std.proofs.lemmas.List.{map-append}
-use lib.Seq.{take-suc-set}
+use lib.ListN.{length, get_or, set, take, drop, length-append, length-map, get_or-map}
+use Rattle.std.proofs.lemmas.List.{map-append, drop-set-lt}
+use lib.Seq.{take-suc-set, drop-drop}
 use Rattle.definitions.specs.Scan.{collect}
 use Rattle.definitions.specs.Junctions.{Proposal}
 use Rattle.junction_proposals.specs.declared.proposals.Candidate.{Candidate}
@@ -18,7 +18,7 @@ use Rattle.junction_selection.specs.Ranks.{order_of, conflict_at}
 use Rattle.ranked_list.specs.RankedList.{Listed, blocks, judged, judged_after}
 use Rattle.ranked_list.proofs.RankedLaws.{judged-length}
 use Rattle.ranked_rows.specs.declared.RankedRow.{RankedRow}
-use Rattle.ranked_rows.specs.Contract.{ranked_form, no_row, row_of, listed_from, blocks_at}
+use Rattle.ranked_rows.specs.Contract.{listed_form, no_row, row_of, listed_from, blocks_at}
 use Rattle.ranked_rows.proofs.Judging.{judged_more, row_listed}
 use Rattle.region_pairs.specs.declared.Pair as declared
 
@@ -53,7 +53,7 @@ module _ (full : List (Option declared.Pair)) (count : ℕ) where
 
   -- the rows of the first k ranks are listed
   abbrev pub ListedTo : List Candidate → List ℕ → List RankedRow → ℕ → Type 0
-  ListedTo rows order listed k = map ranked_form (take k listed) ≡ listed_from full count (order_of rows order k)
+  ListedTo rows order listed k = map listed_form (take k listed) ≡ listed_from full count (order_of rows order k)
 
   pub listed_none : (rows : List Candidate) (order : List ℕ) (listed : List RankedRow) → ListedTo rows order listed 0
   unfolding listed_from order_of judged_after collect
@@ -63,29 +63,26 @@ module _ (full : List (Option declared.Pair)) (count : ℕ) where
       → form p ≡ row_at rows (get_or order k 0) → FirstIn (λ r. blocks_at full count p (row_of (take k listed) r)) 0 (length (take k listed)) found
       → ListedTo rows order (set listed k (record { candidate = p; refused_by = found })) (k + 1)
   listed_more rows order listed k p found h l e first =
-      ap (λ n. map ranked_form (take n (set listed k row))) (add-one k)
-      ∙ ap (map ranked_form) (take-suc-set listed k row l)
-      ∙ map-append ranked_form (take k listed) (row ∷ [])
-      ∙ ap₂ (λ x y. x ++ (y ∷ [])) h (row_listed clash before p found (ranked_form no_row) (alike held (sym (length-map (take k listed) ranked_form)) found first) ∙ ap (λ b. judged clash b (form p)) h)
+      ap (λ n. map listed_form (take n (set listed k row))) (add-one k)
+      ∙ ap (map listed_form) (take-suc-set listed k row l)
+      ∙ map-append listed_form (take k listed) (row ∷ [])
+      ∙ ap₂ (λ x y. x ++ (y ∷ [])) h (row_listed clash before p found (listed_form no_row) (alike held (sym (length-map (take k listed) listed_form)) found first) ∙ ap (λ b. judged clash b (form p)) h)
       ∙ sym grown
     where
       row : RankedRow
       row = record { candidate = p; refused_by = found }
 
       before : List (Listed Proposal)
-      before = map ranked_form (take k listed)
+      before = map listed_form (take k listed)
 
-      held : (i : ℕ) → i < length (take k listed) → blocks_at full count p (row_of (take k listed) i) ≡ blocks clash (form p) (get_or before i (ranked_form no_row))
-      held i h = ap (blocks clash (form p)) (sym (get_or-map ranked_form (take k listed) i no_row))
+      held : (i : ℕ) → i < length (take k listed) → blocks_at full count p (row_of (take k listed) i) ≡ blocks clash (form p) (get_or before i (listed_form no_row))
+      held i h = ap (blocks clash (form p)) (sym (get_or-map listed_form (take k listed) i no_row))
 
       grown : listed_from full count (order_of rows order (k + 1)) ≡ listed_from full count (order_of rows order k) ++ (judged clash (listed_from full count (order_of rows order k)) (form p) ∷ [])
       grown =
           ap (listed_from full count) (order_next rows order k ∙ ap (λ q. order_of rows order k ++ (q ∷ [])) (sym e))
           ∙ unfold listed_from in judged_more clash [] (order_of rows order k) (form p)
 
--- as many rows as the order names
-pub listed-count : (full : List (Option declared.Pair)) (count : ℕ) (rows : List Candidate) (order : List ℕ) (m : ℕ) (all : List Proposal) → order_of rows order m ≡ all
-    → m ≡ length (listed_from full count all)
-unfolding listed_from
-listed-count full count rows order m all e =
-    sym (judged-length (conflict_at full count) [] all ∙ ap length (sym e) ∙ order-length rows order m)
+-- what stands behind the rows is as it was
+pub rest_more : {A : Type 0} (listed was : List A) (k : ℕ) (x : A) → drop k listed ≡ drop k was → drop (k + 1) (set listed k x) ≡ drop (k + 1) was
+rest_more listed was k x e = drop-set-lt (k + 1) listed k x (omega arith) ∙ sym (drop-drop 1 k listed) ∙ ap (drop 1) e ∙ drop-drop 1 k was

@@ -7,13 +7,13 @@ use mathlib.Core.List.{List, [], ◌∷◌, ◌++◌, append-nil, append_assoc}
 use lib.ListN.{length, get_or}
 use Rattle.std.specs.Prelude.{Option, None, Some}
 use Rattle.std.specs.Option.{is_some, unwrap_or, option_map}
-use Rattle.definitions.specs.Scan.{any, bit}
+use Rattle.definitions.specs.Scan.{any}
 use Rattle.definitions.specs.Junctions.{Proposal}
 use Rattle.junction_proposals.specs.declared.proposals.Candidate.{Candidate}
 use Rattle.junction_proposals.specs.Bridges.{FirstIn}
 use Rattle.junction_proposals.specs.Rows.{form}
-use Rattle.ranked_list.specs.RankedList.{Listed, first_place, blocks, judged, judged_after, flat_ranked}
-use Rattle.ranked_rows.specs.Contract.{ranked_form}
+use Rattle.ranked_list.specs.RankedList.{Listed, first_place, blocks, judged, judged_after}
+use Rattle.ranked_rows.specs.Contract.{listed_form}
 
 -- ---- one row more
 
@@ -27,17 +27,6 @@ module _ {A : Type 0} (clash : A → A → Bool) where
       ap {B = List (Listed A)} (λ t. r ∷ t)
       (judged_more (earlier ++ (r ∷ [])) l p
       ∙ ap (λ e. judged_after clash (earlier ++ (r ∷ [])) l ++ (judged clash e p ∷ [])) (append_assoc earlier (r ∷ []) (judged_after clash (earlier ++ (r ∷ [])) l)))
-
-pub flat_more : (l : List (Listed Proposal)) (r : Listed Proposal) → flat_ranked (l ++ (r ∷ [])) ≡ flat_ranked l ++ flat_ranked (r ∷ [])
-unfolding flat_ranked
-flat_more [] r = refl
-flat_more (q ∷ l) r =
-    ap {B = List ℕ} (λ t. q.item.kind ∷ q.item.index ∷ q.item.first ∷ q.item.second ∷ bit q.taken ∷ q.by ∷ t) (flat_more l r)
-
-pub flat-length : (l : List (Listed Proposal)) → length (flat_ranked l) ≡ 6 * length l
-unfolding flat_ranked
-flat-length [] = refl
-flat-length (r ∷ l) = omega (arith, flat-length l)
 
 -- ---- the first that passes
 
@@ -76,7 +65,7 @@ module _ {A : Type 0} (f : Listed A → Bool) (d : Listed A) where
 
 -- so the row that is listed is that of what was found
 pub row_listed : (clash : Proposal → Proposal → Bool) (l : List (Listed Proposal)) (p : Candidate) (found : Option ℕ) (d : Listed Proposal)
-    → FirstIn (λ i. blocks clash (form p) (get_or l i d)) 0 (length l) found → ranked_form (record { candidate = p; refused_by = found }) ≡ judged clash l (form p)
+    → FirstIn (λ i. blocks clash (form p) (get_or l i d)) 0 (length l) found → listed_form (record { candidate = p; refused_by = found }) ≡ judged clash l (form p)
 unfolding judged
 row_listed clash l p found d s =
     let t = found_as (blocks clash (form p)) d l found s in

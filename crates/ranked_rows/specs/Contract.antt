@@ -14,8 +14,8 @@ use Rattle.ranked_rows.specs.declared.RankedRow.{RankedRow}
 use Rattle.region_pairs.specs.declared.Pair as declared
 
 -- what a row stands for: it was taken where it was not refused, and the rank that it was refused by is 0 then
-abbrev pub ranked_form : RankedRow → Listed Proposal
-ranked_form r = record { item = form r.candidate; taken = not (is_some r.refused_by); by = unwrap_or r.refused_by 0 }
+abbrev pub listed_form : RankedRow → Listed Proposal
+listed_form r = record { item = form r.candidate; taken = not (is_some r.refused_by); by = unwrap_or r.refused_by 0 }
 
 -- row k of a list; what is said beyond the last
 abbrev pub no_row : RankedRow
@@ -47,7 +47,7 @@ module _ (full : List (Option declared.Pair)) (count : ℕ) where
 
   -- a row was taken, and conflicts with what is proposed
   abbrev pub blocks_at : Candidate → RankedRow → Bool
-  blocks_at p r = blocks (conflict_at full count) (form p) (ranked_form r)
+  blocks_at p r = blocks (conflict_at full count) (form p) (listed_form r)
 
   -- the list of the rows that are allowed
   unfoldable pub allowed_list : List ℕ → List Candidate → List Bool → ℕ → List (Listed Proposal)

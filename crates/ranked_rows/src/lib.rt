@@ -2,12 +2,12 @@
 
 #![tactic(auto)]
 
-ghost use Rattle.std.specs.Prelude.{◌≡◌, ◌&&◌, ◌≤◌, length, map, take};
+ghost use Rattle.std.specs.Prelude.{◌≡◌, ◌&&◌, ◌≤◌, length, map, take, drop};
 ghost use Rattle.definitions.specs.Scan.{any_below_lem};
 ghost use Rattle.junction_proposals.specs.Bridges.{FirstIn};
 ghost use Rattle.junction_proposals.specs.Rows.{max_proposals, form};
 ghost use Rattle.junction_selection.specs.Ranks.{reserves_at, conflict_at, order_of, Rows};
-ghost use Rattle.ranked_rows.specs.Contract.{ranked_form, blocks_at, row_of, Listing, Allowed, listed_from, allowed_list};
+ghost use Rattle.ranked_rows.specs.Contract.{listed_form, blocks_at, row_of, Listing, Allowed, listed_from, allowed_list};
 
 use junction_proposals::lists::JunctionLists;
 use junction_proposals::proposals::{Candidate, MAX_PROPOSALS};
@@ -66,8 +66,9 @@ fn refused_by(lists: &JunctionLists, listed: &[RankedRow], candidate: Candidate)
 fn list_in_order(found: &FoundRows, order: &[u32], listed: &mut [RankedRow])
     requires listing { Listing found.now.lists.now.count (length order.now) (length listed.old) }
     requires rows { Rows order.now (length order.now) (length found.now.rows.now) }
-    ensures { map ranked_form (take (length order.now) listed.new) ≡ listed_from found.now.lists.now.full.now found.now.lists.now.count
+    ensures list { map listed_form (take (length order.now) listed.new) ≡ listed_from found.now.lists.now.full.now found.now.lists.now.count
         (order_of found.now.rows.now order.now (length order.now)) }
+    ensures rest { drop (length order.now) listed.new ≡ drop (length order.now) listed.old }
 {
     for (k, &p) in order.iter().enumerate() {
         let candidate = found.rows[p as usize];
@@ -83,8 +84,9 @@ fn list_in_order(found: &FoundRows, order: &[u32], listed: &mut [RankedRow])
 pub fn list_ranked(found: &FoundRows, verdicts: &[bool], listed: &mut [RankedRow]) -> usize
     requires { Allowed found.now.lists.now.boundaries.now found.now.rows.now verdicts.now (length listed.old) found.now.lists.now.count }
     ensures within { result ≤ length listed.new }
-    ensures list { map ranked_form (take result listed.new) ≡ allowed_list found.now.lists.now.full.now found.now.lists.now.count
+    ensures list { map listed_form (take result listed.new) ≡ allowed_list found.now.lists.now.full.now found.now.lists.now.count
         found.now.lists.now.boundaries.now found.now.rows.now verdicts.now (length found.now.rows.now) }
+    ensures rest { drop result listed.new ≡ drop result listed.old }
 {
     let mut order = [0u32; MAX_PROPOSALS];
     let m = rank_proposals(found, verdicts, &mut order);
