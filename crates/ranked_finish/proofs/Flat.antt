@@ -3,9 +3,9 @@ use Prim.Native.Nat.{ℕ, ◌+◌, ◌-◌, ◌*◌, ◌≤◌, ◌<◌}
 use native.Mathlib.Numerals.{add-one}
 use native.Mathlib.Omega.{arith}
 use mathlib.Core.Path.{◌≡◌, refl, sym, ap, ap₂, ◌∙◌}
-use mathlib.Core.List.{List, [], ◌∷◌, ◌++◌, append_assoc, map}
+use mathlib.Core.List.{List, [], ◌∷◌, ◌++◌, map}
 use lib.ListN.{length, take, drop, get_or, length-append, length-drop, length-map}
-use lib.Seq.{sets, sets-eq, drop-drop, take-suc, length-take-le}
+use lib.Seq.{sets, take-suc, length-take-le}
 use borrow.Rule.Slice.PartMut.{put_mid}
 use Rattle.std.proofs.lemmas.List.{map-append}
 use Rattle.definitions.specs.Scan.{bit}
@@ -15,12 +15,7 @@ use Rattle.laws.specs.ListLaws.Overwritten.{overwrite_more}
 use Rattle.ranked_list.specs.RankedList.{Listed, flat_ranked}
 use Rattle.ranked_rows.specs.declared.RankedRow.{RankedRow}
 use Rattle.ranked_rows.specs.Contract.{listed_form, row_of}
-
--- a row in the place of as many numbers
-row_copied : (old row : List ℕ) (at n : ℕ) {part : List ℕ} → length row ≡ n → at + n ≤ length old → part ≡ row → put_mid at (at + n - at) old part ≡ sets old at row
-row_copied old row at n s h e =
-    let behind : drop (at + n - at) (drop at old) ≡ drop (at + length row) old = drop-drop _ at old ∙ ap (λ m. drop m old) (omega (arith, s)) in
-    ap₂ (λ l r. take at old ++ (l ++ r)) e behind ∙ sym (sets-eq row old at (omega (arith, s, h)) ∙ append_assoc (take at old) row (drop (at + length row) old))
+use Rattle.ranked_rows.proofs.Judging.{row_copied}
 
 flat_more : (l : List (Listed Proposal)) (r : Listed Proposal) → flat_ranked (l ++ (r ∷ [])) ≡ flat_ranked l ++ flat_ranked (r ∷ [])
 unfolding flat_ranked
@@ -46,7 +41,8 @@ written_none rows was = refl
 pub written_more : (rows : List RankedRow) (was lent : List ℕ) (k : ℕ) {part : List ℕ} → WrittenTo rows was lent k → k < length rows → 6 * length rows ≤ length was
     → part ≡ flat_ranked (listed_form (row_of rows k) ∷ []) → WrittenTo rows was (put_mid (6 * k) (6 * k + 6 - 6 * k) lent part) (k + 1)
 written_more rows was lent k {part} h l room e =
-    row_copied lent (flat_ranked (row ∷ [])) (6 * k) 6 six (omega (arith, room, long)) e
+    ap (λ n. put_mid (6 * k) (6 * k + n - 6 * k) lent part) (sym six)
+    ∙ row_copied lent (flat_ranked (row ∷ [])) (6 * k) (omega (arith, room, long, six)) e
     ∙ ap₂ (λ l n. sets l n (flat_ranked (row ∷ []))) h place
     ∙ overwrite_more (flat_ranked before) (flat_ranked (row ∷ [])) was (omega (arith, place, room, six))
     ∙ ap (λ f. overwrite f was) (sym (flat_more before row) ∙ ap flat_ranked (sym grown))

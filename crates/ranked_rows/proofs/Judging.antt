@@ -1,10 +1,12 @@
--- The ranked list grows by one row at its end, and the first rank that blocks is what a row names. Assumes nothing.
+-- The ranked list grows by one row at its end, and the first rank that blocks is what a row names; how a row's numbers are copied. Assumes nothing.
 use Prim.Native.Nat.{ℕ, zero, suc, ◌+◌, ◌-◌, ◌*◌, ◌≤◌, ◌<◌}
 use native.Mathlib.Omega.{arith}
 use mathlib.Core.Path.{◌≡◌, refl, sym, ap, ap₂, ◌∙◌}
 use mathlib.Core.Bool.{Bool, true, false, not, ◌||◌, cond}
 use mathlib.Core.List.{List, [], ◌∷◌, ◌++◌, append-nil, append_assoc}
-use lib.ListN.{length, get_or}
+use lib.ListN.{length, take, drop, get_or}
+use lib.Seq.{sets, sets-eq, drop-drop}
+use borrow.Rule.Slice.PartMut.{put_mid}
 use Rattle.std.specs.Prelude.{Option, None, Some}
 use Rattle.std.specs.Option.{is_some, unwrap_or, option_map}
 use Rattle.definitions.specs.Scan.{any}
@@ -14,6 +16,12 @@ use Rattle.junction_proposals.specs.Bridges.{FirstIn}
 use Rattle.junction_proposals.specs.Rows.{form}
 use Rattle.ranked_list.specs.RankedList.{Listed, first_place, blocks, judged, judged_after}
 use Rattle.ranked_rows.specs.Contract.{listed_form}
+
+-- a row in the place of as many numbers
+pub row_copied : (old row : List ℕ) (at : ℕ) {part : List ℕ} → at + length row ≤ length old → part ≡ row → put_mid at (at + length row - at) old part ≡ sets old at row
+row_copied old row at h e =
+    let behind : drop (at + length row - at) (drop at old) ≡ drop (at + length row) old = drop-drop _ at old ∙ ap (λ n. drop n old) (omega arith) in
+    ap₂ (λ l r. take at old ++ (l ++ r)) e behind ∙ sym (sets-eq row old at h ∙ append_assoc (take at old) row (drop (at + length row) old))
 
 -- ---- one row more
 
