@@ -9,11 +9,10 @@ use lib.ListN.{length}
 use Rattle.junction_selection.specs.Taken.{Selecting}
 
 -- other lists of the same lengths
-pub selecting_of : {rows : List Candidate} {was : List ℕ} {off free : List Bool} {count n : ℕ} (taken : List ℕ) (removed reserved : List Bool) → Selecting rows was off free count n → length removed ≡ length off → length reserved ≡ length free → length taken ≡ length was → Selecting rows taken removed reserved count n
+pub selecting_of : {rows : List Candidate} {was : List ℕ} {off free : List Bool} {count : ℕ} (taken : List ℕ) (removed reserved : List Bool) → Selecting rows was off free count → length removed ≡ length off → length reserved ≡ length free → length taken ≡ length was → Selecting rows taken removed reserved count
 selecting_of taken removed reserved h a b c =
     record {
       few = h.few;
-      whole = h.whole;
       small = h.small;
       removed-long = omega (arith, h.removed-long);
       reserved_long = omega (arith, h.reserved_long);

@@ -1,5 +1,6 @@
 // `select_proposals`: a proposal is taken unless it conflicts with one taken before.
-ghost use Rattle.std.specs.Prelude.{◌≡◌, false, ◌&&◌, ◌||◌, cond, List, [], ◌∷◌, ◌++◌, ℕ, ◌+◌, ◌*◌, ◌≤◌, ◌<◌, length, get_or, eqb};
+ghost use Rattle.std.specs.Prelude.{◌≡◌, false, ◌&&◌, ◌||◌, cond, eqb, ℕ, ◌+◌, ◌≤◌, ◌<◌};
+ghost use Rattle.std.specs.Prelude.{List, [], ◌∷◌, ◌++◌, length, get_or};
 ghost use Rattle.definitions.specs.Scan.{any, any_below_lem};
 ghost use Rattle.definitions.specs.Junctions.{Proposal, region_conflict};
 ghost use Rattle.junction_proposals.specs.Rows.{form, row_at};
@@ -87,12 +88,12 @@ impl Selection<'_> {
 
     // Whether a taken row conflicts with row p.
     fn refuses(&self, found: &FoundRows, p: usize) -> bool
-        requires selecting { Selecting found.now.rows.now self.now.taken self.now.removed.now self.now.reserved found.now.lists.now.count (length found.now.rows.now) }
-        requires places { (self.now.count ≤ (length found.now.rows.now)) × (p < (length found.now.rows.now)) }
+        requires selecting { Selecting found.now.rows.now self.now.taken self.now.removed.now self.now.reserved found.now.lists.now.count }
+        requires places { (self.now.count ≤ length found.now.rows.now) × (p < length found.now.rows.now) }
         requires listed { Rows self.now.taken self.now.count (length found.now.rows.now) }
         ensures { (chosen : List Proposal) →
             Standing found.now.lists.now.full.now found.now.rows.now self.now.taken self.now.removed.now self.now.reserved
-            found.now.lists.now.count (length found.now.rows.now) self.now.count chosen →
+            found.now.lists.now.count self.now.count chosen →
             result ≡ any (λ q. conflict_at found.now.lists.now.full.now found.now.lists.now.count q (row_at found.now.rows.now p)) chosen }
     {
         let own = self.reserved[found.rows[p].index as usize];
@@ -102,16 +103,16 @@ impl Selection<'_> {
 
     // Takes row p, unless a taken row conflicts with it.
     fn take_if_free(&mut self, found: &FoundRows, p: usize)
-        requires selecting { Selecting found.now.rows.now self.old.taken self.old.removed.now self.old.reserved found.now.lists.now.count (length found.now.rows.now) }
-        requires places { (self.old.count < (length found.now.rows.now)) × (p < (length found.now.rows.now)) }
+        requires selecting { Selecting found.now.rows.now self.old.taken self.old.removed.now self.old.reserved found.now.lists.now.count }
+        requires places { (self.old.count < length found.now.rows.now) × (p < length found.now.rows.now) }
         requires listed { Rows self.old.taken self.old.count (length found.now.rows.now) }
         ensures same_removed { self.new.removed.ghost_name ≡ self.old.removed.ghost_name }
-        ensures selecting { Selecting found.now.rows.now self.new.taken self.new.removed.now self.new.reserved found.now.lists.now.count (length found.now.rows.now) }
+        ensures selecting { Selecting found.now.rows.now self.new.taken self.new.removed.now self.new.reserved found.now.lists.now.count }
         ensures standing { (chosen : List Proposal) →
             Standing found.now.lists.now.full.now found.now.rows.now self.old.taken self.old.removed.now self.old.reserved
-            found.now.lists.now.count (length found.now.rows.now) self.old.count chosen →
+            found.now.lists.now.count self.old.count chosen →
             Standing found.now.lists.now.full.now found.now.rows.now
-            self.new.taken self.new.removed.now self.new.reserved found.now.lists.now.count (length found.now.rows.now) self.new.count
+            self.new.taken self.new.removed.now self.new.reserved found.now.lists.now.count self.new.count
             (cond (any (λ q. conflict_at found.now.lists.now.full.now found.now.lists.now.count q (row_at found.now.rows.now p)) chosen) chosen
             (chosen ++ (row_at found.now.rows.now p ∷ []))) }
         ensures bound { self.new.count ≤ self.old.count + 1 }
@@ -129,8 +130,8 @@ impl Selection<'_> {
 
 // Takes the rows that the order names, one after the other, where they are free, and marks their boundaries.
 fn select_ranked(found: &FoundRows, order: &[u32], removed: &mut [bool])
-    requires selectable { Selectable found.now.rows.now removed.old found.now.lists.now.count (length found.now.rows.now) }
-    requires few { length order.now ≤ (length found.now.rows.now) }
+    requires selectable { Selectable found.now.rows.now removed.old found.now.lists.now.count }
+    requires few { length order.now ≤ length found.now.rows.now }
     requires listed { Rows order.now (length order.now) (length found.now.rows.now) }
     requires removed_clear { (j : ℕ) → j < found.now.lists.now.count → get_or removed.old j false ≡ false }
     ensures { (j : ℕ) →
@@ -151,11 +152,12 @@ fn select_ranked(found: &FoundRows, order: &[u32], removed: &mut [bool])
 
 // Marks the boundaries of the proposals that the greedy selection takes, of the rows that are allowed.
 pub fn select_proposals(found: &FoundRows, verdicts: &[bool], removed: &mut [bool])
-    requires { Judged found.now.lists.now.boundaries.now found.now.rows.now verdicts.now removed.old found.now.lists.now.count (length found.now.rows.now) }
+    requires { Judged found.now.lists.now.boundaries.now found.now.rows.now verdicts.now removed.old found.now.lists.now.count }
     ensures { (j : ℕ) →
         j < found.now.lists.now.count →
         get_or removed.new j false
-        ≡ removed_at found.now.lists.now.boundaries.now found.now.lists.now.full.now found.now.rows.now verdicts.now found.now.lists.now.count (length found.now.rows.now) j }
+        ≡ removed_at found.now.lists.now.boundaries.now found.now.lists.now.full.now found.now.rows.now verdicts.now
+        found.now.lists.now.count (length found.now.rows.now) j }
 {
     let mut order = [0u32; MAX_PROPOSALS];
     let m = rank_proposals(found, verdicts, &mut order);

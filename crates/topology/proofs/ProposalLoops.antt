@@ -79,15 +79,14 @@ proposed-front {C} {rows} {allowed} {count} {regions} {n} l p =
 -- the rows are what pass 3 proposes
 module _ {C : Context} {records : List Region} {boundaries : List ℕ} {full : List (Option Pair)} {counts marks : List ℕ} {rows : List Candidate} {allowed : List Bool} {count regions n : ℕ}
     (h : Passes C records boundaries full counts marks count regions) (p : Proposed C count regions rows allowed n) where
-  pub pass-judged : {marked : List Bool} → n ≤ length rows → Unmarked marked count → Judged boundaries rows allowed marked count n
-  pass-judged room u =
+  pub pass-judged : {marked : List Bool} → n ≡ length rows → Unmarked marked count → Judged boundaries rows allowed marked count
+  pass-judged whole u =
       record {
-        few = p.few;
-        whole = room;
+        few = omega (arith, p.few, whole);
         long = omega (arith, h.shown.bounds.long, h.shown.counted);
         small = omega (arith, h.shown.bounds.few, h.shown.counted);
-        below = λ k l. (p.fits k l).index_in;
-        judged = omega (arith, p.few, p.judged.long);
+        below = λ k l. (p.fits k (omega (arith, l, whole))).index_in;
+        judged = omega (arith, p.few, p.judged.long, whole);
         removed-long = u.long;
         clear = u.clear;
       }

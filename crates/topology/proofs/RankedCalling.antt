@@ -87,22 +87,22 @@ module _ {w h : ℕ} {cells spans boundaries anchors : List ℕ} {room output : 
     pub listed-within : n ≤ length listed
     listed-within = lists.within
 
-    abbrev rows : List (Listed Proposal)
-    rows = map listed_form (take n listed)
+    abbrev proposed : List (Listed Proposal)
+    proposed = map listed_form (take n listed)
 
     module _ {o k m₃ q₃ o₃ k₃ : List ℕ} {a : RankedAnswer} (long : length s ≡ room) (wide : length o ≡ output)
-        (E : RankedFinished (h * w) (length boundaries / numbers_per_boundary) boundaries removed rows m₂ q₂ o k a m₃ q₃ o₃ k₃) where
-      by_room : (b : Bool) → leb (length rows) (length k / numbers_per_ranked) ≡ b
+        (E : RankedFinished (h * w) (length boundaries / numbers_per_boundary) boundaries removed proposed m₂ q₂ o k a m₃ q₃ o₃ k₃) where
+      by_room : (b : Bool) → leb (length proposed) (length k / numbers_per_ranked) ≡ b
           → RankedOver (lends w h cells spans boundaries anchors l m q t p s o) k a (leaves l' m₃ q₃ t' p' s' o₃) k₃
       unfolding map_in
       by_room true e =
-          let enough = leb-true (length rows) (length k / numbers_per_ranked) e in
+          let enough = leb-true (length proposed) (length k / numbers_per_ranked) e in
           let W = E.enough enough in
           let ran = ran-kept R (map record_of s) o (length-map s record_of ∙ long) wide F.records K.marked.masks.rest K.marked.queue.rest (marked R F K.marked) W.finished in
           subst (λ a. RankedOver (lends w h cells spans boundaries anchors l m q t p s o) k a (leaves l' m₃ q₃ t' p' s' o₃) k₃) (sym W.answer)
           (record { ran = ranked-done k ran (ap length lists.list) enough (W.list ∙ ap (λ l. overwrite (flat_ranked l) k) lists.list); beyond = F.beyond })
       by_room false e =
-          let lack = leb-false (length rows) (length k / numbers_per_ranked) e in
+          let lack = leb-false (length proposed) (length k / numbers_per_ranked) e in
           let S = E.short lack in
           let fin : Finished (h * w) (length boundaries / numbers_per_boundary) boundaries removed m₂ q₂ o m₃ q₃ _ _ = record { masks = S.0.masks; queue = S.0.queue; output = refl; rows = refl } in
           let ran = ran-kept R (map record_of s) o (length-map s record_of ∙ long) wide F.records K.marked.masks.rest K.marked.queue.rest (marked R F K.marked) fin in
@@ -111,4 +111,4 @@ module _ {w h : ℕ} {cells spans boundaries anchors : List ℕ} {room output : 
           (record { ran = ranked-short k ran (omega (arith, lack, ap length lists.list)) S.0.list; beyond = F.beyond }))
 
       pub ranked-over : RankedOver (lends w h cells spans boundaries anchors l m q t p s o) k a (leaves l' m₃ q₃ t' p' s' o₃) k₃
-      ranked-over = by_room (leb (length rows) (length k / numbers_per_ranked)) refl
+      ranked-over = by_room (leb (length proposed) (length k / numbers_per_ranked)) refl

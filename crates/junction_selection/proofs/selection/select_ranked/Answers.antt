@@ -17,8 +17,8 @@ loop-p-init c =
     let h = c.requires.selectable in (
       refl,
       omega arith,
-      record { few = h.few; whole = h.whole; small = h.small; removed-long = h.removed-long; reserved_long = h.small; room = omega arith; below = h.below },
-      standing-start _ _ _ c.args.order.now _ _ _ _ c.requires.removed_clear (λ j l. none_set 256 j),
+      record { few = h.few; small = h.small; removed-long = h.removed-long; reserved_long = h.small; room = omega arith; below = h.below },
+      standing-start _ _ _ c.args.order.now _ _ _ c.requires.removed_clear (λ j l. none_set 256 j),
     )
 
 pub loop-p-preserved : goal.loop-p-preserved

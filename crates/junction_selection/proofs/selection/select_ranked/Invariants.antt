@@ -8,5 +8,5 @@ use Rattle.junction_selection.proofs.selection.select_ranked.Given as goal
 
 abbrev pub invariant-loop-p : goal.invariant-loop-p
 invariant-loop-p l =
-    (l.selection.removed.ghost_name ≡ l.initial.selection.removed.ghost_name) × (l.selection.count ≤ l.p-index) × Selecting l.found.rows.now l.selection.taken l.selection.removed.now l.selection.reserved l.found.lists.now.count (length l.found.rows.now)
-    × Standing l.found.lists.now.full.now l.found.rows.now l.selection.taken l.selection.removed.now l.selection.reserved l.found.lists.now.count (length l.found.rows.now) l.selection.count (selected_of l.found.lists.now.full.now l.found.rows.now l.order l.found.lists.now.count l.p-index)
+    (l.selection.removed.ghost_name ≡ l.initial.selection.removed.ghost_name) × (l.selection.count ≤ l.p-index) × Selecting l.found.rows.now l.selection.taken l.selection.removed.now l.selection.reserved l.found.lists.now.count
+    × Standing l.found.lists.now.full.now l.found.rows.now l.selection.taken l.selection.removed.now l.selection.reserved l.found.lists.now.count l.selection.count (selected_of l.found.lists.now.full.now l.found.rows.now l.order l.found.lists.now.count l.p-index)
