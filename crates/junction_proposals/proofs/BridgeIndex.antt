@@ -12,9 +12,10 @@ use Rattle.definitions.specs.Junctions.{Proposal}
 use Rattle.laws.specs.ListLaws.Lists.{All, done, more}
 use Rattle.laws.specs.ListLaws.ScansOfAll.{collect-below}
 use Rattle.laws.specs.ListLaws.Options.{OnO, absent, on_only, on_cond}
+use Rattle.geometry.specs.Widths.{is_twice_as_wide}
 use Rattle.junction_proposals.specs.Lent.{LentPairs}
 use Rattle.junction_proposals.specs.Unions.{mark_at, is_near}
-use Rattle.junction_proposals.specs.Bridges.{PortAt, beyond_at, is_twice_at, is_shared_at, near_at, pick_at, is_pocket_port, bridge_of_three, bridge_of_list, is_bridge_at}
+use Rattle.junction_proposals.specs.Bridges.{PortAt, beyond_at, is_shared_at, near_at, pick_at, is_pocket_port, bridge_of_three, bridge_of_list, is_bridge_at}
 use Rattle.junction_proposals.specs.Rows.{RowFits}
 use Rattle.junction_proposals.proofs.BridgeTests.{port-within}
 use Rattle.junction_proposals.proofs.BridgeWalk.{port_at_lem}
@@ -35,7 +36,7 @@ module _ (boundaries : List ℕ) (full : List (Option declared.Pair)) (marks : L
 
   pick-fits : (i k t : ℕ) → PortAt full count i → PortAt full count k → OnO Fits (pick_at full r boundaries i k t)
   unfolding pick_at
-  pick-fits i k t h l = on_cond (is_twice_at boundaries i k) (near_fits i k t h) (on_cond (is_twice_at boundaries k i) (near_fits k i t l) absent)
+  pick-fits i k t h l = on_cond (is_twice_as_wide boundaries i k) (near_fits i k t h) (on_cond (is_twice_as_wide boundaries k i) (near_fits k i t l) absent)
 
   three-fits : (i j k : ℕ) → PortAt full count i → PortAt full count j → PortAt full count k → OnO Fits (bridge_of_three boundaries full marks r i j k)
   unfolding bridge_of_three

@@ -23,10 +23,11 @@ use Rattle.laws.specs.ListLaws.ScansOfAll.{collect-below}
 use Rattle.laws.specs.ListLaws.ScanSteps.{count_same, all_intro}
 use Rattle.laws.specs.SetLaws.Sets.{numbers_below, all_below_lem}
 use Rattle.laws.specs.RustJunctions.FormedProposals.{full-all}
+use Rattle.geometry.specs.Widths as widths
 use Rattle.junction_proposals.specs.Lent.{Shows}
 use Rattle.junction_proposals.specs.Ports.{pair_of, names}
 use Rattle.junction_proposals.specs.Unions.{no_ramp_at, is_near, mark_at}
-use Rattle.junction_proposals.specs.Bridges.{beyond_at, is_twice_at, is_shared_at, near_at, pick_at, is_pocket_port, bridge_of_three, bridge_of_list, is_bridge_at}
+use Rattle.junction_proposals.specs.Bridges.{beyond_at, is_shared_at, near_at, pick_at, is_pocket_port, bridge_of_three, bridge_of_list, is_bridge_at}
 use Rattle.junction_proposals.specs.Rows.{bridge_region, is_allowed}
 use Rattle.junction_proposals.proofs.PortLaws.{full_incident, named_incident, names_is}
 use Rattle.junction_proposals.proofs.ShapeLaws.{no_ramp_is, near_is, anchored_is}
@@ -65,8 +66,8 @@ module _ (boundaries : List ℕ) (full : List (Option declared.Pair)) (counts ma
       λ x. eqb (sym (exterior_is a) x) (sym (exterior_is b) x) && not (eqb (sym (exterior_is c) x) (sym (exterior_is a) x))
       && (sym (anchored_is boundaries full counts marks C S (beyond_at full r t) in_range_lem.0 in_range_lem.1) ∙ ap C.anchored (sym (exterior_is c))) x
 
-  twice_is : {i k : ℕ} → Port i → Port k → is_twice_at boundaries i k ≡ is_twice_as_wide C i k
-  unfolding is_twice_at is_twice_as_wide width
+  twice_is : {i k : ℕ} → Port i → Port k → widths.is_twice_as_wide boundaries i k ≡ is_twice_as_wide C i k
+  unfolding widths.is_twice_as_wide is_twice_as_wide width
   twice_is {i} {k} a b = ap₂ (λ x y. le (mul binary64 (float 2) (of_bits binary64 x.width_bits)) (of_bits binary64 y.width_bits)) (sym (S.bounds.at k b.below)) (sym (S.bounds.at i a.below))
 
   -- ---- the proposals of three ports

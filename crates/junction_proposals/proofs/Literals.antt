@@ -7,7 +7,3 @@ use Rattle.definitions.specs.Junctions.{max_port_distance_pixels}
 pub port-limit_is : of_bits binary64 0x4078000000000000 ≡ max_port_distance_pixels
 unfolding max_port_distance_pixels float of_int of_bits
 port-limit_is = refl
-
-pub two_is : of_bits binary64 0x4000000000000000 ≡ float 2
-unfolding float of_int of_bits
-two_is = refl

@@ -1,21 +1,21 @@
 -- The bridge of a pocket, read off the lists: `bridge_proposal` of Junctions.antt but for what it asks of the pocket's record. Definitions only; assumes nothing.
-use Rattle.std.specs.Prelude.{ℕ, ◌-◌, ◌≤◌, ◌<◌, ◌≡◌, Bool, true, false, not, ◌&&◌, get_or, Option, None, Some, MatchOption}
+use Rattle.std.specs.Prelude.{ℕ, ◌-◌, ◌≤◌, ◌<◌, ◌≡◌, Bool, true, false, not, ◌&&◌, get_or, length, Option, None, Some, MatchOption}
+use Rattle.std.specs.Bool.{then_some}
 use Rattle.std.proofs.Math.Bool.{cond}
 use mathlib.Core.List.{List, [], ◌∷◌}
 use Rattle.std.proofs.Math.Dec.{eqb}
-use Rattle.std.specs.Float.{binary64}
-use Rattle.std.specs.Float.Ieee.{le, mul, of_bits}
 use Rattle.definitions.specs.Scan.{collect, only_if}
 use Rattle.definitions.specs.Grid.{Pair}
-use Rattle.definitions.specs.Geometry.{float}
 use Rattle.definitions.specs.Junctions.{Proposal, beyond}
 use Rattle.region_pairs.specs.declared.Pair as declared
+use Rattle.geometry.specs.Placed.{Placed}
+use Rattle.geometry.specs.Widths.{HasWidth, is_twice_as_wide}
 use Rattle.junction_proposals.specs.Ports.{pair_of, names}
-use Rattle.junction_proposals.specs.Unions.{width_at, no_ramp_at, is_near, mark_at}
-use Rattle.junction_proposals.specs.declared.bridges.Bridge.{Bridge}
+use Rattle.junction_proposals.specs.Unions.{no_ramp_at, is_near, mark_at}
+use Rattle.junction_proposals.specs.declared.bridges.Port.{Port}
 
 -- a bridge of pocket r
-abbrev pub bridge_form : ℕ → Option Bridge → Option Proposal
+abbrev pub bridge_form : ℕ → Option Port → Option Proposal
 bridge_form r None = None
 bridge_form r (Some b) = Some (record { index = b.index; kind = 1; first = r; second = b.exterior })
 
@@ -24,10 +24,6 @@ pub record PortAt (full : List (Option declared.Pair)) (count j : ℕ) : Type 0 
   pub below : j < count
   pub pair : Pair
   pub is : pair_of full j ≡ Some pair
-
--- i is twice as wide as k, or wider
-unfoldable pub is_twice_at : List ℕ → ℕ → ℕ → Bool
-is_twice_at boundaries i k = le (mul binary64 (float 2) (of_bits binary64 (width_at boundaries k))) (of_bits binary64 (width_at boundaries i))
 
 module _ (full : List (Option declared.Pair)) (r : ℕ) where
   -- the region beyond port j
@@ -46,8 +42,8 @@ module _ (full : List (Option declared.Pair)) (r : ℕ) where
 
   -- of the two that lead to one region, i before k, the one that is twice as wide as the other
   unfoldable pub pick_at : List ℕ → ℕ → ℕ → ℕ → Option Proposal
-  unfolding is_twice_at near_at
-  pick_at boundaries i k t = cond (is_twice_at boundaries i k) (near_at boundaries i k t) (cond (is_twice_at boundaries k i) (near_at boundaries k i t) None)
+  unfolding is_twice_as_wide near_at
+  pick_at boundaries i k t = cond (is_twice_as_wide boundaries i k) (near_at boundaries i k t) (cond (is_twice_as_wide boundaries k i) (near_at boundaries k i t) None)
 
   -- a full pair without ramp that names the pocket
   unfoldable pub is_pocket_port : List ℕ → ℕ → Bool
@@ -86,3 +82,36 @@ FirstAt f from n r = (from ≤ r) × (r < n) × (f r ≡ true) × NoneFrom f fro
 -- the first that does, if one does
 abbrev pub FirstIn : (ℕ → Bool) → ℕ → ℕ → Option ℕ → Type 0
 FirstIn f from n found = MatchOption found (NoneFrom f from n) (FirstAt f from n)
+
+-- ---- the same of ports with the region beyond each
+
+-- port p, whose boundary was found from `from` on as the first port of pocket r, below n
+pub record FirstPort (full : List (Option declared.Pair)) (r : ℕ) (boundaries : List ℕ) (from n : ℕ) (p : Port) : Type 0 where
+  pub first : FirstAt (is_pocket_port full r boundaries) from n p.index
+  pub beyond : p.exterior ≡ beyond_at full r p.index
+
+-- the boundary of port p stands in the list, with its endpoints on a map and a width
+pub record Measured (boundaries : List ℕ) (p : Port) : Type 0 where
+  pub placed : Placed boundaries p.index
+  pub width : HasWidth boundaries p.index
+
+-- and there is a mark for the region beyond it
+pub record PortIn (boundaries marks : List ℕ) (p : Port) : Type 0 where
+  pub measured : Measured boundaries p
+  pub low : 1 ≤ p.exterior
+  pub high : p.exterior ≤ length marks
+
+abbrev pub shared_by : List ℕ → Port → Port → Port → Bool
+shared_by marks i k t = eqb i.exterior k.exterior && not (eqb t.exterior i.exterior) && mark_at marks t.exterior
+
+abbrev pub near_port : List ℕ → Port → Port → Port → Option Port
+near_port boundaries i k t = then_some (is_near boundaries i.index i.index && is_near boundaries i.index k.index && is_near boundaries i.index t.index) i
+
+abbrev pub picked_port : List ℕ → Port → Port → Port → Option Port
+picked_port boundaries i k t =
+    cond (is_twice_as_wide boundaries i.index k.index) (near_port boundaries i k t) (cond (is_twice_as_wide boundaries k.index i.index) (near_port boundaries k i t) None)
+
+abbrev pub port_of_three : List ℕ → List ℕ → Port → Port → Port → Option Port
+port_of_three boundaries marks i j k =
+    cond (shared_by marks i j k) (picked_port boundaries i j k)
+    (cond (shared_by marks i k j) (picked_port boundaries i k j) (cond (shared_by marks j k i) (picked_port boundaries j k i) None))

@@ -1,128 +1,93 @@
 // Bridges of a pocket, before its record is looked at.
-ghost use Rattle.std.specs.Prelude.{◌≡◌, ◌≤◌, ◌<◌, length};
-ghost use Rattle.definitions.specs.Junctions.{beyond};
-ghost use Rattle.context.specs.Rows.{full_pair_of};
+ghost use Rattle.std.specs.Prelude.{◌≡◌, ◌≤◌, length, MatchOption};
 ghost use Rattle.junction_proposals.specs.Lent.{LentBoundaries, LentIn};
-ghost use Rattle.junction_proposals.specs.Bridges.{bridge_form, PortAt, is_twice_at, is_shared_at, near_at, pick_at, bridge_of_three, is_pocket_port, is_bridge_at, FirstIn};
+ghost use Rattle.junction_proposals.specs.Bridges.{bridge_form, is_pocket_port, is_bridge_at, NoneFrom, FirstPort};
+ghost use Rattle.junction_proposals.specs.Bridges.{Measured, PortIn, shared_by, near_port, picked_port, port_of_three};
 
 use crate::distances::is_near_port;
 use crate::lists::JunctionLists;
 use crate::ports::names_region;
-use context::pairs::Pair;
 use context::region_marks::is_anchored;
-use geometry::boundaries::{has_ramp, width_at};
+use geometry::boundaries::has_ramp;
+use geometry::widths::is_twice_as_wide;
 
-// The boundary that would go, and the region beyond it; `bridge_form` of specs/Bridges.antt gives the proposal.
+// A port of a pocket: the boundary, and the region beyond it. A bridge is the port whose boundary would go (`bridge_form` of specs/Bridges.antt).
 #[derive(Clone, Copy)]
-pub struct Bridge {
-    pub index: usize,
+pub struct Port {
+    pub index: u8,
     pub exterior: u32,
 }
 
-// The region of the full pair that is not r; r where there is no full pair.
-// Kept: the definition gives r there, and every port that is asked is a full pair, so that an Option would be opened at each call.
-pub fn region_beyond(r: u32, pair: Option<Pair>) -> u32
-    ensures { result ≡ beyond r (full_pair_of pair) }
+// Whether ports i and k of a pocket lead to one region, and t to another, which is anchored.
+fn is_shared(marks: &[u16], i: Port, k: Port, t: Port) -> bool
+    requires { (1 ≤ t.exterior) × (t.exterior ≤ length marks.now) }
+    ensures { result ≡ shared_by marks.now i k t }
 {
-    match pair {
-        Some(pair) if pair.lo == r => pair.hi,
-        Some(pair) => pair.lo,
-        None => r,
-    }
+    (i.exterior == k.exterior) & (t.exterior != i.exterior) & is_anchored(marks, t.exterior)
 }
 
-// Whether boundary i is twice as wide as k, or wider.
-pub fn is_twice_as_wide(boundaries: &[u64], count: usize, i: usize, k: usize) -> bool
-    requires boundaries_lent { LentBoundaries boundaries.now count }
-    requires places { (i < count) × (k < count) }
-    ensures { result ≡ is_twice_at boundaries.now i k }
+// Port i, if all three ports are near.
+fn bridge_if_near(boundaries: &[u64], i: Port, k: Port, t: Port) -> Option<Port>
+    requires { Measured boundaries.now i × Measured boundaries.now k × Measured boundaries.now t }
+    ensures { result ≡ near_port boundaries.now i k t }
 {
-    let width = f64::from_bits(width_at(boundaries, i));
-    let other = f64::from_bits(width_at(boundaries, k));
-    2.0 * other <= width
-}
-
-// Whether ports i and k of pocket r lead to one region, and t to another, which is anchored.
-fn is_shared(lists: &JunctionLists, r: u32, i: usize, k: usize, t: usize) -> bool
-    requires lent { LentIn lists.now }
-    requires i_is_port { PortAt lists.now.full.now lists.now.count i }
-    requires k_is_port { PortAt lists.now.full.now lists.now.count k }
-    requires t_is_port { PortAt lists.now.full.now lists.now.count t }
-    ensures { result ≡ is_shared_at lists.now.full.now r lists.now.marks.now i k t }
-{
-    let first = region_beyond(r, lists.full[i]);
-    let second = region_beyond(r, lists.full[k]);
-    let third = region_beyond(r, lists.full[t]);
-    (first == second) & (third != first) & is_anchored(lists.marks, third)
-}
-
-// The bridge that removes i, if all three ports are near.
-fn bridge_if_near(lists: &JunctionLists, r: u32, i: usize, k: usize, t: usize) -> Option<Bridge>
-    requires boundaries_lent { LentBoundaries lists.now.boundaries.now lists.now.count }
-    requires places { (i < lists.now.count) × ((k < lists.now.count) × (t < lists.now.count)) }
-    ensures { bridge_form r result ≡ near_at lists.now.full.now r lists.now.boundaries.now i k t }
-{
-    let own = is_near_port(lists.boundaries, i, i);
-    let other = is_near_port(lists.boundaries, i, k);
-    let third = is_near_port(lists.boundaries, i, t);
-    if own & other & third {
-        Some(Bridge {
-            index: i,
-            exterior: region_beyond(r, lists.full[i]),
-        })
-    } else {
-        None
-    }
+    let own = is_near_port(boundaries, i.index as usize, i.index as usize);
+    let other = is_near_port(boundaries, i.index as usize, k.index as usize);
+    let third = is_near_port(boundaries, i.index as usize, t.index as usize);
+    (own & other & third).then_some(i)
 }
 
 // Of the two ports that lead to one region, i before k, the one that is twice as wide as the other.
-fn pick_bridge(lists: &JunctionLists, r: u32, i: usize, k: usize, t: usize) -> Option<Bridge>
-    requires boundaries_lent { LentBoundaries lists.now.boundaries.now lists.now.count }
-    requires places { (i < lists.now.count) × ((k < lists.now.count) × (t < lists.now.count)) }
-    ensures { bridge_form r result ≡ pick_at lists.now.full.now r lists.now.boundaries.now i k t }
+fn pick_bridge(boundaries: &[u64], i: Port, k: Port, t: Port) -> Option<Port>
+    requires { Measured boundaries.now i × Measured boundaries.now k × Measured boundaries.now t }
+    ensures { result ≡ picked_port boundaries.now i k t }
 {
-    if is_twice_as_wide(lists.boundaries, lists.count, i, k) {
-        return bridge_if_near(lists, r, i, k, t);
+    if is_twice_as_wide(boundaries, i.index as usize, k.index as usize) {
+        return bridge_if_near(boundaries, i, k, t);
     }
-    if is_twice_as_wide(lists.boundaries, lists.count, k, i) {
-        return bridge_if_near(lists, r, k, i, t);
+    if is_twice_as_wide(boundaries, k.index as usize, i.index as usize) {
+        return bridge_if_near(boundaries, k, i, t);
     }
     None
 }
 
 // The bridge of a pocket whose ports are i, j and k, of which two share their exterior.
-fn bridge_of_three(lists: &JunctionLists, r: u32, i: usize, j: usize, k: usize) -> Option<Bridge>
-    requires lent { LentIn lists.now }
-    requires i_is_port { PortAt lists.now.full.now lists.now.count i }
-    requires j_is_port { PortAt lists.now.full.now lists.now.count j }
-    requires k_is_port { PortAt lists.now.full.now lists.now.count k }
-    ensures { bridge_form r result ≡ bridge_of_three lists.now.boundaries.now lists.now.full.now
-        lists.now.marks.now r i j k }
+fn bridge_of_three(boundaries: &[u64], marks: &[u16], i: Port, j: Port, k: Port) -> Option<Port>
+    requires i_is_port { PortIn boundaries.now marks.now i }
+    requires j_is_port { PortIn boundaries.now marks.now j }
+    requires k_is_port { PortIn boundaries.now marks.now k }
+    ensures { result ≡ port_of_three boundaries.now marks.now i j k }
 {
-    if is_shared(lists, r, i, j, k) {
-        return pick_bridge(lists, r, i, j, k);
+    if is_shared(marks, i, j, k) {
+        return pick_bridge(boundaries, i, j, k);
     }
-    if is_shared(lists, r, i, k, j) {
-        return pick_bridge(lists, r, i, k, j);
+    if is_shared(marks, i, k, j) {
+        return pick_bridge(boundaries, i, k, j);
     }
-    if is_shared(lists, r, j, k, i) {
-        return pick_bridge(lists, r, j, k, i);
+    if is_shared(marks, j, k, i) {
+        return pick_bridge(boundaries, j, k, i);
     }
     None
 }
 
 // The first port of pocket r from number `from` on: a full pair without ramp that names the pocket.
-fn next_port(lists: &JunctionLists, r: u32, from: usize) -> Option<usize>
+fn next_port(lists: &JunctionLists, r: u32, from: usize) -> Option<Port>
     requires { LentBoundaries lists.now.boundaries.now lists.now.count }
-    ensures first { FirstIn (is_pocket_port lists.now.full.now r lists.now.boundaries.now) «from» lists.now.count result }
+    ensures first { MatchOption result
+        (NoneFrom (is_pocket_port lists.now.full.now r lists.now.boundaries.now) «from» lists.now.count)
+        (FirstPort lists.now.full.now r lists.now.boundaries.now «from» lists.now.count) }
 {
-    (from..lists.count).find(|&j| {
-        names_region(lists.full[j], r) && !has_ramp(lists.boundaries, j)
+    let index = (from..lists.count).find(|&j| names_region(lists.full[j], r)
+        && !has_ramp(lists.boundaries, j))?;
+    let pair = lists.full[index]?;
+    Some(Port {
+        index: index as u8,
+        exterior: pair.other(r),
     })
 }
 
 // The bridge of region r: it is not anchored, and its incidents are three full pairs without ramps.
-pub fn bridge_of(lists: &JunctionLists, r: u32) -> Option<Bridge>
+pub fn bridge_of(lists: &JunctionLists, r: u32) -> Option<Port>
     requires lent { LentIn lists.now }
     requires r_named { (1 ≤ r) × (r ≤ lists.now.regions) }
     ensures { bridge_form r result ≡ is_bridge_at lists.now.boundaries.now lists.now.full.now
@@ -135,10 +100,10 @@ pub fn bridge_of(lists: &JunctionLists, r: u32) -> Option<Bridge>
         return None;
     }
     let i = next_port(lists, r, 0)?;
-    let j = next_port(lists, r, i + 1)?;
-    let k = next_port(lists, r, j + 1)?;
-    match next_port(lists, r, k + 1) {
+    let j = next_port(lists, r, i.index as usize + 1)?;
+    let k = next_port(lists, r, j.index as usize + 1)?;
+    match next_port(lists, r, k.index as usize + 1) {
         Some(_) => None,
-        None => bridge_of_three(lists, r, i, j, k),
+        None => bridge_of_three(lists.boundaries, lists.marks, i, j, k),
     }
 }

@@ -1,22 +1,12 @@
-// How far boundaries and regions are apart.
-ghost use Rattle.std.specs.Prelude.{◌≡◌, ◌*◌};
-ghost use Rattle.definitions.specs.Junctions.{within_distance};
-ghost use Rattle.laws.specs.FloatLaws.DistanceRange.{DistanceInRange};
-ghost use Rattle.geometry.specs.Forms.{point_form};
+// How far boundaries are apart.
+ghost use Rattle.std.specs.Prelude.{◌≡◌};
 ghost use Rattle.junction_proposals.specs.Unions.{is_near, passes_at};
 ghost use Rattle.geometry.specs.Placed.{Placed};
 
-use geometry::Point;
 use geometry::boundaries::{center_of, width_at};
-use geometry::points::distance;
+use geometry::points::within_distance;
 
 const MAX_PORT_DISTANCE_PIXELS: f64 = 384.0;
-
-pub fn within_distance(left: Point, right: Point, limit: f64) -> bool
-    ensures { DistanceInRange (point_form left) (point_form right) → result ≡ within_distance (point_form left) (point_form right) limit }
-{
-    distance(left, right) <= limit
-}
 
 // Whether boundary j, a port, is near boundary i.
 pub fn is_near_port(boundaries: &[u64], i: usize, j: usize) -> bool

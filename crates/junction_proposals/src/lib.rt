@@ -3,7 +3,7 @@
 #![tactic(auto)]
 
 pub mod bridges;
-pub mod distances;
+mod distances;
 pub mod lists;
 pub mod ports;
 pub mod proposals;

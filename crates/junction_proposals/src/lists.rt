@@ -2,8 +2,9 @@
 
 use context::pairs::Pair;
 
-// What pass 3 reads of a partition: the boundaries as lent, the full pair of each, how many incidents each region has, the marks of the regions, odd where one is anchored,
-// and how many boundaries and regions there are.
+// What pass 3 reads of a partition: the boundaries as lent, the full pair of each, how many incidents each region has, the marks of the regions, odd where one
+// is anchored, and how many boundaries and regions there are.
+// Kept: `full` is not cut to `count` pairs: a boundary listed as a byte indexes an array of 256 without a bound, where a slice would ask for one.
 #[derive(Clone, Copy)]
 pub struct JunctionLists<'a> {
     pub boundaries: &'a [u64],

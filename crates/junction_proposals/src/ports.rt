@@ -25,7 +25,7 @@ pub fn names_region(pair: Option<Pair>, r: u32) -> bool
 }
 
 // Whether exactly one side of the full pair lies in the union.
-pub fn fits_union(union: Pair, pair: Option<Pair>) -> bool
+fn fits_union(union: Pair, pair: Option<Pair>) -> bool
     ensures { result ≡ holds (full_pair_of pair) (fits_union (pair_form union)) }
 {
     pair.is_some_and(|p| union.contains(p.lo) != union.contains(p.hi))
@@ -42,9 +42,8 @@ pub fn find_incidents(
     ensures { Listed full.now count (pair_form union) incidents.new result }
 {
     let mut n = 0;
-    // Kept: without a heap nothing can be collected, so the lent list is filled.
-    for j in 0..count {
-        if names_region(full[j], union.lo) | names_region(full[j], union.hi) {
+    for (j, &pair) in full[..count].iter().enumerate() {
+        if names_region(pair, union.lo) | names_region(pair, union.hi) {
             incidents[n] = j as u8;
             n += 1;
         }
@@ -59,15 +58,16 @@ fn names_at(full: &[Option<Pair>; 256], r: u32, j: u8) -> bool
     names_region(full[j as usize], r)
 }
 
-// Whether the full pair of boundary j names region r of the union without that exactly one of its sides lies in it. Boundary `index`, the union's own, is left out.
+// Whether the full pair of boundary j names region r of the union without that exactly one of its sides lies in it. Boundary `index`, the union's own, is left
+// out.
 fn is_unfit(full: &[Option<Pair>; 256], index: usize, union: Pair, r: u32, j: u8) -> bool
     ensures { result ≡ is_unfit full.now index (pair_form union) r j }
 {
     names_at(full, r, j) & ((j as usize != index) & !fits_union(union, full[j as usize]))
 }
 
-// Whether every incident of region r of the union, other than its own boundary, is a full pair with one side in the union. Looks at the boundaries whose full pair names
-// a region of the union; an incident that is no full pair is not met here: it shows in the region's count.
+// Whether every incident of region r of the union, other than its own boundary, is a full pair with one side in the union. Looks at the boundaries whose full
+// pair names a region of the union; an incident that is no full pair is not met here: it shows in the region's count.
 fn region_fits(lists: &JunctionLists, divider: &Divider, r: u32) -> bool
     requires r_named { (1 ≤ r) × (r ≤ length lists.now.counts.now) }
     requires r_of_union { contains r (pair_form divider.now.union) ≡ true }

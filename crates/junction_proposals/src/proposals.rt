@@ -13,12 +13,12 @@ use crate::unions::is_union;
 // 256 unions, and 170 bridges: a pocket has three full pairs, and a full pair names two regions.
 pub const MAX_PROPOSALS: usize = 426;
 
-// Whether the boundary between two regions would go, or one of two that lead from a pocket to one region.
+// Whether the boundary between two regions would go, or one of two that lead from a pocket to one region; with its number in the ranked list.
 // Unions go before bridges.
 #[derive(Clone, Copy, PartialEq, Eq, PartialOrd, Ord)]
 pub enum Kind {
-    Union,
-    Bridge,
+    Union = 0,
+    Bridge = 1,
 }
 
 impl Kind {
@@ -31,17 +31,14 @@ impl Kind {
     pub fn number(self) -> u32
         ensures { result ≡ kind_of self }
     {
-        match self {
-            Kind::Union => 0,
-            Kind::Bridge => 1,
-        }
+        self as u32
     }
 }
 
 // What is proposed: the boundary that would go, and the two regions of a union, or the pocket and the region beyond.
 #[derive(Clone, Copy)]
 pub struct Candidate {
-    pub index: usize,
+    pub index: u8,
     pub kind: Kind,
     pub first: u32,
     pub second: u32,
@@ -56,7 +53,7 @@ fn union_row(lists: &JunctionLists, i: usize) -> Option<Candidate>
     let union = lists.full[i]?;
     if is_union(lists, i) {
         Some(Candidate {
-            index: i,
+            index: i as u8,
             kind: Kind::Union,
             first: union.lo,
             second: union.hi,
@@ -80,49 +77,57 @@ fn bridge_row(lists: &JunctionLists, r: u32) -> Option<Candidate>
     })
 }
 
-// Puts in what was found behind the first n rows, and gives how many there are then.
-fn add_row(rows: &mut [Candidate], n: usize, found: Option<Candidate>) -> usize
-    requires room { n + length (to_list (found_form found)) ≤ length rows.old }
-    ensures rows { rows_of rows.new result ≡ rows_of rows.old n ++ to_list (found_form found) }
-    ensures answer { result ≡ n + length (to_list (found_form found)) }
-{
-    match found {
-        Some(row) => {
-            rows[n] = row;
-            n + 1
+// The rows found so far, in front of the list that was lent for them.
+#[derive(Drop)]
+struct RowList<'a> {
+    rows: &'a mut [Candidate],
+    count: usize,
+}
+
+impl RowList<'_> {
+    // Puts in what was found, if there is something.
+    fn add(&mut self, found: Option<Candidate>)
+        requires room { self.old.count + length (to_list (found_form found)) ≤ length self.old.rows.now }
+        ensures same { self.new.rows.ghost_name ≡ self.old.rows.ghost_name }
+        ensures long { length self.new.rows.now ≡ length self.old.rows.now }
+        ensures rows { rows_of self.new.rows.now self.new.count ≡ rows_of self.old.rows.now self.old.count ++ to_list (found_form found) }
+        ensures count { self.new.count ≡ self.old.count + length (to_list (found_form found)) }
+    {
+        if let Some(row) = found {
+            self.rows[self.count] = row;
+            self.count += 1;
         }
-        None => n,
     }
 }
 
-// All unions.
-fn find_unions(lists: &JunctionLists, rows: &mut [Candidate]) -> usize
+// Adds all unions to the list, which has no rows yet.
+fn find_unions(lists: &JunctionLists, list: &mut RowList)
     requires lent { LentIn lists.now }
-    requires rows_room { max_proposals ≤ length rows.old }
-    ensures rows { rows_of rows.new result ≡ collect lists.now.count (union_in lists.now) }
-    ensures bound { result ≤ lists.now.count }
+    requires none_yet { list.old.count ≡ 0 }
+    requires rows_room { max_proposals ≤ length list.old.rows.now }
+    ensures same { list.new.rows.ghost_name ≡ list.old.rows.ghost_name }
+    ensures long { length list.new.rows.now ≡ length list.old.rows.now }
+    ensures rows { rows_of list.new.rows.now list.new.count ≡ collect lists.now.count (union_in lists.now) }
+    ensures bound { list.new.count ≤ lists.now.count }
 {
-    let mut n = 0;
     for i in 0..lists.count {
-        n = add_row(rows, n, union_row(lists, i));
+        list.add(union_row(lists, i));
     }
-    n
 }
 
-// All bridges, behind the first `unions` rows.
-fn find_bridges(lists: &JunctionLists, rows: &mut [Candidate], unions: usize) -> usize
+// Adds all bridges to a list of unions.
+fn find_bridges(lists: &JunctionLists, list: &mut RowList)
     requires lent { LentIn lists.now }
-    requires unions_within { unions ≤ lists.now.count }
-    requires rows_room { max_proposals ≤ length rows.old }
-    ensures rows { rows_of rows.new result ≡ rows_of rows.old unions
+    requires unions { list.old.count ≤ lists.now.count }
+    requires rows_room { max_proposals ≤ length list.old.rows.now }
+    ensures same { list.new.rows.ghost_name ≡ list.old.rows.ghost_name }
+    ensures rows { rows_of list.new.rows.now list.new.count ≡ rows_of list.old.rows.now list.old.count
         ++ collect lists.now.regions (λ k. bridge_in lists.now (suc k)) }
-    ensures bound { result ≤ max_proposals }
+    ensures bound { list.new.count ≤ max_proposals }
 {
-    let mut n = unions;
     for k in 0..lists.regions {
-        n = add_row(rows, n, bridge_row(lists, (k + 1) as u32));
+        list.add(bridge_row(lists, (k + 1) as u32));
     }
-    n
 }
 
 // All rows: of them those that the records of their regions allow are the proposals.
@@ -133,6 +138,8 @@ pub fn find_proposals(lists: &JunctionLists, rows: &mut [Candidate]) -> usize
     ensures rows_fit { (k : ℕ) → k < result → RowFits lists.now.count lists.now.regions (row_at rows.new k) }
     ensures allowed { (C : Context) → ShowsIn lists.now C → filter (is_allowed C) (rows_of rows.new result) ≡ proposals C }
 {
-    let unions = find_unions(lists, rows);
-    find_bridges(lists, rows, unions)
+    let mut list = RowList { rows, count: 0 };
+    find_unions(lists, &mut list);
+    find_bridges(lists, &mut list);
+    list.count
 }

@@ -17,7 +17,7 @@ use geometry::boundaries::has_ramp;
 
 // The exteriors found: none, one, two, or more.
 #[derive(Clone, Copy)]
-pub enum Exteriors {
+enum Exteriors {
     None,
     One(u32),
     Two(u32, u32),
@@ -25,7 +25,7 @@ pub enum Exteriors {
 }
 
 impl Exteriors {
-    pub fn with(self, e: u32) -> Exteriors
+    fn with(self, e: u32) -> Exteriors
         ensures { result ≡ with_exterior self e }
     {
         match self {
@@ -52,7 +52,7 @@ impl Exteriors {
 }
 
 // The side of the full pair that lies outside the union.
-pub fn exterior_of(union: Pair, pair: Pair) -> u32
+fn exterior_of(union: Pair, pair: Pair) -> u32
     ensures { result ≡ exterior_of (pair_form union) (pair_form pair) }
 {
     if union.contains(pair.lo) {
@@ -63,7 +63,7 @@ pub fn exterior_of(union: Pair, pair: Pair) -> u32
 }
 
 // Whether the ports lead to three regions or more. All ports are among the union's incidents.
-pub fn has_three_exteriors(lists: &JunctionLists, divider: &Divider) -> bool
+fn has_three_exteriors(lists: &JunctionLists, divider: &Divider) -> bool
     requires incidents { divider.now.incidents.now ≡ incidents_of lists.now.full.now lists.now.count (pair_form divider.now.union) }
     ensures { result ≡ leb 3 (count_below lists.now.count (leads_anew lists.now.full.now divider.now.index
         (pair_form divider.now.union))) }
@@ -76,7 +76,7 @@ pub fn has_three_exteriors(lists: &JunctionLists, divider: &Divider) -> bool
 }
 
 // Whether every port passes. All ports are among the union's incidents.
-pub fn ports_pass(lists: &JunctionLists, divider: &Divider, one: bool) -> bool
+fn ports_pass(lists: &JunctionLists, divider: &Divider, one: bool) -> bool
     requires boundaries_lent { LentBoundaries lists.now.boundaries.now lists.now.count }
     requires index_within { divider.now.index < lists.now.count }
     requires incidents { divider.now.incidents.now ≡ incidents_of lists.now.full.now lists.now.count (pair_form divider.now.union) }
@@ -90,7 +90,7 @@ pub fn ports_pass(lists: &JunctionLists, divider: &Divider, one: bool) -> bool
 }
 
 // Whether the union's regions have too few incidents for three ports: a port is an incident of one of the two, and the boundary between them is one of both.
-pub fn has_few_incidents(counts: &[u32], union: Pair) -> bool
+fn has_few_incidents(counts: &[u32], union: Pair) -> bool
     requires lo_named { (1 ≤ union.lo) × (union.lo ≤ length counts.now) }
     requires hi_named { (1 ≤ union.hi) × (union.hi ≤ length counts.now) }
     ensures { result ≡ ltb (get_or counts.now (union.lo - 1) 0 + get_or counts.now (union.hi - 1) 0) 5 }

@@ -21,8 +21,7 @@ use context::region_marks::is_anchored;
 use elevations::Share;
 use geometry::Point;
 use geometry::boundaries::segment_of;
-use geometry::points::{center, point, point_segment_distance};
-use junction_proposals::distances::within_distance;
+use geometry::points::{center, point, point_segment_distance, within_distance};
 use junction_proposals::proposals::Candidate;
 use span_geometry::PixelPosition;
 
@@ -162,7 +161,7 @@ pub fn is_allowed(
     requires { (C : Context) × Asked C boundaries.now marks.now row first second }
     ensures { (C : Context) → Asked C boundaries.now marks.now row first second → result ≡ is_allowed C (form row) }
 {
-    let ends = segment_of(boundaries, row.index);
+    let ends = segment_of(boundaries, row.index as usize);
     if !row.kind.is_union() {
         return bridge_region(first, ends.a, ends.b);
     }

@@ -1,4 +1,4 @@
--- What is asked of the lists of ranks and of the selection, of other lists of the same lengths; marks of which none is set. Assumes nothing.
+-- What is asked of the lists of the selection, of other lists of the same lengths; marks of which none is set. Assumes nothing.
 use Rattle.junction_proposals.specs.declared.proposals.Candidate.{Candidate}
 use Prim.Native.Nat.{ℕ}
 use native.Mathlib.Omega.{arith}
@@ -6,20 +6,13 @@ use mathlib.Core.Path.{◌≡◌}
 use mathlib.Core.Bool.{Bool}
 use mathlib.Core.List.{List}
 use lib.ListN.{length}
-use Rattle.junction_selection.specs.Ranks.{Ranking}
 use Rattle.junction_selection.specs.Taken.{Selecting}
 
--- another order of the same length
-pub ranking_of : {boundaries : List ℕ} {rows : List Candidate} {was : List ℕ} {count n : ℕ} (order : List ℕ) → Ranking boundaries rows was count n → length order ≡ length was → Ranking boundaries rows order count n
-ranking_of order h e =
-    record { few = h.few; whole = h.whole; room = omega (arith, h.room); long = h.long; small = h.small; below = h.below }
-
 -- other lists of the same lengths
-pub selecting_of : {rows : List Candidate} {was : List ℕ} {off free : List Bool} {count n : ℕ} (taken : List ℕ) (removed reserved : List Bool) → Selecting rows was off free count n → length removed ≡ length off → length reserved ≡ length free → length taken ≡ length was → Selecting rows taken removed reserved count n
+pub selecting_of : {rows : List Candidate} {was : List ℕ} {off free : List Bool} {count : ℕ} (taken : List ℕ) (removed reserved : List Bool) → Selecting rows was off free count → length removed ≡ length off → length reserved ≡ length free → length taken ≡ length was → Selecting rows taken removed reserved count
 selecting_of taken removed reserved h a b c =
     record {
       few = h.few;
-      whole = h.whole;
       small = h.small;
       removed-long = omega (arith, h.removed-long);
       reserved_long = omega (arith, h.reserved_long);

@@ -80,12 +80,12 @@ order_more rows taken t p l =
     ∙ ap₂ (λ (x : List Proposal) (y : Proposal). x ++ (y ∷ [])) (collect_ext t (λ k. Some (row_at rows (get_or (set taken t p) k 0))) (λ k. Some (row_at rows (get_or taken k 0))) (λ k h. ap (λ x. Some (row_at rows x)) (get_or-set_other taken t k p 0 (λ e. omega arith))))
     (ap (row_at rows) (get_or-set_same taken t p 0 l))
 
-module _ (full : List (Option declared.Pair)) (rows : List Candidate) (taken : List ℕ) (removed reserved : List Bool) (count n t : ℕ) (chosen : List Proposal) (st : Standing full rows taken removed reserved count n t chosen) where
-  chosen-all : ((k : ℕ) → k < n → (row_at rows k).index < count) → All (λ q. q.index < count) chosen
-  chosen-all below = rw st.are at (order-all rows taken count n t below st.rows_in)
+module _ (full : List (Option declared.Pair)) (rows : List Candidate) (taken : List ℕ) (removed reserved : List Bool) (count t : ℕ) (chosen : List Proposal) (st : Standing full rows taken removed reserved count t chosen) where
+  chosen-all : ((k : ℕ) → k < length rows → (row_at rows k).index < count) → All (λ q. q.index < count) chosen
+  chosen-all below = rw st.are at (order-all rows taken count (length rows) t below st.rows_in)
 
   -- a, b and c are what the three tests returned of row p
-  pub refused : (p : ℕ) {a b c : Bool} → ((k : ℕ) → k < n → (row_at rows k).index < count) → p < n → a ≡ any_below_lem count (λ j. reserves_at full (row_at rows p) j && (get_or removed j false || get_or reserved j false)) → b ≡ get_or reserved (row_at rows p).index false → c ≡ any (λ q. region_conflict q.kind (row_at rows p).kind q (row_at rows p)) (order_of rows taken t) → (a || b || c) ≡ any (λ q. conflict_at full count q (row_at rows p)) chosen
+  pub refused : (p : ℕ) {a b c : Bool} → ((k : ℕ) → k < length rows → (row_at rows k).index < count) → p < length rows → a ≡ any_below_lem count (λ j. reserves_at full (row_at rows p) j && (get_or removed j false || get_or reserved j false)) → b ≡ get_or reserved (row_at rows p).index false → c ≡ any (λ q. region_conflict q.kind (row_at rows p).kind q (row_at rows p)) (order_of rows taken t) → (a || b || c) ≡ any (λ q. conflict_at full count q (row_at rows p)) chosen
   refused p {a} {b} {c} below l ports own regions =
       (λ x. ports x || own x || regions x)
       ∙ (λ x. marks x || st.reserved_at (row_at rows p).index (below p l) x || any (λ q. region_conflict q.kind (row_at rows p).kind q (row_at rows p)) (st.are x))
@@ -95,7 +95,7 @@ module _ (full : List (Option declared.Pair)) (rows : List Candidate) (taken : L
       marks = below_ext count _ _ (λ j h. ap₂ (λ x y. reserves_at full (row_at rows p) j && (x || y)) (st.removed_at_lem j h) (st.reserved_at j h))
 
   -- row p is taken
-  standing_more : (p i : ℕ) (now : List Bool) → t < length taken → p < n → i ≡ (row_at rows p).index → i < length removed → ((j : ℕ) → j < count → get_or now j false ≡ (get_or reserved j false || reserves_at full (row_at rows p) j)) → Standing full rows (set taken t p) (set removed i true) now count n (t + 1) (chosen ++ (row_at rows p ∷ []))
+  standing_more : (p i : ℕ) (now : List Bool) → t < length taken → p < length rows → i ≡ (row_at rows p).index → i < length removed → ((j : ℕ) → j < count → get_or now j false ≡ (get_or reserved j false || reserves_at full (row_at rows p) j)) → Standing full rows (set taken t p) (set removed i true) now count (t + 1) (chosen ++ (row_at rows p ∷ []))
   unfolding any
   standing_more p i now l lp e li m =
       record {
@@ -107,7 +107,7 @@ module _ (full : List (Option declared.Pair)) (rows : List Candidate) (taken : L
             ∙ sym (any_append (λ q. reserves_at full q j) chosen (row_at rows p ∷ []) ∙ ap (λ b. any (λ q. reserves_at full q j) chosen || b) (or-false (reserves_at full (row_at rows p) j)));
       }
     where
-      within : (k : ℕ) → k < t + 1 → (b : Bool) → eqb k t ≡ b → get_or (set taken t p) k 0 < n
+      within : (k : ℕ) → k < t + 1 → (b : Bool) → eqb k t ≡ b → get_or (set taken t p) k 0 < length rows
       within k h true q = rw (eqb-true k t q) (rw (get_or-set_same taken t p 0 l) lp)
       within k h false q = rw (get_or-set_other taken t k p 0 (eqb-false k t q)) (st.rows_in k (omega (arith, eqb-false k t q)))
 
@@ -125,13 +125,13 @@ module _ (full : List (Option declared.Pair)) (rows : List Candidate) (taken : L
           ∙ sym (ap (λ b. any (λ q. eqb j q.index) chosen || b) q ∙ or-false (any (λ q. eqb j q.index) chosen)) ∙ found j
 
   -- b is what `is_refused` returned of row p
-  pub standing-kept : (p : ℕ) {b : Bool} → b ≡ any (λ q. conflict_at full count q (row_at rows p)) chosen → b ≡ true → Standing full rows taken removed reserved count n t (grown (conflict_at full count) chosen (row_at rows p))
+  pub standing-kept : (p : ℕ) {b : Bool} → b ≡ any (λ q. conflict_at full count q (row_at rows p)) chosen → b ≡ true → Standing full rows taken removed reserved count t (grown (conflict_at full count) chosen (row_at rows p))
   standing-kept p e h =
-      subst (λ (x : Bool). Standing full rows taken removed reserved count n t (cond x chosen (chosen ++ (row_at rows p ∷ [])))) (sym h ∙ e) st
+      subst (λ (x : Bool). Standing full rows taken removed reserved count t (cond x chosen (chosen ++ (row_at rows p ∷ [])))) (sym h ∙ e) st
 
-  pub standing-taken : (p i : ℕ) (now : List Bool) {b : Bool} → b ≡ any (λ q. conflict_at full count q (row_at rows p)) chosen → b ≡ false → t < length taken → p < n → i ≡ (row_at rows p).index → i < length removed → ((j : ℕ) → j < count → get_or now j false ≡ (get_or reserved j false || reserves_at full (row_at rows p) j)) → Standing full rows (set taken t p) (set removed i true) now count n (t + 1) (grown (conflict_at full count) chosen (row_at rows p))
+  pub standing-taken : (p i : ℕ) (now : List Bool) {b : Bool} → b ≡ any (λ q. conflict_at full count q (row_at rows p)) chosen → b ≡ false → t < length taken → p < length rows → i ≡ (row_at rows p).index → i < length removed → ((j : ℕ) → j < count → get_or now j false ≡ (get_or reserved j false || reserves_at full (row_at rows p) j)) → Standing full rows (set taken t p) (set removed i true) now count (t + 1) (grown (conflict_at full count) chosen (row_at rows p))
   standing-taken p i now e h l lp q li m =
-      subst (λ (x : Bool). Standing full rows (set taken t p) (set removed i true) now count n (t + 1) (cond x chosen (chosen ++ (row_at rows p ∷ [])))) (sym h ∙ e) (standing_more p i now l lp q li m)
+      subst (λ (x : Bool). Standing full rows (set taken t p) (set removed i true) now count (t + 1) (cond x chosen (chosen ++ (row_at rows p ∷ [])))) (sym h ∙ e) (standing_more p i now l lp q li m)
 
 -- ---- the selection, one after the other
 
@@ -147,9 +147,9 @@ selected_next full rows order count k =
     ap (select (conflict_at full count) []) (collect_next (λ j. Some (row_at rows (get_or order j 0))) k)
     ∙ select_more (conflict_at full count) [] (collect k (λ j. Some (row_at rows (get_or order j 0)))) (row_at rows (get_or order k 0))
 
-pub standing-start : (full : List (Option declared.Pair)) (rows : List Candidate) (taken order : List ℕ) (removed reserved : List Bool) (count n : ℕ) → ((j : ℕ) → j < count → get_or removed j false ≡ false) → ((j : ℕ) → j < count → get_or reserved j false ≡ false) → Standing full rows taken removed reserved count n 0 (selected_of full rows order count 0)
+pub standing-start : (full : List (Option declared.Pair)) (rows : List Candidate) (taken order : List ℕ) (removed reserved : List Bool) (count : ℕ) → ((j : ℕ) → j < count → get_or removed j false ≡ false) → ((j : ℕ) → j < count → get_or reserved j false ≡ false) → Standing full rows taken removed reserved count 0 (selected_of full rows order count 0)
 unfolding selected_of order_of collect select any
-standing-start full rows taken order removed reserved count n a b = record { are = refl; rows_in = λ k h. absurd (omega arith); removed_at_lem = a; reserved_at = b }
+standing-start full rows taken order removed reserved count a b = record { are = refl; rows_in = λ k h. absurd (omega arith); removed_at_lem = a; reserved_at = b }
 
-pub standing_as : {full : List (Option declared.Pair)} {rows : List Candidate} {taken : List ℕ} {removed reserved : List Bool} {count n t : ℕ} {chosen others : List Proposal} → Standing full rows taken removed reserved count n t chosen → chosen ≡ others → Standing full rows taken removed reserved count n t others
-standing_as {full} {rows} {taken} {removed} {reserved} {count} {n} {t} st e = subst (λ (x : List Proposal). Standing full rows taken removed reserved count n t x) e st
+pub standing_as : {full : List (Option declared.Pair)} {rows : List Candidate} {taken : List ℕ} {removed reserved : List Bool} {count t : ℕ} {chosen others : List Proposal} → Standing full rows taken removed reserved count t chosen → chosen ≡ others → Standing full rows taken removed reserved count t others
+standing_as {full} {rows} {taken} {removed} {reserved} {count} {t} st e = subst (λ (x : List Proposal). Standing full rows taken removed reserved count t x) e st

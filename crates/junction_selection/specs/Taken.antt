@@ -18,38 +18,35 @@ pub record Within (rows : List Candidate) (removed reserved : List Bool) (count 
   pub index_in : (row_at rows p).index < count
 
 -- rows whose boundaries have marks, and room for those taken
-pub record Selecting (rows : List Candidate) (taken : List ℕ) (removed reserved : List Bool) (count n : ℕ) : Type 0 where
-  pub few : n ≤ max_proposals
-  pub whole : n ≤ length rows
+pub record Selecting (rows : List Candidate) (taken : List ℕ) (removed reserved : List Bool) (count : ℕ) : Type 0 where
+  pub few : length rows ≤ max_proposals
   pub small : count ≤ 256
   pub removed-long : count ≤ length removed
   pub reserved_long : count ≤ length reserved
   pub room : max_proposals ≤ length taken
-  pub below : (k : ℕ) → k < n → (row_at rows k).index < count
+  pub below : (k : ℕ) → k < length rows → (row_at rows k).index < count
 
 -- rows whose boundaries have marks
-pub record Selectable (rows : List Candidate) (removed : List Bool) (count n : ℕ) : Type 0 where
-  pub few : n ≤ max_proposals
-  pub whole : n ≤ length rows
+pub record Selectable (rows : List Candidate) (removed : List Bool) (count : ℕ) : Type 0 where
+  pub few : length rows ≤ max_proposals
   pub small : count ≤ 256
   pub removed-long : count ≤ length removed
-  pub below : (k : ℕ) → k < n → (row_at rows k).index < count
+  pub below : (k : ℕ) → k < length rows → (row_at rows k).index < count
 
 -- the first t taken rows are `chosen`, and the marks are those of the boundaries that they remove and reserve
-pub record Standing (full : List (Option declared.Pair)) (rows : List Candidate) (taken : List ℕ) (removed reserved : List Bool) (count n t : ℕ) (chosen : List Proposal) : Type 0 where
+pub record Standing (full : List (Option declared.Pair)) (rows : List Candidate) (taken : List ℕ) (removed reserved : List Bool) (count t : ℕ) (chosen : List Proposal) : Type 0 where
   pub are : order_of rows taken t ≡ chosen
-  pub rows_in : Rows taken t n
+  pub rows_in : Rows taken t (length rows)
   pub removed_at_lem : (j : ℕ) → j < count → get_or removed j false ≡ any (λ q. eqb j q.index) chosen
   pub reserved_at : (j : ℕ) → j < count → get_or reserved j false ≡ any (λ q. reserves_at full q j) chosen
 
--- n rows with a verdict for each, and a mark for each boundary, none of which is set
-pub record Judged (boundaries : List ℕ) (rows : List Candidate) (verdicts removed : List Bool) (count n : ℕ) : Type 0 where
-  pub few : n ≤ max_proposals
-  pub whole : n ≤ length rows
+-- rows with a verdict for each, and a mark for each boundary, none of which is set
+pub record Judged (boundaries : List ℕ) (rows : List Candidate) (verdicts removed : List Bool) (count : ℕ) : Type 0 where
+  pub few : length rows ≤ max_proposals
   pub long : numbers_per_boundary * count ≤ length boundaries
   pub small : count ≤ 256
-  pub below : (k : ℕ) → k < n → (row_at rows k).index < count
-  pub judged : n ≤ length verdicts
+  pub below : (k : ℕ) → k < length rows → (row_at rows k).index < count
+  pub judged : length rows ≤ length verdicts
   pub removed-long : count ≤ length removed
   pub clear : (j : ℕ) → j < count → get_or removed j false ≡ false
 

@@ -1,14 +1,11 @@
 // The rows among which is chosen.
 
-use context::pairs::Pair;
+use junction_proposals::lists::JunctionLists;
 use junction_proposals::proposals::Candidate;
 
-// What the choice among the proposals reads: the rows found, of which n are proposals, and the boundaries with the full pair of each, of which there are `count`.
+// What the choice among the proposals reads: the lists of the partition, and the rows found.
 #[derive(Clone, Copy)]
 pub struct FoundRows<'a> {
-    pub boundaries: &'a [u64],
-    pub full: &'a [Option<Pair>; 256],
+    pub lists: &'a JunctionLists<'a>,
     pub rows: &'a [Candidate],
-    pub count: usize,
-    pub n: usize,
 }

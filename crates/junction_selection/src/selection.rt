@@ -1,36 +1,34 @@
 // `select_proposals`: a proposal is taken unless it conflicts with one taken before.
-ghost use Rattle.std.specs.Prelude.{◌≡◌, false, ◌&&◌, ◌||◌, cond, List, [], ◌∷◌, ◌++◌, ℕ, ◌+◌, ◌*◌, ◌≤◌, ◌<◌, length, get_or, eqb};
+ghost use Rattle.std.specs.Prelude.{◌≡◌, false, ◌&&◌, ◌||◌, cond, eqb, ℕ, ◌+◌, ◌≤◌, ◌<◌};
+ghost use Rattle.std.specs.Prelude.{List, [], ◌∷◌, ◌++◌, length, get_or};
 ghost use Rattle.definitions.specs.Scan.{any, any_below_lem};
 ghost use Rattle.definitions.specs.Junctions.{Proposal, region_conflict};
-ghost use Rattle.junction_proposals.specs.Rows.{row_at};
+ghost use Rattle.junction_proposals.specs.Rows.{form, row_at};
 ghost use Rattle.junction_selection.specs.Ranks.{order_of, reserves_at, conflict_at, selected_of, Rows};
 ghost use Rattle.junction_selection.specs.Taken.{Within, Selectable, Selecting, Standing, Judged, removed_at};
 
 use crate::found::FoundRows;
 use crate::ranks::rank_proposals;
+use context::pairs::Pair;
+use junction_proposals::lists::JunctionLists;
 use junction_proposals::ports::names_region;
 use junction_proposals::proposals::{Candidate, MAX_PROPOSALS};
 
-// Whether row p reserves boundary j as a port.
-pub fn reserves(found: &FoundRows, p: usize, j: usize) -> bool
-    requires { (p < length found.now.rows.now) × (j < 256) }
-    ensures { result ≡ reserves_at found.now.full.now (row_at found.now.rows.now p) j }
+// Whether a row reserves boundary j as a port.
+pub fn reserves(full: &[Option<Pair>; 256], row: Candidate, j: usize) -> bool
+    requires { j < 256 }
+    ensures { result ≡ reserves_at full.now (form row) j }
 {
-    let row = found.rows[p];
     let union = row.kind.is_union();
-    let first = names_region(found.full[j], row.first);
-    let second = names_region(found.full[j], row.second);
-    (first | (union & second)) & !(union & (j == row.index))
+    let first = names_region(full[j], row.first);
+    let second = names_region(full[j], row.second);
+    (first | (union & second)) & !(union & (j == row.index as usize))
 }
 
-// Whether row q, taken, keeps row p from being taken by its regions: two bridges may share their exterior, and nothing else.
-pub fn region_conflict(rows: &[Candidate], q: usize, p: usize) -> bool
-    requires { (q < length rows.now) × (p < length rows.now) }
-    ensures { result ≡ region_conflict (row_at rows.now q).kind (row_at rows.now p).kind (row_at rows.now q)
-        (row_at rows.now p) }
+// Whether a taken row keeps another from being taken by its regions: two bridges may share their exterior, and nothing else.
+pub fn region_conflict(taken: Candidate, other: Candidate) -> bool
+    ensures { result ≡ region_conflict (form taken).kind (form other).kind (form taken) (form other) }
 {
-    let taken = rows[q];
-    let other = rows[p];
     let pockets = taken.first == other.first;
     let outward = taken.first == other.second;
     let inward = taken.second == other.first;
@@ -48,19 +46,21 @@ fn region_taken(rows: &[Candidate], taken: &[u32], p: usize) -> bool
     ensures { result ≡ any (λ q. region_conflict q.kind (row_at rows.now p).kind q (row_at rows.now p))
         (order_of rows.now taken.now (length taken.now)) }
 {
-    taken.iter().any(|&q| region_conflict(rows, q as usize, p))
+    taken
+        .iter()
+        .any(|&q| region_conflict(rows[q as usize], rows[p]))
 }
 
-// Marks the ports of row p.
-fn reserve_ports(found: &FoundRows, reserved: &mut [bool], p: usize)
-    requires { (p < length found.now.rows.now) × ((found.now.count ≤ 256) × (found.now.count ≤ length reserved.old)) }
+// Marks the ports of a row.
+fn reserve_ports(lists: &JunctionLists, reserved: &mut [bool; 256], row: Candidate)
+    requires { lists.now.count ≤ 256 }
     ensures { (j : ℕ) →
-        j < found.now.count →
-        get_or reserved.new j false
-        ≡ (get_or reserved.old j false || reserves_at found.now.full.now (row_at found.now.rows.now p) j) }
+        j < lists.now.count →
+        get_or reserved.new j false ≡ (get_or reserved.old j false || reserves_at lists.now.full.now (form row) j) }
 {
-    for j in 0..found.count {
-        reserved[j] |= reserves(found, p, j);
+    // Kept: of what `iter_mut().enumerate()` lends a proof knows nothing behind the loop.
+    for j in 0..lists.count {
+        reserved[j] |= reserves(lists.full, row, j);
     }
 }
 
@@ -76,49 +76,53 @@ struct Selection<'a> {
 impl Selection<'_> {
     // Whether a port of row p is removed or reserved.
     fn port_taken(&self, found: &FoundRows, p: usize) -> bool
-        requires { Within found.now.rows.now self.now.removed.now self.now.reserved found.now.count p }
-        ensures { result ≡ any_below_lem found.now.count (λ j. reserves_at found.now.full.now (row_at found.now.rows.now p) j
+        requires { Within found.now.rows.now self.now.removed.now self.now.reserved found.now.lists.now.count p }
+        ensures { result ≡ any_below_lem found.now.lists.now.count (λ j. reserves_at found.now.lists.now.full.now (row_at found.now.rows.now p) j
             && (get_or self.now.removed.now j false || get_or self.now.reserved j false)) }
     {
-        (0..found.count).any(|j| (self.removed[j] | self.reserved[j]) & reserves(found, p, j))
+        let row = found.rows[p];
+        (0..found.lists.count).any(|j| {
+            (self.removed[j] | self.reserved[j]) & reserves(found.lists.full, row, j)
+        })
     }
 
     // Whether a taken row conflicts with row p.
     fn refuses(&self, found: &FoundRows, p: usize) -> bool
-        requires selecting { Selecting found.now.rows.now self.now.taken self.now.removed.now self.now.reserved found.now.count found.now.n }
-        requires places { (self.now.count ≤ found.now.n) × (p < found.now.n) }
-        requires listed { Rows self.now.taken self.now.count found.now.n }
+        requires selecting { Selecting found.now.rows.now self.now.taken self.now.removed.now self.now.reserved found.now.lists.now.count }
+        requires places { (self.now.count ≤ length found.now.rows.now) × (p < length found.now.rows.now) }
+        requires listed { Rows self.now.taken self.now.count (length found.now.rows.now) }
         ensures { (chosen : List Proposal) →
-            Standing found.now.full.now found.now.rows.now self.now.taken self.now.removed.now self.now.reserved
-            found.now.count found.now.n self.now.count chosen →
-            result ≡ any (λ q. conflict_at found.now.full.now found.now.count q (row_at found.now.rows.now p)) chosen }
+            Standing found.now.lists.now.full.now found.now.rows.now self.now.taken self.now.removed.now self.now.reserved
+            found.now.lists.now.count self.now.count chosen →
+            result ≡ any (λ q. conflict_at found.now.lists.now.full.now found.now.lists.now.count q (row_at found.now.rows.now p)) chosen }
     {
-        let own = self.reserved[found.rows[p].index];
+        let own = self.reserved[found.rows[p].index as usize];
         let ports = self.port_taken(found, p);
         ports | own | region_taken(found.rows, &self.taken[..self.count], p)
     }
 
     // Takes row p, unless a taken row conflicts with it.
     fn take_if_free(&mut self, found: &FoundRows, p: usize)
-        requires selecting { Selecting found.now.rows.now self.old.taken self.old.removed.now self.old.reserved found.now.count found.now.n }
-        requires places { (self.old.count < found.now.n) × (p < found.now.n) }
-        requires listed { Rows self.old.taken self.old.count found.now.n }
+        requires selecting { Selecting found.now.rows.now self.old.taken self.old.removed.now self.old.reserved found.now.lists.now.count }
+        requires places { (self.old.count < length found.now.rows.now) × (p < length found.now.rows.now) }
+        requires listed { Rows self.old.taken self.old.count (length found.now.rows.now) }
         ensures same_removed { self.new.removed.ghost_name ≡ self.old.removed.ghost_name }
-        ensures selecting { Selecting found.now.rows.now self.new.taken self.new.removed.now self.new.reserved found.now.count found.now.n }
+        ensures selecting { Selecting found.now.rows.now self.new.taken self.new.removed.now self.new.reserved found.now.lists.now.count }
         ensures standing { (chosen : List Proposal) →
-            Standing found.now.full.now found.now.rows.now self.old.taken self.old.removed.now self.old.reserved
-            found.now.count found.now.n self.old.count chosen →
-            Standing found.now.full.now found.now.rows.now
-            self.new.taken self.new.removed.now self.new.reserved found.now.count found.now.n self.new.count
-            (cond (any (λ q. conflict_at found.now.full.now found.now.count q (row_at found.now.rows.now p)) chosen) chosen
+            Standing found.now.lists.now.full.now found.now.rows.now self.old.taken self.old.removed.now self.old.reserved
+            found.now.lists.now.count self.old.count chosen →
+            Standing found.now.lists.now.full.now found.now.rows.now
+            self.new.taken self.new.removed.now self.new.reserved found.now.lists.now.count self.new.count
+            (cond (any (λ q. conflict_at found.now.lists.now.full.now found.now.lists.now.count q (row_at found.now.rows.now p)) chosen) chosen
             (chosen ++ (row_at found.now.rows.now p ∷ []))) }
         ensures bound { self.new.count ≤ self.old.count + 1 }
     {
         if self.refuses(found, p) {
             return;
         }
-        self.removed[found.rows[p].index] = true;
-        reserve_ports(found, &mut self.reserved, p);
+        let row = found.rows[p];
+        self.removed[row.index as usize] = true;
+        reserve_ports(found.lists, &mut self.reserved, row);
         self.taken[self.count] = p as u32;
         self.count += 1;
     }
@@ -126,14 +130,14 @@ impl Selection<'_> {
 
 // Takes the rows that the order names, one after the other, where they are free, and marks their boundaries.
 fn select_ranked(found: &FoundRows, order: &[u32], removed: &mut [bool])
-    requires selectable { Selectable found.now.rows.now removed.old found.now.count found.now.n }
-    requires few { length order.now ≤ found.now.n }
-    requires listed { Rows order.now (length order.now) found.now.n }
-    requires removed_clear { (j : ℕ) → j < found.now.count → get_or removed.old j false ≡ false }
+    requires selectable { Selectable found.now.rows.now removed.old found.now.lists.now.count }
+    requires few { length order.now ≤ length found.now.rows.now }
+    requires listed { Rows order.now (length order.now) (length found.now.rows.now) }
+    requires removed_clear { (j : ℕ) → j < found.now.lists.now.count → get_or removed.old j false ≡ false }
     ensures { (j : ℕ) →
-        j < found.now.count →
+        j < found.now.lists.now.count →
         get_or removed.new j false
-        ≡ any (λ q. eqb j q.index) (selected_of found.now.full.now found.now.rows.now order.now found.now.count (length order.now)) }
+        ≡ any (λ q. eqb j q.index) (selected_of found.now.lists.now.full.now found.now.rows.now order.now found.now.lists.now.count (length order.now)) }
 {
     let mut selection = Selection {
         removed,
@@ -148,11 +152,12 @@ fn select_ranked(found: &FoundRows, order: &[u32], removed: &mut [bool])
 
 // Marks the boundaries of the proposals that the greedy selection takes, of the rows that are allowed.
 pub fn select_proposals(found: &FoundRows, verdicts: &[bool], removed: &mut [bool])
-    requires { Judged found.now.boundaries.now found.now.rows.now verdicts.now removed.old found.now.count found.now.n }
+    requires { Judged found.now.lists.now.boundaries.now found.now.rows.now verdicts.now removed.old found.now.lists.now.count }
     ensures { (j : ℕ) →
-        j < found.now.count →
+        j < found.now.lists.now.count →
         get_or removed.new j false
-        ≡ removed_at found.now.boundaries.now found.now.full.now found.now.rows.now verdicts.now found.now.count found.now.n j }
+        ≡ removed_at found.now.lists.now.boundaries.now found.now.lists.now.full.now found.now.rows.now verdicts.now
+        found.now.lists.now.count (length found.now.rows.now) j }
 {
     let mut order = [0u32; MAX_PROPOSALS];
     let m = rank_proposals(found, verdicts, &mut order);

@@ -1,3 +1,4 @@
 pub mod Numbers
 pub mod Proposing
 pub mod Exits
+pub mod Flat

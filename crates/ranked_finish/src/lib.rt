@@ -3,16 +3,19 @@
 
 #![tactic(auto)]
 
-ghost use Rattle.std.specs.Prelude.{◌≡◌, ◌*◌, ◌≤◌, length};
+ghost use Rattle.std.specs.Prelude.{◌≡◌, ◌*◌, ◌≤◌, length, map, [], ◌∷◌};
 ghost use Rattle.definitions.specs.Lists.{overwrite};
-ghost use Rattle.ranked_list.specs.RankedList.{numbers_per_ranked};
+ghost use Rattle.ranked_list.specs.RankedList.{numbers_per_ranked, flat_ranked};
+ghost use Rattle.ranked_rows.specs.Contract.{listed_form};
 ghost use Rattle.pass_lists.specs.Finished.{Finishes};
 ghost use Rattle.ranked_finish.specs.Ends.{ranked_form, ranked_of, RankedFinished};
 
 use areas::scratch::clear_scratch;
 use pass_lists::finish;
-use ranked_rows::NUMBERS_PER_RANKED;
-use refusals::{Cause, Refusal};
+use ranked_rows::RankedRow;
+use refusals::{Cause, Refusal, ensure};
+
+const NUMBERS_PER_RANKED: usize = 6;
 
 // How many rows are kept, and how many proposals there are.
 #[derive(Clone, Copy)]
@@ -50,43 +53,63 @@ impl From<Result<RankedKept, Refusal>> for RankedAnswer {
     }
 }
 
-// Writes a list in front of the one that was lent.
-fn put_listed(listed: &[u32], lent: &mut [u32])
-    requires { length listed.now ≤ length lent.old }
-    ensures { lent.new ≡ overwrite listed.now lent.old }
+// A row as the lent list has it: kind, boundary, two regions, whether it was taken, and by what rank it was refused.
+fn numbers_of(row: RankedRow) -> [u32; NUMBERS_PER_RANKED]
+    ensures { result ≡ flat_ranked (listed_form row ∷ []) }
 {
-    lent[..listed.len()].copy_from_slice(listed);
+    let RankedRow {
+        candidate,
+        refused_by,
+    } = row;
+    [
+        candidate.kind.number(),
+        u32::from(candidate.index),
+        candidate.first,
+        candidate.second,
+        u32::from(refused_by.is_none()),
+        u32::from(refused_by.unwrap_or(0)),
+    ]
 }
 
-// The list holds the rows of n proposals. Where the lent one has room for them, they are written there, the rows of the `count` boundaries that are not removed
-// go into the output, and masks and queue are cleared. Where it has not, 21: the lent list is zero, and so are masks and queue over the needed length.
+// Writes rows in front of the list that was lent.
+fn put_listed(listed: &[RankedRow], lent: &mut [u32])
+    requires { numbers_per_ranked * length listed.now ≤ length lent.old }
+    ensures { lent.new ≡ overwrite (flat_ranked (map listed_form listed.now)) lent.old }
+{
+    for (k, &row) in listed.iter().enumerate() {
+        let place = NUMBERS_PER_RANKED * k;
+        lent[place..place + NUMBERS_PER_RANKED].copy_from_slice(&numbers_of(row));
+    }
+}
+
+// The list holds the rows of the proposals. Where the lent one has room for them, they are written there, the rows of the `count` boundaries that are not
+// removed go into the output, and masks and queue are cleared. Where it has not, 21: the lent list is zero, and so are masks and queue over the needed length.
 pub fn finish_ranked(
     needed: usize,
     count: usize,
     boundaries: &[u64],
     removed: &[bool; 256],
-    listed: &[u32],
-    n: usize,
+    listed: &[RankedRow],
     masks: &mut [u16],
     queue: &mut [u32],
     output: &mut [u64],
     lent: &mut [u32],
 ) -> Result<RankedKept, Refusal>
-    requires finishes { Finishes needed count boundaries.now (length masks.old) (length queue.old) (length output.old) }
-    requires listed { numbers_per_ranked * n ≤ length listed.now }
-    ensures { RankedFinished needed count boundaries.now removed.now listed.now n
+    requires { Finishes needed count boundaries.now (length masks.old) (length queue.old) (length output.old) }
+    ensures { RankedFinished needed count boundaries.now removed.now (map listed_form listed.now)
         masks.old queue.old output.old lent.old
         (ranked_of result) masks.new queue.new output.new lent.new }
 {
-    if lent.len() / NUMBERS_PER_RANKED < n {
+    let room = lent.len() / NUMBERS_PER_RANKED;
+    if let Err(refusal) = ensure(listed.len() <= room, Cause::Ranked) {
         clear_scratch(masks, queue, needed);
         lent.fill(0);
-        return Err(Refusal {
-            cause: Cause::Ranked,
-            place: 0,
-        });
+        return Err(refusal);
     }
     let kept = finish(needed, count, boundaries, removed, masks, queue, output);
-    put_listed(&listed[..NUMBERS_PER_RANKED * n], lent);
-    Ok(RankedKept { kept, proposals: n })
+    put_listed(listed, lent);
+    Ok(RankedKept {
+        kept,
+        proposals: listed.len(),
+    })
 }

@@ -1,4 +1,4 @@
--- The ranked list grows by one row at its end, a row's numbers say whether it was taken, and the first rank that blocks is what a row names. Assumes nothing.
+-- The ranked list grows by one row at its end, and the first rank that blocks is what a row names; how a row's numbers are copied. Assumes nothing.
 use Prim.Native.Nat.{ℕ, zero, suc, ◌+◌, ◌-◌, ◌*◌, ◌≤◌, ◌<◌}
 use native.Mathlib.Omega.{arith}
 use mathlib.Core.Path.{◌≡◌, refl, sym, ap, ap₂, ◌∙◌}
@@ -7,15 +7,15 @@ use mathlib.Core.List.{List, [], ◌∷◌, ◌++◌, append-nil, append_assoc}
 use lib.ListN.{length, take, drop, get_or}
 use lib.Seq.{sets, sets-eq, drop-drop}
 use borrow.Rule.Slice.PartMut.{put_mid}
-use lib.Dec.{eqb}
 use Rattle.std.specs.Prelude.{Option, None, Some}
 use Rattle.std.specs.Option.{is_some, unwrap_or, option_map}
-use Rattle.definitions.specs.Scan.{any, bit}
+use Rattle.definitions.specs.Scan.{any}
 use Rattle.definitions.specs.Junctions.{Proposal}
-use Rattle.laws.specs.ListLaws.Flags.{bit-is_one}
+use Rattle.junction_proposals.specs.declared.proposals.Candidate.{Candidate}
 use Rattle.junction_proposals.specs.Bridges.{FirstIn}
-use Rattle.ranked_list.specs.RankedList.{Listed, first_place, blocks, judged, judged_after, flat_ranked}
-use Rattle.ranked_rows.specs.Contract.{ranked_row}
+use Rattle.junction_proposals.specs.Rows.{form}
+use Rattle.ranked_list.specs.RankedList.{Listed, first_place, blocks, judged, judged_after}
+use Rattle.ranked_rows.specs.Contract.{listed_form}
 
 -- a row in the place of as many numbers
 pub row_copied : (old row : List ℕ) (at : ℕ) {part : List ℕ} → at + length row ≤ length old → part ≡ row → put_mid at (at + length row - at) old part ≡ sets old at row
@@ -35,28 +35,6 @@ module _ {A : Type 0} (clash : A → A → Bool) where
       ap {B = List (Listed A)} (λ t. r ∷ t)
       (judged_more (earlier ++ (r ∷ [])) l p
       ∙ ap (λ e. judged_after clash (earlier ++ (r ∷ [])) l ++ (judged clash e p ∷ [])) (append_assoc earlier (r ∷ []) (judged_after clash (earlier ++ (r ∷ [])) l)))
-
-pub flat_more : (l : List (Listed Proposal)) (r : Listed Proposal) → flat_ranked (l ++ (r ∷ [])) ≡ flat_ranked l ++ flat_ranked (r ∷ [])
-unfolding flat_ranked
-flat_more [] r = refl
-flat_more (q ∷ l) r =
-    ap {B = List ℕ} (λ t. q.item.kind ∷ q.item.index ∷ q.item.first ∷ q.item.second ∷ bit q.taken ∷ q.by ∷ t) (flat_more l r)
-
-pub flat-length : (l : List (Listed Proposal)) → length (flat_ranked l) ≡ 6 * length l
-unfolding flat_ranked
-flat-length [] = refl
-flat-length (r ∷ l) = omega (arith, flat-length l)
-
--- ---- a row's numbers
-
--- the fifth number of a row says whether it was taken
-pub taken-number : (l : List (Listed Proposal)) (d : Listed Proposal) (r : ℕ) → r < length l → eqb (get_or (flat_ranked l) (6 * r + 4) 0) 1 ≡ (get_or l r d).taken
-unfolding flat_ranked
-taken-number [] d r h = absurd (omega arith)
-taken-number (q ∷ l) d zero h = bit-is_one q.taken
-taken-number (q ∷ l) d (suc r) h =
-    let six : 6 * suc r + 4 ≡ suc (suc (suc (suc (suc (suc (6 * r + 4)))))) = omega arith in
-    ap (λ n. eqb (get_or (flat_ranked (q ∷ l)) n 0) 1) six ∙ taken-number l d r (omega arith)
 
 -- ---- the first that passes
 
@@ -93,10 +71,10 @@ module _ {A : Type 0} (f : Listed A → Bool) (d : Listed A) where
   found_as (x ∷ l) (Some zero) s = in_front x l s.2
   found_as (x ∷ l) (Some (suc r)) s = behind x l (Some r) (s.3 0 (omega arith) (omega arith)) (found_as l (Some r) (omega arith, omega (arith, s.1), s.2, λ j a h. s.3 (suc j) (omega arith) (omega arith)))
 
--- so the row that is written is that of what was found
-pub row_written : (clash : Proposal → Proposal → Bool) (l : List (Listed Proposal)) (p : Proposal) (found : Option ℕ) (d : Listed Proposal)
-    → FirstIn (λ i. blocks clash p (get_or l i d)) 0 (length l) found → flat_ranked (judged clash l p ∷ []) ≡ ranked_row p found
-unfolding flat_ranked judged
-row_written clash l p found d s =
-    let t = found_as (blocks clash p) d l found s in
-    ap₂ (λ b n. p.kind ∷ p.index ∷ p.first ∷ p.second ∷ bit (not b) ∷ n ∷ []) t.some t.place
+-- so the row that is listed is that of what was found
+pub row_listed : (clash : Proposal → Proposal → Bool) (l : List (Listed Proposal)) (p : Candidate) (found : Option ℕ) (d : Listed Proposal)
+    → FirstIn (λ i. blocks clash (form p) (get_or l i d)) 0 (length l) found → listed_form (record { candidate = p; refused_by = found }) ≡ judged clash l (form p)
+unfolding judged
+row_listed clash l p found d s =
+    let t = found_as (blocks clash (form p)) d l found s in
+    λ i. record { item = form p; taken = not (sym t.some i); by = sym t.place i }

@@ -1,55 +1,43 @@
--- The words of the contracts of the ranked junction list over rows of proposals: what is asked of the lists, a row as it is written, and the list that comes of an order.
--- Definitions only; assumes nothing.
-use Rattle.std.specs.Prelude.{ℕ, ◌+◌, ◌*◌, ◌≤◌, ◌<◌, ◌≡◌, Bool, not, ◌&&◌, length, get_or, eqb, Option}
+-- The words of the contracts of the ranked junction list over rows of proposals: a row of the list as it is declared, what is asked of the lists, and the list that comes
+-- of an order. Definitions only; assumes nothing.
+use Rattle.std.specs.Prelude.{ℕ, ◌*◌, ◌≤◌, ◌<◌, Bool, not, length, get_or, Option, None}
 use Rattle.std.specs.Option.{is_some, unwrap_or}
-use mathlib.Core.List.{List, [], ◌∷◌, ◌++◌}
+use mathlib.Core.List.{List, []}
 use Rattle.definitions.specs.Limits.{numbers_per_boundary}
-use Rattle.definitions.specs.Scan.{bit}
 use Rattle.definitions.specs.Sort.{sort}
-use Rattle.definitions.specs.Lists.{overwrite}
 use Rattle.definitions.specs.Junctions.{Proposal}
 use Rattle.junction_proposals.specs.declared.proposals.Candidate.{Candidate}
-use Rattle.junction_proposals.specs.Rows.{max_proposals, row_at}
-use Rattle.junction_selection.specs.Ranks.{ranks_at, allowed_of, order_of, conflict_at, Rows}
-use Rattle.ranked_list.specs.RankedList.{Listed, judged_after, numbers_per_ranked, flat_ranked}
+use Rattle.junction_proposals.specs.Rows.{max_proposals, form, nothing, row_at}
+use Rattle.junction_selection.specs.Ranks.{ranks_at, allowed_of, conflict_at}
+use Rattle.ranked_list.specs.RankedList.{Listed, blocks, judged_after}
+use Rattle.ranked_rows.specs.declared.RankedRow.{RankedRow}
 use Rattle.region_pairs.specs.declared.Pair as declared
 
--- rows q and p are whole, and their boundaries are among the first `count`
-pub record TwoRows (rows : List Candidate) (count q p : ℕ) : Type 0 where
+-- what a row stands for: it was taken where it was not refused, and the rank that it was refused by is 0 then
+abbrev pub listed_form : RankedRow → Listed Proposal
+listed_form r = record { item = form r.candidate; taken = not (is_some r.refused_by); by = unwrap_or r.refused_by 0 }
+
+-- row k of a list; what is said beyond the last
+abbrev pub no_row : RankedRow
+no_row = record { candidate = nothing; refused_by = None }
+
+abbrev pub row_of : List RankedRow → ℕ → RankedRow
+row_of listed k = get_or listed k no_row
+
+-- few boundaries, no more ranks than proposals, and a row for each rank
+pub record Listing (count ranks listed : ℕ) : Type 0 where
   pub small : count ≤ 256
-  pub first : q < length rows
-  pub second : p < length rows
-  pub first_in_lem : (row_at rows q).index < count
-  pub second_in_lem : (row_at rows p).index < count
+  pub few : ranks ≤ max_proposals
+  pub room : ranks ≤ listed
 
--- n rows whose boundaries are among the first `count`, an order of some of them, and room for each in the list
-pub record Listing (rows : List Candidate) (order listed : List ℕ) (count n : ℕ) : Type 0 where
-  pub few : n ≤ max_proposals
-  pub whole : n ≤ length rows
-  pub small : count ≤ 256
-  pub below : (k : ℕ) → k < n → (row_at rows k).index < count
-  pub ordered : length order ≤ n
-  pub room : numbers_per_ranked * max_proposals ≤ length listed
-
--- row p has rank k, and the ranks before it are rows
-pub record RankOf (order : List ℕ) (n k p : ℕ) : Type 0 where
-  pub rank_in_lem : k < length order
-  pub row_in : p < n
-  pub rows_in : Rows order k n
-
--- n rows with a verdict for each, their boundaries, and room for each in the list
-pub record Allowed (boundaries : List ℕ) (rows : List Candidate) (verdicts : List Bool) (listed : List ℕ) (count n : ℕ) : Type 0 where
-  pub few : n ≤ max_proposals
-  pub whole : n ≤ length rows
+-- rows with a verdict for each, their boundaries, and room for each in the list
+pub record Allowed (boundaries : List ℕ) (rows : List Candidate) (verdicts : List Bool) (listed count : ℕ) : Type 0 where
+  pub few : length rows ≤ max_proposals
   pub long : numbers_per_boundary * count ≤ length boundaries
   pub small : count ≤ 256
-  pub below : (k : ℕ) → k < n → (row_at rows k).index < count
-  pub judged : n ≤ length verdicts
-  pub room : numbers_per_ranked * max_proposals ≤ length listed
-
--- row p, refused by rank `by`; taken, where there is none
-abbrev pub ranked_row : Proposal → Option ℕ → List ℕ
-ranked_row p by = p.kind ∷ p.index ∷ p.first ∷ p.second ∷ bit (not (is_some by)) ∷ unwrap_or by 0 ∷ []
+  pub below : (k : ℕ) → k < length rows → (row_at rows k).index < count
+  pub judged : length rows ≤ length verdicts
+  pub room : max_proposals ≤ listed
 
 module _ (full : List (Option declared.Pair)) (count : ℕ) where
   -- the list that comes of proposals in rank order
@@ -57,15 +45,9 @@ module _ (full : List (Option declared.Pair)) (count : ℕ) where
   unfolding judged_after conflict_at
   listed_from l = judged_after (conflict_at full count) [] l
 
-  -- rank r is said to be taken, and conflicts with row p
-  abbrev pub blocks_at : List Candidate → List ℕ → List ℕ → ℕ → ℕ → Bool
-  blocks_at rows order listed p r = eqb (get_or listed (numbers_per_ranked * r + 4) 0) 1 && conflict_at full count (row_at rows (get_or order r 0)) (row_at rows p)
-
-  -- row p went in behind those of the first k ranks
-  abbrev pub Following : List Candidate → List ℕ → ℕ → ℕ → List ℕ → List ℕ → Type 0
-  Following rows order k p was now =
-      (old : List ℕ) → was ≡ overwrite (flat_ranked (listed_from (order_of rows order k))) old
-      → now ≡ overwrite (flat_ranked (listed_from (order_of rows order k ++ (row_at rows p ∷ [])))) old
+  -- a row was taken, and conflicts with what is proposed
+  abbrev pub blocks_at : Candidate → RankedRow → Bool
+  blocks_at p r = blocks (conflict_at full count) (form p) (listed_form r)
 
   -- the list of the rows that are allowed
   unfoldable pub allowed_list : List ℕ → List Candidate → List Bool → ℕ → List (Listed Proposal)

@@ -2,120 +2,91 @@
 
 #![tactic(auto)]
 
-ghost use Rattle.std.specs.Prelude.{◌≡◌, ◌&&◌, ◌+◌, ◌*◌, ◌≤◌, ◌<◌, length, get_or, IfSome};
-ghost use Rattle.std.proofs.lemmas.List.Edits.{sets};
+ghost use Rattle.std.specs.Prelude.{◌≡◌, ◌&&◌, ◌≤◌, length, map, take, drop};
 ghost use Rattle.definitions.specs.Scan.{any_below_lem};
-ghost use Rattle.definitions.specs.Lists.{overwrite};
 ghost use Rattle.junction_proposals.specs.Bridges.{FirstIn};
-ghost use Rattle.junction_proposals.specs.Rows.{row_at};
+ghost use Rattle.junction_proposals.specs.Rows.{max_proposals, form};
 ghost use Rattle.junction_selection.specs.Ranks.{reserves_at, conflict_at, order_of, Rows};
-ghost use Rattle.ranked_list.specs.RankedList.{numbers_per_ranked, flat_ranked};
-ghost use Rattle.ranked_rows.specs.Contract.{TwoRows, Listing, RankOf, Allowed, blocks_at, ranked_row, Following, listed_from, allowed_list};
+ghost use Rattle.ranked_rows.specs.Contract.{listed_form, blocks_at, row_of, Listing, Allowed, listed_from, allowed_list};
 
+use junction_proposals::lists::JunctionLists;
 use junction_proposals::proposals::{Candidate, MAX_PROPOSALS};
 use junction_selection::found::FoundRows;
 use junction_selection::ranks::rank_proposals;
 use junction_selection::selection::{region_conflict, reserves};
 
-// A row of the list: kind, boundary, two regions, whether it was taken, and by what rank it was refused.
-pub const NUMBERS_PER_RANKED: usize = 6;
-
-// Whether some boundary is a port of both rows.
-fn share_port(found: &FoundRows, q: usize, p: usize) -> bool
-    requires { TwoRows found.now.rows.now found.now.count q p }
-    ensures { result ≡ any_below_lem found.now.count (λ j. reserves_at found.now.full.now (row_at found.now.rows.now p) j
-        && reserves_at found.now.full.now (row_at found.now.rows.now q) j) }
-{
-    (0..found.count).any(|j| reserves(found, p, j) & reserves(found, q, j))
+// A row of the list: what is proposed, and the rank of the row that it was refused by; it was taken where there is none.
+#[derive(Clone, Copy)]
+pub struct RankedRow {
+    pub candidate: Candidate,
+    pub refused_by: Option<u16>,
 }
 
-// Whether row q, taken, keeps row p from being taken.
-fn conflicts(found: &FoundRows, q: usize, p: usize) -> bool
-    requires { TwoRows found.now.rows.now found.now.count q p }
-    ensures { result ≡ conflict_at found.now.full.now found.now.count (row_at found.now.rows.now q) (row_at found.now.rows.now p) }
+// Whether some boundary is a port of both proposals.
+fn share_port(lists: &JunctionLists, taken: Candidate, other: Candidate) -> bool
+    requires { lists.now.count ≤ 256 }
+    ensures { result ≡ any_below_lem lists.now.count (λ j. reserves_at lists.now.full.now (form other) j
+        && reserves_at lists.now.full.now (form taken) j) }
 {
-    let i = found.rows[q].index;
-    let j = found.rows[p].index;
-    let boundary = reserves(found, p, i) | reserves(found, q, j);
-    let port = share_port(found, q, p);
-    boundary | port | region_conflict(found.rows, q, p)
+    (0..lists.count).any(|j| reserves(lists.full, other, j) & reserves(lists.full, taken, j))
 }
 
-// Whether the row of rank r was taken and conflicts with row p.
-fn blocks(found: &FoundRows, order: &[u32], listed: &[u32], r: usize, p: usize) -> bool
-    requires room { (r < length order.now) × (numbers_per_ranked * r + 5 < length listed.now) }
-    requires two_rows { TwoRows found.now.rows.now found.now.count (get_or order.now r 0) p }
-    ensures { result ≡ blocks_at found.now.full.now found.now.count found.now.rows.now order.now listed.now p r }
+// Whether a proposal that was taken keeps another from being taken.
+fn conflicts(lists: &JunctionLists, taken: Candidate, other: Candidate) -> bool
+    requires { lists.now.count ≤ 256 }
+    ensures { result ≡ conflict_at lists.now.full.now lists.now.count (form taken) (form other) }
 {
-    if listed[NUMBERS_PER_RANKED * r + 4] != 1 {
-        return false;
-    }
-    conflicts(found, order[r] as usize, p)
+    let own = reserves(lists.full, other, taken.index as usize);
+    let its = reserves(lists.full, taken, other.index as usize);
+    let port = share_port(lists, taken, other);
+    own | its | port | region_conflict(taken, other)
 }
 
-// The first rank below k that was taken and conflicts with row p.
-fn refused_by(found: &FoundRows, order: &[u32], listed: &[u32], k: usize, p: usize) -> Option<usize>
-    requires listing { Listing found.now.rows.now order.now listed.now found.now.count found.now.n }
-    requires rank { RankOf order.now found.now.n k p }
-    ensures first { FirstIn (blocks_at found.now.full.now found.now.count found.now.rows.now order.now listed.now p)
-        0 k result }
-    ensures bound { IfSome result (λ r. r < k) }
+// Whether a row of the list was taken and conflicts with a proposal.
+fn blocks(lists: &JunctionLists, row: RankedRow, candidate: Candidate) -> bool
+    requires { lists.now.count ≤ 256 }
+    ensures { result ≡ blocks_at lists.now.full.now lists.now.count candidate row }
 {
-    (0..k).find(|&r| blocks(found, order, listed, r, p))
+    row.refused_by.is_none() && conflicts(lists, row.candidate, candidate)
 }
 
-// Writes row p as that of rank k; it was refused by the rank that there may be, and else was taken.
-fn put_ranked(rows: &[Candidate], listed: &mut [u32], k: usize, p: usize, by: Option<usize>)
-    requires room { (p < length rows.now) × (numbers_per_ranked * k + 5 < length listed.old) }
-    requires index_within { (row_at rows.now p).index < 256 }
-    requires by_within { IfSome by (λ r. r < 65536) }
-    ensures { listed.new ≡ sets listed.old (numbers_per_ranked * k) (ranked_row (row_at rows.now p) by) }
+// The rank of the first of the listed rows that was taken and conflicts with a proposal.
+fn refused_by(lists: &JunctionLists, listed: &[RankedRow], candidate: Candidate) -> Option<u16>
+    requires small { lists.now.count ≤ 256 }
+    requires few { length listed.now ≤ max_proposals }
+    ensures first { FirstIn (λ r. blocks_at lists.now.full.now lists.now.count candidate (row_of listed.now r)) 0 (length listed.now) result }
 {
-    let row = rows[p];
-    let numbers = [
-        row.kind.number(),
-        row.index as u32,
-        row.first,
-        row.second,
-        u32::from(by.is_none()),
-        by.unwrap_or(0) as u32,
-    ];
-    let place = NUMBERS_PER_RANKED * k;
-    listed[place..place + NUMBERS_PER_RANKED].copy_from_slice(&numbers);
+    let rank = listed
+        .iter()
+        .position(|&row| blocks(lists, row, candidate))?;
+    Some(rank as u16)
 }
 
-// Judges row p, of rank k, and writes it.
-fn list_row(found: &FoundRows, order: &[u32], listed: &mut [u32], k: usize, p: usize)
-    requires listing { Listing found.now.rows.now order.now listed.old found.now.count found.now.n }
-    requires rank { RankOf order.now found.now.n k p }
-    ensures { Following found.now.full.now found.now.count found.now.rows.now order.now k p
-        listed.old listed.new }
-{
-    let by = refused_by(found, order, listed, k, p);
-    put_ranked(found.rows, listed, k, p, by);
-}
-
-// Writes the rows that the order names, by rank.
-fn list_in_order(found: &FoundRows, order: &[u32], listed: &mut [u32])
-    requires listing { Listing found.now.rows.now order.now listed.old found.now.count found.now.n }
-    requires rows { Rows order.now (length order.now) found.now.n }
-    ensures { listed.new
-        ≡ overwrite (flat_ranked (listed_from found.now.full.now found.now.count (order_of found.now.rows.now order.now (length order.now))))
-        listed.old }
+// Lists the rows that the order names, by rank.
+fn list_in_order(found: &FoundRows, order: &[u32], listed: &mut [RankedRow])
+    requires listing { Listing found.now.lists.now.count (length order.now) (length listed.old) }
+    requires rows { Rows order.now (length order.now) (length found.now.rows.now) }
+    ensures list { map listed_form (take (length order.now) listed.new) ≡ listed_from found.now.lists.now.full.now found.now.lists.now.count
+        (order_of found.now.rows.now order.now (length order.now)) }
+    ensures rest { drop (length order.now) listed.new ≡ drop (length order.now) listed.old }
 {
     for (k, &p) in order.iter().enumerate() {
-        list_row(found, order, listed, k, p as usize);
+        let candidate = found.rows[p as usize];
+        let refused_by = refused_by(found.lists, &listed[..k], candidate);
+        listed[k] = RankedRow {
+            candidate,
+            refused_by,
+        };
     }
 }
 
 // Lists the rows that are allowed, by rank, and says how many there are.
-pub fn list_ranked(found: &FoundRows, verdicts: &[bool], listed: &mut [u32]) -> usize
-    requires { Allowed found.now.boundaries.now found.now.rows.now verdicts.now listed.old found.now.count found.now.n }
-    ensures many { result ≡ length (allowed_list found.now.full.now found.now.count found.now.boundaries.now found.now.rows.now
-        verdicts.now found.now.n) }
-    ensures list { listed.new
-        ≡ overwrite (flat_ranked (allowed_list found.now.full.now found.now.count found.now.boundaries.now found.now.rows.now
-        verdicts.now found.now.n)) listed.old }
+pub fn list_ranked(found: &FoundRows, verdicts: &[bool], listed: &mut [RankedRow]) -> usize
+    requires { Allowed found.now.lists.now.boundaries.now found.now.rows.now verdicts.now (length listed.old) found.now.lists.now.count }
+    ensures within { result ≤ length listed.new }
+    ensures list { map listed_form (take result listed.new) ≡ allowed_list found.now.lists.now.full.now found.now.lists.now.count
+        found.now.lists.now.boundaries.now found.now.rows.now verdicts.now (length found.now.rows.now) }
+    ensures rest { drop result listed.new ≡ drop result listed.old }
 {
     let mut order = [0u32; MAX_PROPOSALS];
     let m = rank_proposals(found, verdicts, &mut order);

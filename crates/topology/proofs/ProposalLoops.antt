@@ -1,19 +1,21 @@
 -- The loop of `allow_proposals`: what `is_allowed` asks is at hand, and one mark more. And what the parts of pass 3 ask of one another. Assumes nothing.
 use Prim.Native.Nat.{ℕ, ◌+◌, ◌-◌, ◌≤◌, ◌<◌}
 use native.Mathlib.Omega.{arith}
-use mathlib.Core.Path.{◌≡◌, ◌∙◌}
+use mathlib.Core.Path.{◌≡◌, sym, ap, ◌∙◌, subst}
 use mathlib.Core.Logic.{⊎_elim}
 use mathlib.Core.Bool.{Bool, false}
-use Rattle.std.specs.Prelude.{Option}
+use Rattle.std.specs.Prelude.{Option, Some}
 use mathlib.Core.List.{List}
-use lib.ListN.{length, get_or, set, length-set}
-use lib.Seq.{get_or-set_same, get_or-set_other}
+use lib.ListN.{length, take, get_or, set, length-set}
+use lib.Seq.{get_or-set_same, get_or-set_other, get_or-take, length-take-le}
+use Rattle.definitions.specs.Scan.{collect, filter}
 use Rattle.definitions.specs.Context.{Context}
+use Rattle.laws.specs.ListLaws.Scans.{collect_ext}
 use Rattle.laws.specs.NumberLaws.Comparisons.{last_or}
 use Rattle.context.specs.declared.Region.{Region}
 use Rattle.region_pairs.specs.declared.Pair.{Pair}
 use Rattle.junction_proposals.specs.declared.proposals.Candidate.{Candidate}
-use Rattle.junction_proposals.specs.Rows.{max_proposals, nothing, row_at, RowFits, is_allowed}
+use Rattle.junction_proposals.specs.Rows.{max_proposals, nothing, form, row_at, rows_of, RowFits, is_allowed}
 use Rattle.junction_selection.specs.Taken.{Judged, removed_at}
 use Rattle.junction_selection.proofs.Passing.{pass-removed}
 use Rattle.junction_regions.specs.Asked.{Asked}
@@ -54,18 +56,37 @@ module _ {C : Context} {records : List Region} {boundaries : List ℕ} {full : L
         fits = λ k l. rw (h.shown.counted, h.shown.labelled) (fits k l);
       }
 
+-- of the first n rows the same is said as of the list that they are cut off from
+pub proposed-front : {C : Context} {rows : List Candidate} {allowed : List Bool} {count regions n : ℕ} → n ≤ length rows → Proposed C count regions rows allowed n
+    → Proposed C count regions (take n rows) allowed (length (take n rows))
+unfolding rows_of
+proposed-front {C} {rows} {allowed} {count} {regions} {n} l p =
+    record {
+      few = omega (arith, size, p.few);
+      fits = λ k b. subst (λ r. RowFits count regions (form r)) (sym (row k (omega (arith, b, size)))) (p.fits k (omega (arith, b, size)));
+      are =
+          ap (λ m. filter (is_allowed C) (collect m (λ k. Some (row_at (take n rows) k)))) size
+          ∙ ap (filter (is_allowed C)) (collect_ext n (λ k. Some (row_at (take n rows) k)) (λ k. Some (row_at rows k)) (λ k b. ap (λ r. Some (form r)) (row k b))) ∙ p.are;
+      judged = record { long = p.judged.long; at = λ k b. p.judged.at k (omega (arith, b, size)) ∙ ap (λ r. is_allowed C (form r)) (sym (row k (omega (arith, b, size)))) };
+    }
+  where
+    size : length (take n rows) ≡ n
+    size = length-take-le n rows l
+
+    row : (k : ℕ) → k < n → get_or (take n rows) k nothing ≡ get_or rows k nothing
+    row k b = get_or-take n rows k nothing b
+
 -- the rows are what pass 3 proposes
 module _ {C : Context} {records : List Region} {boundaries : List ℕ} {full : List (Option Pair)} {counts marks : List ℕ} {rows : List Candidate} {allowed : List Bool} {count regions n : ℕ}
     (h : Passes C records boundaries full counts marks count regions) (p : Proposed C count regions rows allowed n) where
-  pub pass-judged : {marked : List Bool} → max_proposals ≤ length rows → Unmarked marked count → Judged boundaries rows allowed marked count n
-  pass-judged room u =
+  pub pass-judged : {marked : List Bool} → n ≡ length rows → Unmarked marked count → Judged boundaries rows allowed marked count
+  pass-judged whole u =
       record {
-        few = p.few;
-        whole = omega (arith, p.few);
+        few = omega (arith, p.few, whole);
         long = omega (arith, h.shown.bounds.long, h.shown.counted);
         small = omega (arith, h.shown.bounds.few, h.shown.counted);
-        below = λ k l. (p.fits k l).index_in;
-        judged = omega (arith, p.few, p.judged.long);
+        below = λ k l. (p.fits k (omega (arith, l, whole))).index_in;
+        judged = omega (arith, p.few, p.judged.long, whole);
         removed-long = u.long;
         clear = u.clear;
       }

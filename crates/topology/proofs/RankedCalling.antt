@@ -6,14 +6,14 @@ use mathlib.Core.Path.{◌≡◌, refl, sym, ap, ◌∙◌, subst}
 use mathlib.Core.Bool.{Bool, true, false, cond}
 use mathlib.Core.Logic.{⊎_elim}
 use mathlib.Core.List.{List, [], map}
-use lib.ListN.{length, take, drop, replicate, length-map, length-append}
-use lib.Seq.{take_at}
+use lib.ListN.{length, take, drop, replicate, length-map}
 use lib.Dec.{leb}
 use borrow.Author.Tests.{leb-true, leb-false, eq-eqb, ne_eqb}
 use Rattle.definitions.specs.Limits.{max_entries, numbers_per_span, numbers_per_boundary}
 use Rattle.definitions.specs.Lists.{overwrite}
 use Rattle.definitions.specs.Grid.{Map, map_of, span_count}
 use Rattle.definitions.specs.Context.{context_of}
+use Rattle.definitions.specs.Junctions.{Proposal}
 use Rattle.definitions.specs.Verdict.{map_in}
 use Rattle.context.specs.declared.Region.{Region}
 use Rattle.context.specs.Records.{record_of}
@@ -26,8 +26,9 @@ use Rattle.call_partition.specs.Prepared.{ReadyAs, PreparedAs}
 use Rattle.pass_lists.specs.Finished.{Finished}
 use Rattle.pass_lists.proofs.AfterPartition.{spans-lent, boundaries-lent}
 use Rattle.pass_lists.proofs.Closing.{ran-kept}
-use Rattle.ranked_list.specs.RankedList.{numbers_per_ranked, ranked_rows, ranked_of, flat_ranked}
-use Rattle.ranked_rows.proofs.Judging.{flat-length}
+use Rattle.ranked_list.specs.RankedList.{Listed, numbers_per_ranked, ranked_rows, ranked_of, flat_ranked}
+use Rattle.ranked_rows.specs.declared.RankedRow.{RankedRow}
+use Rattle.ranked_rows.specs.Contract.{listed_form}
 use Rattle.ranked_list.specs.RankedAnswers.{RankedAnswer}
 use Rattle.ranked_finish.specs.Ends.{RankedFinished}
 use Rattle.ranked_finish.proofs.Exits.{ranked-done, ranked-short, refused-ran}
@@ -73,7 +74,7 @@ module _ {w h : ℕ} {cells spans boundaries anchors : List ℕ} {room output : 
       }
 
   module _ {regions rows : ℕ} (R : ReadyAs 3 w h cells spans boundaries anchors room output l m q t p regions rows l' m' q' t' p')
-      {s s' : List Region} (F : Filled (lent w h cells spans boundaries anchors) s s') {m₂ q₂ : List ℕ} {removed : List Bool} {old listed : List ℕ} {n : ℕ}
+      {s s' : List Region} (F : Filled (lent w h cells spans boundaries anchors) s s') {m₂ q₂ : List ℕ} {removed : List Bool} {old listed : List RankedRow} {n : ℕ}
       (K : RankedFor (lent w h cells spans boundaries anchors) (h * w) (length spans / numbers_per_span) boundaries m' q' m₂ q₂ (replicate max_entries false) removed old listed n) where
     abbrev M : Map
     M = lent w h cells spans boundaries anchors
@@ -83,37 +84,31 @@ module _ {w h : ℕ} {cells spans boundaries anchors : List ℕ} {room output : 
         ⊎_elim (λ e. subst (λ r. Lists r old listed n) (rows-equal w h cells spans boundaries anchors e) (K.equal e)) (λ d. subst (λ r. Lists r old listed n) (rows_none w h cells spans boundaries anchors d) (K.differ d))
         (same_or (length boundaries / numbers_per_boundary) (length spans / numbers_per_span))
 
-    size : length (flat_ranked (ranked_of M)) ≡ numbers_per_ranked * n
-    size = flat-length (ranked_of M) ∙ ap (λ k. numbers_per_ranked * k) (sym lists.many)
+    pub listed-within : n ≤ length listed
+    listed-within = lists.within
 
-    -- what `finish_ranked` asks
-    pub listed-long : numbers_per_ranked * n ≤ length listed
-    listed-long = omega (arith, size, ap length lists.list, length-append (flat_ranked (ranked_of M)) (drop (length (flat_ranked (ranked_of M))) old))
-
-    listed_first : take (numbers_per_ranked * n) listed ≡ flat_ranked (ranked_of M)
-    listed_first =
-        ap (take (numbers_per_ranked * n)) lists.list
-        ∙ take_at (flat_ranked (ranked_of M)) (drop (length (flat_ranked (ranked_of M))) old) (numbers_per_ranked * n) size
+    abbrev proposed : List (Listed Proposal)
+    proposed = map listed_form (take n listed)
 
     module _ {o k m₃ q₃ o₃ k₃ : List ℕ} {a : RankedAnswer} (long : length s ≡ room) (wide : length o ≡ output)
-        (E : RankedFinished (h * w) (length boundaries / numbers_per_boundary) boundaries removed listed n m₂ q₂ o k a m₃ q₃ o₃ k₃) where
-      by_room : (b : Bool) → leb n (length k / numbers_per_ranked) ≡ b
+        (E : RankedFinished (h * w) (length boundaries / numbers_per_boundary) boundaries removed proposed m₂ q₂ o k a m₃ q₃ o₃ k₃) where
+      by_room : (b : Bool) → leb (length proposed) (length k / numbers_per_ranked) ≡ b
           → RankedOver (lends w h cells spans boundaries anchors l m q t p s o) k a (leaves l' m₃ q₃ t' p' s' o₃) k₃
       unfolding map_in
       by_room true e =
-          let enough = leb-true n (length k / numbers_per_ranked) e in
+          let enough = leb-true (length proposed) (length k / numbers_per_ranked) e in
           let W = E.enough enough in
           let ran = ran-kept R (map record_of s) o (length-map s record_of ∙ long) wide F.records K.marked.masks.rest K.marked.queue.rest (marked R F K.marked) W.finished in
           subst (λ a. RankedOver (lends w h cells spans boundaries anchors l m q t p s o) k a (leaves l' m₃ q₃ t' p' s' o₃) k₃) (sym W.answer)
-          (record { ran = ranked-done k ran lists.many enough (W.list ∙ ap (λ l. overwrite l k) listed_first); beyond = F.beyond })
+          (record { ran = ranked-done k ran (ap length lists.list) enough (W.list ∙ ap (λ l. overwrite (flat_ranked l) k) lists.list); beyond = F.beyond })
       by_room false e =
-          let lack = leb-false n (length k / numbers_per_ranked) e in
+          let lack = leb-false (length proposed) (length k / numbers_per_ranked) e in
           let S = E.short lack in
           let fin : Finished (h * w) (length boundaries / numbers_per_boundary) boundaries removed m₂ q₂ o m₃ q₃ _ _ = record { masks = S.0.masks; queue = S.0.queue; output = refl; rows = refl } in
           let ran = ran-kept R (map record_of s) o (length-map s record_of ∙ long) wide F.records K.marked.masks.rest K.marked.queue.rest (marked R F K.marked) fin in
           subst (λ x. RankedOver (lends w h cells spans boundaries anchors l m q t p s o) k a (leaves l' m₃ q₃ t' p' s' x) k₃) (sym S.1)
           (subst (λ a. RankedOver (lends w h cells spans boundaries anchors l m q t p s o) k a (leaves l' m₃ q₃ t' p' s' o) k₃) (sym S.0.answer)
-          (record { ran = ranked-short k ran (omega (arith, lack, lists.many)) S.0.list; beyond = F.beyond }))
+          (record { ran = ranked-short k ran (omega (arith, lack, ap length lists.list)) S.0.list; beyond = F.beyond }))
 
       pub ranked-over : RankedOver (lends w h cells spans boundaries anchors l m q t p s o) k a (leaves l' m₃ q₃ t' p' s' o₃) k₃
-      ranked-over = by_room (leb n (length k / numbers_per_ranked)) refl
+      ranked-over = by_room (leb (length proposed) (length k / numbers_per_ranked)) refl

@@ -1,5 +1,5 @@
 -- The parts of `mark_ranked`: the viewed lists are what pass 3 is lent, and what it leaves is what the call asks. Assumes nothing.
-use Prim.Native.Nat.{ℕ, ◌/◌}
+use Prim.Native.Nat.{ℕ, ◌/◌, zero-le}
 use native.Mathlib.Omega.{arith}
 use mathlib.Core.Path.{◌≡◌, refl, sym}
 use mathlib.Core.Bool.{Bool}
@@ -13,7 +13,7 @@ use Rattle.std.specs.Prelude.{Option}
 use Rattle.context.specs.declared.Region.{Region}
 use Rattle.region_pairs.specs.declared.Pair.{Pair}
 use Rattle.pass_lists.specs.Contract.{Viewed}
-use Rattle.ranked_list.specs.RankedList.{flat_ranked}
+use Rattle.ranked_rows.specs.declared.RankedRow.{RankedRow}
 use Rattle.topology.specs.Mouths.{NoMarks}
 use Rattle.topology.specs.Proposals.{Passes, Unmarked}
 use Rattle.topology.specs.Marks.{Lent}
@@ -26,9 +26,8 @@ module _ (M : Map) {records : List Region} {w needed : ℕ} {labels anchors : Li
   C = context_of M
 
   -- pass 3 does not run
-  pub unranked-lent : {m q : List ℕ} {was : List Bool} {old : List ℕ} → (length boundaries / numbers_per_boundary ≡ count → ⊥) → RankedFor M needed count boundaries m q m q was was old old 0
-  unfolding flat_ranked
-  unranked-lent d = record { marked = unmarked_lent M L d; equal = λ e. absurd (d e); differ = λ _. record { many = refl; list = refl } }
+  pub unranked-lent : {m q : List ℕ} {was : List Bool} {old : List RankedRow} → (length boundaries / numbers_per_boundary ≡ count → ⊥) → RankedFor M needed count boundaries m q m q was was old old 0
+  unranked-lent d = record { marked = unmarked_lent M L d; equal = λ e. absurd (d e); differ = λ _. record { within = zero-le; list = refl; rest = refl } }
 
   counted : C.count ≡ count
   counted = L.partitioned.paired.counted
@@ -61,7 +60,7 @@ module _ (M : Map) {records : List Region} {w needed : ℕ} {labels anchors : Li
             counted = L.on_map.counted;
           }
 
-      pub ranked-lent : {was removed : List Bool} {old listed : List ℕ} {n : ℕ} → Ranked C count removed old listed n
+      pub ranked-lent : {was removed : List Bool} {old listed : List RankedRow} {n : ℕ} → Ranked C count removed old listed n
           → RankedFor M needed count boundaries m q m' q' was removed old listed n
       unfolding removed_by
       ranked-lent r =

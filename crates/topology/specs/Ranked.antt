@@ -1,32 +1,34 @@
 -- The words of the contracts of `rank_junctions`, `mark_ranked` and the call that gives the ranked junction list, over the lent records as they are declared. Definitions only;
 -- assumes nothing.
-use Rattle.std.specs.Prelude.{ℕ, ◌/◌, ◌≡◌, Bool, cond, List, [], map, length, drop, eqb}
+use Rattle.std.specs.Prelude.{ℕ, ◌/◌, ◌≤◌, ◌≡◌, Bool, cond, List, [], map, length, take, drop, eqb}
 use Rattle.definitions.specs.Limits.{numbers_per_boundary}
-use Rattle.definitions.specs.Lists.{overwrite}
 use Rattle.definitions.specs.Grid.{Map}
 use Rattle.definitions.specs.Partition.{region_count}
 use Rattle.definitions.specs.Context.{Context, context_of}
 use Rattle.definitions.specs.Junctions.{Proposal}
 use Rattle.context.specs.Records.{record_of}
-use Rattle.ranked_list.specs.RankedList.{Listed, ranked_rows, flat_ranked}
+use Rattle.ranked_list.specs.RankedList.{Listed, ranked_rows}
 use Rattle.ranked_list.specs.RankedAnswers.{RankedAnswer, RankedRan}
+use Rattle.ranked_rows.specs.declared.RankedRow.{RankedRow}
+use Rattle.ranked_rows.specs.Contract.{listed_form}
 use Rattle.topology.specs.Proposals.{Removes}
 use Rattle.topology.specs.Marks.{MarkedFor}
 use Rattle.topology.specs.Lent.{LentLists, LeftLists, lent_map, lent_call}
 use Rattle.topology.specs.Contract.{written}
 
 -- the list, which was `was`, has the n rows in front
-pub record Lists (rows : List (Listed Proposal)) (was listed : List ℕ) (n : ℕ) : Type 0 where
-  pub many : n ≡ length rows
-  pub list : listed ≡ overwrite (flat_ranked rows) was
+pub record Lists (rows : List (Listed Proposal)) (was listed : List RankedRow) (n : ℕ) : Type 0 where
+  pub within : n ≤ length listed
+  pub list : map listed_form (take n listed) ≡ rows
+  pub rest : drop n listed ≡ drop n was
 
 -- the marked boundaries are those that pass 3 removes, and the list has the proposals of C
-pub record Ranked (C : Context) (count : ℕ) (marked : List Bool) (was listed : List ℕ) (n : ℕ) : Type 0 where
+pub record Ranked (C : Context) (count : ℕ) (marked : List Bool) (was listed : List RankedRow) (n : ℕ) : Type 0 where
   pub removes : Removes C count marked
   pub lists : Lists (ranked_rows C) was listed n
 
 -- the marks are those of pass 3, and the list has the proposals of M: none, where there are not as many boundaries as spans
-pub record RankedFor (M : Map) (needed count : ℕ) (boundaries m q m' q' : List ℕ) (was removed : List Bool) (old listed : List ℕ) (n : ℕ) : Type 0 where
+pub record RankedFor (M : Map) (needed count : ℕ) (boundaries m q m' q' : List ℕ) (was removed : List Bool) (old listed : List RankedRow) (n : ℕ) : Type 0 where
   pub marked : MarkedFor 3 M needed count boundaries m q m' q' was removed
   pub equal : length boundaries / numbers_per_boundary ≡ count → Lists (ranked_rows (context_of M)) old listed n
   pub differ : (length boundaries / numbers_per_boundary ≡ count → ⊥) → Lists [] old listed n

@@ -73,11 +73,8 @@ pub fn select_junctions(
 {
     let n = allowed_proposals(records, lists, rows, allowed);
     let found = FoundRows {
-        boundaries: lists.boundaries,
-        full: lists.full,
-        rows,
-        count: lists.count,
-        n,
+        lists,
+        rows: &rows[..n],
     };
     select_proposals(&found, allowed, removed);
     n

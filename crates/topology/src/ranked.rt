@@ -5,7 +5,6 @@ ghost use Rattle.context.specs.Records.{max_cells};
 ghost use Rattle.definitions.specs.Grid.{Map};
 ghost use Rattle.definitions.specs.Context.{Context};
 ghost use Rattle.junction_proposals.specs.Rows.{max_proposals};
-ghost use Rattle.ranked_list.specs.RankedList.{numbers_per_ranked};
 ghost use Rattle.ranked_finish.specs.Ends.{ranked_of};
 ghost use Rattle.topology.specs.Proposals.{PassesIn, Unmarked};
 ghost use Rattle.topology.specs.Mouths.{NoMarks};
@@ -27,8 +26,14 @@ use junction_proposals::proposals::MAX_PROPOSALS;
 use junction_selection::found::FoundRows;
 use pass_lists::{SpanPartition, view};
 use ranked_finish::{RankedKept, finish_ranked};
-use ranked_rows::{NUMBERS_PER_RANKED, list_ranked};
+use ranked_rows::{RankedRow, list_ranked};
 use refusals::Refusal;
+
+// What stands in the list where no row was put.
+const NO_RANKED: RankedRow = RankedRow {
+    candidate: NO_ROW,
+    refused_by: None,
+};
 
 // Pass 3 with its list: marks the boundaries that it removes, lists the proposals that reach the ranking, and gives how many there are. No boundary is marked
 // before.
@@ -36,21 +41,18 @@ pub fn rank_junctions(
     records: &[Region],
     lists: &JunctionLists,
     removed: &mut [bool; 256],
-    listed: &mut [u32],
+    listed: &mut [RankedRow],
 ) -> usize
     requires lists_show { (C : Context) × PassesIn C records.now lists.now }
-    requires before_ranking { Unmarked removed.old lists.now.count × (numbers_per_ranked * max_proposals ≤ length listed.old) }
+    requires before_ranking { Unmarked removed.old lists.now.count × (max_proposals ≤ length listed.old) }
     ensures { (C : Context) → PassesIn C records.now lists.now → Ranked C lists.now.count removed.new listed.old listed.new result }
 {
     let mut rows = [NO_ROW; MAX_PROPOSALS];
     let mut allowed = [false; MAX_PROPOSALS];
     let n = select_junctions(records, lists, &mut rows, &mut allowed, removed);
     let found = FoundRows {
-        boundaries: lists.boundaries,
-        full: lists.full,
-        rows: &rows,
-        count: lists.count,
-        n,
+        lists,
+        rows: &rows[..n],
     };
     list_ranked(&found, &allowed, listed)
 }
@@ -67,11 +69,11 @@ pub fn mark_ranked(
     masks: &mut [u16],
     queue: &mut [u32],
     removed: &mut [bool; 256],
-    listed: &mut [u32],
+    listed: &mut [RankedRow],
 ) -> usize
     requires few { asked.height * asked.width ≤ max_cells }
     requires map_shown { (M : Map) × AskedLent M records.now asked ready labels.now tallies.now pairs.now (length masks.old) (length queue.old) }
-    requires before_ranking { NoMarks removed.old × (numbers_per_ranked * max_proposals ≤ length listed.old) }
+    requires before_ranking { NoMarks removed.old × (max_proposals ≤ length listed.old) }
     ensures { (M : Map) → AskedLent M records.now asked.entry ready labels.now tallies.now pairs.now (length masks.old) (length queue.old)
         → RankedFor M (asked.entry.height * asked.entry.width) (length asked.entry.spans.now / numbers_per_span) asked.entry.boundaries.now
         masks.old queue.old masks.new queue.new
@@ -126,7 +128,7 @@ pub fn topology_ranked_junctions(
     let columns = asked.width as usize;
     let needed = asked.height as usize * columns;
     let mut removed = [false; 256];
-    let mut listed = [0u32; NUMBERS_PER_RANKED * MAX_PROPOSALS];
+    let mut listed = [NO_RANKED; MAX_PROPOSALS];
     let labels = &mut *lists.labels;
     let masks = &mut *lists.masks;
     let queue = &mut *lists.queue;
@@ -157,8 +159,7 @@ pub fn topology_ranked_junctions(
         asked.boundaries.len() / NUMBERS_PER_BOUNDARY,
         asked.boundaries,
         &removed,
-        &listed,
-        n,
+        &listed[..n],
         masks,
         queue,
         output,

@@ -6,4 +6,4 @@ use Rattle.ranked_rows.proofs.conflicts.Goals as goal
 pub returns : goal.returns
 unfolding conflict_at
 returns c =
-    λ i. c.reserves.ensures i || c.reserves-2.ensures i || c.share_port-port.ensures i || c.region_conflict.ensures i
+    λ i. c.reserves-own.ensures i || c.reserves-its.ensures i || c.share_port-port.ensures i || c.region_conflict.ensures i

@@ -1,43 +1,16 @@
--- `ranked_rows::list_in_order` meets its contract. The loop's invariant: the rows of the first k ranks are written (`ListedTo`). Assumes nothing.
-use native.Mathlib.Nat.{le_antisymm}
-use native.Mathlib.Omega.{arith}
-use lib.ListN.{length}
-use mathlib.Core.Path.{refl, ap, ◌∙◌}
-use Rattle.definitions.specs.Lists.{overwrite}
-use Rattle.junction_selection.specs.Ranks.{order_of}
-use Rattle.ranked_list.specs.RankedList.{flat_ranked}
-use Rattle.ranked_rows.specs.Contract.{Listing, listed_from}
-use Rattle.ranked_rows.proofs.Following.{listed_none, listed_more, listing_of}
+-- `ranked_rows::list_in_order` meets its contract. The loop's invariant: the rows of the first k ranks are listed (`ListedTo`). Assumes nothing.
+use Rattle.std.proofs.Common.{arith, refl, ◌∙◌, length-set}
+use Rattle.ranked_rows.proofs.Following.{listed_none, listed_more, rest_more}
 use Rattle.ranked_rows.proofs.list_in_order.Goals as goal
 
 pub loop-k-init : goal.loop-k-init
-loop-k-init c =
-    let a = c.args in
-    listed_none a.found.now.full.now a.found.now.rows.now a.order.now a.found.now.count (length a.order.now) a.listed.now
-
-pub list_row-requires : goal.list_row-requires
-list_row-requires c =
-    let asked : Listing c.args.found.now.rows.now c.args.order.now c.loop-k.listed c.args.found.now.count c.args.found.now.n = listing_of c.loop-k.listed c.requires.listing c.loop-k.invariant.long in
-    let rows_in = c.requires.rows in
-    let k = c.loop-k.k in record {
-      listing = asked;
-      rank = record {
-        rank_in_lem = c.loop-k-test.true;
-        row_in = rows_in k c.loop-k-test.true;
-        rows_in = λ j h. rows_in j (omega (arith, c.loop-k-test.true));
-      };
-    }
+loop-k-init c = (omega arith, refl, listed_none _ _ _ _ c.args.listed.now, refl)
 
 pub loop-k-preserved : goal.loop-k-preserved
 loop-k-preserved c =
-    listed_more c.loop-k.invariant c.loop-k-test.true refl c.list_row.ensures c.list_row.auto.listed
-
-pub shape_of-listed : goal.shape_of-listed
-shape_of-listed c = c.loop-k.invariant.long
-
-pub returns : goal.returns
-returns c =
-    let h = c.loop-k.invariant in
-    let a = c.args in
-    h.is
-    ∙ ap (λ k. overwrite (flat_ranked (listed_from a.found.now.full.now a.found.now.count (order_of a.found.now.rows.now a.order.now k))) a.listed.now) (le_antisymm h.upto c.loop-k-test.false)
+    let i = c.loop-k.invariant in (
+      omega (arith, c.loop-k-test.true),
+      length-set _ _ _ ∙ i.1,
+      listed_more _ _ _ _ _ _ _ _ i.2 (omega (arith, c.loop-k-test.true, i.1, c.requires.listing.room)) refl c.refused_by-refused_by.ensures.first,
+      rest_more _ _ c.loop-k.k _ i.3,
+    )

@@ -1,34 +1,25 @@
 -- `ranked_rows::list_ranked` meets its contract, from what its callees ensure. Assumes nothing.
-use native.Mathlib.Omega.{arith}
-use mathlib.Core.Path.{◌≡◌, ap, ◌∙◌}
-use Prim.Native.Nat.{◌≤◌}
-use lib.ListN.{length, take}
+use Rattle.std.proofs.Common.{arith, ◌≡◌, ◌≤◌, length, ap, ◌∙◌, sym}
+use lib.ListN.{take, drop}
 use lib.Seq.{length-take-le}
-use Rattle.definitions.specs.Lists.{overwrite}
-use Rattle.junction_selection.proofs.Standings.{order-front, rows-front}
-use Rattle.ranked_list.specs.RankedList.{flat_ranked}
-use Rattle.ranked_rows.specs.Contract.{listed_from, allowed_list}
-use Rattle.ranked_rows.proofs.Following.{listed-count}
+use Rattle.junction_selection.proofs.Standings.{order-front}
+use Rattle.ranked_rows.specs.Contract.{listed_from, allowed_list, listed_form}
+use Rattle.std.specs.Prelude.{map}
 use Rattle.ranked_rows.proofs.list_ranked.Goals as goal
 
-pub list_in_order-requires : goal.list_in_order-requires
-list_in_order-requires c =
-    let h = c.requires in
-    let m = c.rank_proposals-m in
-    let r = m.ensures.listed_then in
-    let short : m.result ≤ length m.new.order = omega (arith, r.1, h.few, m.auto.order) in
-    let size : length (take m.result m.new.order) ≡ m.result = length-take-le m.result m.new.order short in record {
-      listing = record { few = h.few; whole = h.whole; small = h.small; below = h.below; ordered = omega (arith, size, r.1); room = h.room };
-      rows = λ k l. rows-front m.new.order short r.0 k (omega (arith, l, size));
-    }
-
-pub returns : goal.returns
+pub returns-clause-list : goal.returns-clause-list
 unfolding allowed_list
-returns c =
-    let a = c.args in
+returns-clause-list c =
+    let a = c.args.found.now in
     let m = c.rank_proposals-m in
     let short : m.result ≤ length m.new.order = omega (arith, m.ensures.listed_then.1, c.requires.few, m.auto.order) in
-    let front = order-front a.found.now.rows.now m.new.order m.result short in record {
-      many = listed-count a.found.now.full.now a.found.now.count a.found.now.rows.now _ m.result _ m.ensures.order;
-      list = c.list_in_order.ensures ∙ ap (λ all. overwrite (flat_ranked (listed_from a.found.now.full.now a.found.now.count all)) a.listed.now) (front ∙ m.ensures.order);
-    }
+    let size : length (take m.result m.new.order) ≡ m.result = length-take-le m.result m.new.order short in
+    ap (λ n. map listed_form (take n c.list_in_order.new.listed)) (sym size) ∙ c.list_in_order.ensures.list
+    ∙ ap (listed_from a.lists.now.full.now a.lists.now.count) (order-front a.rows.now m.new.order m.result short ∙ m.ensures.order)
+
+pub returns-clause-rest : goal.returns-clause-rest
+returns-clause-rest c =
+    let m = c.rank_proposals-m in
+    let short : m.result ≤ length m.new.order = omega (arith, m.ensures.listed_then.1, c.requires.few, m.auto.order) in
+    let size : length (take m.result m.new.order) ≡ m.result = length-take-le m.result m.new.order short in
+    ap (λ n. drop n c.list_in_order.new.listed) (sym size) ∙ c.list_in_order.ensures.rest ∙ ap (λ n. drop n c.args.listed.now) size

@@ -5,7 +5,8 @@ use mathlib.Core.Path.{sym, ap, ◌∙◌}
 use mathlib.Core.List.{List}
 use Rattle.junction_proposals.specs.Bridges.{bridge_form, is_pocket_port}
 use Rattle.junction_proposals.proofs.FirstFound.{none_found, one_found, two_found, three-found, more_found}
-use Rattle.junction_proposals.proofs.BridgeWalk.{port_at_lem, other-count, is_anchored, other_length, of_three}
+use Rattle.junction_proposals.proofs.BridgeTests.{three_as}
+use Rattle.junction_proposals.proofs.BridgeWalk.{port_in, other-count, is_anchored, other_length, of_three}
 use Rattle.junction_proposals.proofs.bridges.bridge_of.Goals as goal
 
 pub bounds-lists-r : goal.bounds-lists-r
@@ -40,30 +41,26 @@ returns-in_err-i c =
 pub returns-in_err-j : goal.returns-in_err-j
 returns-in_err-j c =
     ap (bridge_form c.args.r) c.from_residual-in_err-j.ensures ∙ other_length c.args.lists.now.boundaries.now c.args.lists.now.full.now c.args.lists.now.marks.now c.args.lists.now.counts.now c.args.r c.args.lists.now.count c.if-lists-r-ne3.false (sym c.is_anchored.ensures ∙ c.if-is_anchored.false)
-    (one_found (is_pocket_port c.args.lists.now.full.now c.args.r c.args.lists.now.boundaries.now) c.args.lists.now.count c.in_ok-i.ensures.first c.in_err-j.ensures.first)
+    (one_found (is_pocket_port c.args.lists.now.full.now c.args.r c.args.lists.now.boundaries.now) c.args.lists.now.count c.in_ok-i.ensures.first.first c.in_err-j.ensures.first)
 
 pub returns-in_err-k : goal.returns-in_err-k
 returns-in_err-k c =
     ap (bridge_form c.args.r) c.from_residual-in_err-k.ensures ∙ other_length c.args.lists.now.boundaries.now c.args.lists.now.full.now c.args.lists.now.marks.now c.args.lists.now.counts.now c.args.r c.args.lists.now.count c.if-lists-r-ne3.false (sym c.is_anchored.ensures ∙ c.if-is_anchored.false)
-    (two_found (is_pocket_port c.args.lists.now.full.now c.args.r c.args.lists.now.boundaries.now) c.args.lists.now.count c.in_ok-i.ensures.first c.in_ok-j.ensures.first c.in_err-k.ensures.first)
+    (two_found (is_pocket_port c.args.lists.now.full.now c.args.r c.args.lists.now.boundaries.now) c.args.lists.now.count c.in_ok-i.ensures.first.first c.in_ok-j.ensures.first.first c.in_err-k.ensures.first)
 
 pub returns-in-Some : goal.returns-in-Some
 returns-in-Some c =
     other_length c.args.lists.now.boundaries.now c.args.lists.now.full.now c.args.lists.now.marks.now c.args.lists.now.counts.now c.args.r c.args.lists.now.count c.if-lists-r-ne3.false (sym c.is_anchored.ensures ∙ c.if-is_anchored.false)
-    (more_found (is_pocket_port c.args.lists.now.full.now c.args.r c.args.lists.now.boundaries.now) c.args.lists.now.count c.in_ok-i.ensures.first c.in_ok-j.ensures.first c.in_ok-k.ensures.first c.in-Some.ensures.first)
+    (more_found (is_pocket_port c.args.lists.now.full.now c.args.r c.args.lists.now.boundaries.now) c.args.lists.now.count c.in_ok-i.ensures.first.first c.in_ok-j.ensures.first.first c.in_ok-k.ensures.first.first c.in-Some.ensures.first.first)
 
 pub bridge_of_three-requires : goal.bridge_of_three-requires
 bridge_of_three-requires c =
-    let port = port_at_lem c.args.lists.now.boundaries.now c.args.lists.now.full.now c.args.r c.args.lists.now.count in
-    record {
-      lent = c.requires.lent;
-      i_is_port = port _ c.in_ok-i.ensures.first.1 c.in_ok-i.ensures.first.2;
-      j_is_port = port _ c.in_ok-j.ensures.first.1 c.in_ok-j.ensures.first.2;
-      k_is_port = port _ c.in_ok-k.ensures.first.1 c.in_ok-k.ensures.first.2;
-    }
+    let l = c.requires.lent in
+    record { i_is_port = port_in l c.in_ok-i.ensures.first; j_is_port = port_in l c.in_ok-j.ensures.first; k_is_port = port_in l c.in_ok-k.ensures.first }
 
 pub returns-in-None : goal.returns-in-None
 returns-in-None c =
     of_three c.args.lists.now.boundaries.now c.args.lists.now.full.now c.args.lists.now.marks.now c.args.lists.now.counts.now c.args.r c.args.lists.now.count c.if-lists-r-ne3.false (sym c.is_anchored.ensures ∙ c.if-is_anchored.false) _ _ _
-    (three-found (is_pocket_port c.args.lists.now.full.now c.args.r c.args.lists.now.boundaries.now) c.args.lists.now.count c.in_ok-i.ensures.first c.in_ok-j.ensures.first c.in_ok-k.ensures.first c.in-None.ensures.first)
-    c.bridge_of_three.ensures
+    (three-found (is_pocket_port c.args.lists.now.full.now c.args.r c.args.lists.now.boundaries.now) c.args.lists.now.count c.in_ok-i.ensures.first.first c.in_ok-j.ensures.first.first c.in_ok-k.ensures.first.first c.in-None.ensures.first)
+    (ap (bridge_form c.args.r) c.bridge_of_three.ensures
+    ∙ three_as c.args.lists.now.boundaries.now c.args.lists.now.full.now c.args.r c.args.lists.now.marks.now _ _ _ c.in_ok-i.ensures.first.beyond c.in_ok-j.ensures.first.beyond c.in_ok-k.ensures.first.beyond)

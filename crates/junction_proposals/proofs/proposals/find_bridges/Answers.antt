@@ -1,4 +1,4 @@
--- `junction_proposals::proposals::find_bridges` meets its contract. The loop's invariant: behind the first rows stand the bridges of the regions up to k. Assumes nothing.
+-- `junction_proposals::proposals::find_bridges` meets its contract. The loop's invariant: behind the unions stand the bridges of the regions up to k. Assumes nothing.
 use Prim.Native.Nat.{ℕ, ◌+◌, ◌≤◌}
 use native.Mathlib.Numerals.{add-one}
 use native.Mathlib.Nat.{le_antisymm, add-zero}
@@ -15,7 +15,6 @@ use Rattle.laws.specs.ListLaws.ScanSteps.{collect_next}
 use Rattle.junction_proposals.specs.Bridges.{is_bridge_at}
 use Rattle.junction_proposals.specs.Rows.{max_proposals, rows_of}
 use Rattle.junction_proposals.proofs.Counting.{bridges, bridges-few}
-use borrow.Author.Rules.{rules}
 use Rattle.junction_proposals.proofs.proposals.find_bridges.Goals as goal
 
 module _ (boundaries : List ℕ) (full : List (Option declared.Pair)) (marks counts : List ℕ) (count : ℕ) where
@@ -38,43 +37,40 @@ module _ (boundaries : List ℕ) (full : List (Option declared.Pair)) (marks cou
 
 pub loop-k-init : goal.loop-k-init
 unfolding collect
-loop-k-init c =
-    (omega arith, (refl, (sym (add-zero c.args.unions), sym (append-nil _))))
+loop-k-init c = (omega arith, refl, refl, sym (add-zero c.args.list.now.count), sym (append-nil _))
 
 pub overflow_cast-k : goal.overflow_cast-k
-overflow_cast-k c =
-    omega (arith, c.loop-k-test.true, c.requires.lent.labels)
+overflow_cast-k c = omega (arith, c.loop-k-test.true, c.requires.lent.labels)
 
-pub add_row-n-requires : goal.add_row-n-requires
-add_row-n-requires c =
+pub add-requires : goal.add-requires
+add-requires c =
     let l = c.args.lists.now in
-    omega (arith, few l.boundaries.now l.full.now l.marks.now l.counts.now l.count c.requires.unions_within c.requires.lent.bounds.few c.loop-k.k, c.loop-k.invariant.1.1.0, c.requires.rows_room, c.loop-k.invariant.1.0, ap (λ o. length (to_list o)) (c.bridge_row.ensures ∙ found_at l.boundaries.now l.full.now l.marks.now l.counts.now l.count c.loop-k.k))
+    let i = c.loop-k.invariant in
+    omega (arith, few l.boundaries.now l.full.now l.marks.now l.counts.now l.count c.requires.unions c.requires.lent.bounds.few c.loop-k.k, i.3, c.requires.rows_room, i.2, ap (λ o. length (to_list o)) (c.bridge_row.ensures ∙ found_at l.boundaries.now l.full.now l.marks.now l.counts.now l.count c.loop-k.k))
 
 pub loop-k-preserved : goal.loop-k-preserved
 loop-k-preserved c =
     let l = c.args.lists.now in
     let found : ℕ → Option Proposal = bridges l.boundaries.now l.full.now l.marks.now l.counts.now l.count in
-    let a = c.add_row-n in
+    let i = c.loop-k.invariant in
+    let a = c.add.ensures in
+    let unions = rows_of c.args.list.now.rows.now c.args.list.now.count in
     let e = c.bridge_row.ensures ∙ found_at l.boundaries.now l.full.now l.marks.now l.counts.now l.count c.loop-k.k in (
-      search rules,
-      (
-        a.auto.rows ∙ c.loop-k.invariant.1.0,
-        (
-          omega (arith, a.ensures.answer, c.loop-k.invariant.1.1.0, ap (λ o. length (to_list o)) e, ap length (collect_next found c.loop-k.k), length-append (collect c.loop-k.k found) (to_list (found c.loop-k.k))),
-          a.ensures.rows ∙ ap₂ (λ m o. m ++ to_list o) c.loop-k.invariant.1.1.1 e ∙ append_assoc (rows_of c.args.rows.now c.args.unions) (collect c.loop-k.k found) (to_list (found c.loop-k.k))
-              ∙ ap (λ m. rows_of c.args.rows.now c.args.unions ++ m) (sym (collect_next found c.loop-k.k)),
-        ),
-      ),
+      omega (arith, c.loop-k-test.true),
+      a.same ∙ i.1,
+      a.long ∙ i.2,
+      omega (arith, a.count, i.3, ap (λ o. length (to_list o)) e, ap length (collect_next found c.loop-k.k), length-append (collect c.loop-k.k found) (to_list (found c.loop-k.k))),
+      a.rows ∙ ap₂ (λ m o. m ++ to_list o) i.4 e ∙ append_assoc unions (collect c.loop-k.k found) (to_list (found c.loop-k.k))
+          ∙ ap (λ m. unions ++ m) (sym (collect_next found c.loop-k.k)),
     )
-
-pub shape_of-rows : goal.shape_of-rows
-shape_of-rows c = c.loop-k.invariant.1.0
 
 pub returns : goal.returns
 returns c =
     let l = c.args.lists.now in
     let found : ℕ → Option Proposal = bridges l.boundaries.now l.full.now l.marks.now l.counts.now l.count in
+    let i = c.loop-k.invariant in
     record {
-      rows = c.loop-k.invariant.1.1.1 ∙ ap (λ k. rows_of c.args.rows.now c.args.unions ++ collect k found) (le_antisymm c.loop-k.invariant.0 c.loop-k-test.false);
-      bound = omega (arith, c.loop-k.invariant.1.1.0, few l.boundaries.now l.full.now l.marks.now l.counts.now l.count c.requires.unions_within c.requires.lent.bounds.few c.loop-k.k);
+      same = i.1;
+      rows = i.4 ∙ ap (λ k. rows_of c.args.list.now.rows.now c.args.list.now.count ++ collect k found) (le_antisymm i.0 c.loop-k-test.false);
+      bound = omega (arith, i.3, few l.boundaries.now l.full.now l.marks.now l.counts.now l.count c.requires.unions c.requires.lent.bounds.few c.loop-k.k);
     }

@@ -1,45 +1,44 @@
 -- `junction_proposals::proposals::find_unions` meets its contract. The loop's invariant: the rows are the unions at the boundaries below i. Assumes nothing.
 use Prim.Native.Nat.{ℕ}
 use native.Mathlib.Nat.{le_antisymm}
+use native.Mathlib.Omega.{arith}
 use mathlib.Core.Path.{sym, ap, ap₂, ◌∙◌, refl}
 use Rattle.std.specs.Prelude.{Option}
 use mathlib.Core.List.{◌++◌}
 use Rattle.definitions.specs.Scan.{to_list, collect}
 use Rattle.definitions.specs.Junctions.{Proposal}
 use Rattle.laws.specs.ListLaws.ScanSteps.{collect_next}
-use native.Mathlib.Omega.{arith}
-use Rattle.junction_proposals.specs.Rows.{found_form, union_in}
+use Rattle.junction_proposals.specs.Rows.{found_form, rows_of, union_in}
 use Rattle.junction_proposals.proofs.RowLaws.{rows_none, at_most_one}
-use borrow.Author.Rules.{rules}
 use Rattle.junction_proposals.proofs.proposals.find_unions.Goals as goal
 
 pub loop-i-init : goal.loop-i-init
 unfolding collect
-loop-i-init c = (omega arith, (omega arith, (refl, rows_none _)))
+loop-i-init c = (omega arith, omega (arith, c.requires.none_yet), refl, refl, ap (rows_of c.args.list.now.rows.now) c.requires.none_yet ∙ rows_none _)
 
-pub add_row-n-requires : goal.add_row-n-requires
-add_row-n-requires c =
-    omega (arith, c.requires.rows_room, c.requires.lent.bounds.few, c.loop-i-test.true, c.loop-i.invariant.1.0, c.loop-i.invariant.1.1.0, at_most_one (found_form c.union_row.result))
+pub add-requires : goal.add-requires
+add-requires c =
+    let i = c.loop-i.invariant in
+    omega (arith, c.requires.rows_room, c.requires.lent.bounds.few, c.loop-i-test.true, i.1, i.3, at_most_one (found_form c.union_row.result))
 
 pub loop-i-preserved : goal.loop-i-preserved
 loop-i-preserved c =
-    let unions : ℕ → Option Proposal = union_in c.args.lists.now in (
-      search rules,
-      (
-        omega (arith, c.add_row-n.ensures.answer, c.loop-i.invariant.1.0, at_most_one (found_form c.union_row.result)),
-        (
-          c.add_row-n.auto.rows ∙ c.loop-i.invariant.1.1.0,
-          c.add_row-n.ensures.rows ∙ ap₂ (λ m o. m ++ to_list o) c.loop-i.invariant.1.1.1 c.union_row.ensures ∙ sym (collect_next unions c.loop-i.i),
-        ),
-      ),
+    let unions : ℕ → Option Proposal = union_in c.args.lists.now in
+    let i = c.loop-i.invariant in
+    let a = c.add.ensures in (
+      omega (arith, c.loop-i-test.true),
+      omega (arith, a.count, i.1, at_most_one (found_form c.union_row.result)),
+      a.same ∙ i.2,
+      a.long ∙ i.3,
+      a.rows ∙ ap₂ (λ m o. m ++ to_list o) i.4 c.union_row.ensures ∙ sym (collect_next unions c.loop-i.i),
     )
-
-pub shape_of-rows : goal.shape_of-rows
-shape_of-rows c = c.loop-i.invariant.1.1.0
 
 pub returns : goal.returns
 returns c =
+    let i = c.loop-i.invariant in
     record {
-      rows = c.loop-i.invariant.1.1.1 ∙ ap (λ n. collect n (union_in c.args.lists.now)) (le_antisymm c.loop-i.invariant.0 c.loop-i-test.false);
-      bound = omega (arith, c.loop-i.invariant.0, c.loop-i.invariant.1.0);
+      same = i.2;
+      long = i.3;
+      rows = i.4 ∙ ap (λ n. collect n (union_in c.args.lists.now)) (le_antisymm i.0 c.loop-i-test.false);
+      bound = omega (arith, i.0, i.1);
     }

@@ -7,24 +7,9 @@ use Rattle.junction_selection.proofs.selection.reserve_ports.Goals as goal
 pub loop-j-init : goal.loop-j-init
 loop-j-init c = (omega arith, marked_start _ _)
 
-pub bounds-reserved-j : goal.bounds-reserved-j
-bounds-reserved-j c =
-    omega (arith, c.loop-j-test.true, c.loop-j.invariant.1.long, c.requires.1)
-
-pub reserves-requires : goal.reserves-requires
-reserves-requires c =
-    (c.requires.0, omega (arith, c.loop-j-test.true, c.requires.1))
-
-pub bounds-reserved-j-in-loop-j : goal.bounds-reserved-j-in-loop-j
-bounds-reserved-j-in-loop-j c =
-    omega (arith, c.loop-j-test.true, c.loop-j.invariant.1.long, c.requires.1)
-
 pub loop-j-preserved : goal.loop-j-preserved
 loop-j-preserved c =
-    (omega (arith, c.loop-j-test.true), marked_more c.loop-j.invariant.1 (omega (arith, c.loop-j-test.true, c.requires.1)) c.reserves.ensures)
-
-pub shape_of-reserved : goal.shape_of-reserved
-shape_of-reserved c = c.loop-j.invariant.1.long
+    (omega (arith, c.loop-j-test.true), marked_more c.loop-j.invariant.1 (omega (arith, c.loop-j-test.true, c.requires)) c.reserves.ensures)
 
 pub returns : goal.returns
 returns c = λ x h. c.loop-j.invariant.1.below x (omega (arith, c.loop-j-test.false))

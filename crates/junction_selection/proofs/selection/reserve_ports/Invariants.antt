@@ -1,11 +1,11 @@
 -- `junction_selection::selection::reserve_ports` meets its contract. The loop's invariant: the ports below j are marked.
 -- Assumes nothing.
 use Prim.Native.Nat.{◌≤◌}
-use Rattle.junction_proposals.specs.Rows.{row_at}
+use Rattle.junction_proposals.specs.Rows.{form}
 use Rattle.junction_selection.specs.Ranks.{reserves_at}
 use Rattle.junction_selection.proofs.Standings.{Marked}
 use Rattle.junction_selection.proofs.selection.reserve_ports.Given as goal
 
 abbrev pub invariant-loop-j : goal.invariant-loop-j
 invariant-loop-j l =
-    (l.j ≤ l.found.count) × Marked l.initial.reserved l.reserved (reserves_at l.found.full.now (row_at l.found.rows.now l.p)) l.j
+    (l.j ≤ l.lists.count) × Marked l.initial.reserved l.reserved (reserves_at l.lists.full.now (form l.row)) l.j

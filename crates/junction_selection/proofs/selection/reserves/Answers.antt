@@ -2,7 +2,6 @@
 use mathlib.Core.Bool.{not, ◌&&◌, ◌||◌}
 use lib.Dec.{eqb}
 use Rattle.junction_proposals.specs.Ports.{names}
-use Rattle.junction_proposals.specs.Rows.{row_at}
 use Rattle.junction_selection.specs.Ranks.{reserves_at}
 use Rattle.junction_selection.proofs.selection.reserves.Goals as goal
 
@@ -10,4 +9,4 @@ pub returns : goal.returns
 unfolding reserves_at names
 returns c =
     λ t. (c.names_region-first.ensures t || c.is_union-union.ensures t && c.names_region-second.ensures t)
-    && not (c.is_union-union.ensures t && eqb c.args.j (row_at c.args.found.now.rows.now c.args.p).index)
+    && not (c.is_union-union.ensures t && eqb c.args.j c.args.row.index)

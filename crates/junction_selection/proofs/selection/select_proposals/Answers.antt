@@ -14,6 +14,6 @@ pub returns : goal.returns
 unfolding removed_at selected_of
 returns c j l =
     c.select_ranked.ensures j l
-    ∙ ap (λ m. any (λ q. eqb j q.index) (select (conflict_at c.args.found.now.full.now c.args.found.now.count) [] m))
+    ∙ ap (λ m. any (λ q. eqb j q.index) (select (conflict_at c.args.found.now.lists.now.full.now c.args.found.now.lists.now.count) [] m))
     (order-front c.args.found.now.rows.now c.rank_proposals-m.new.order c.rank_proposals-m.result
     (omega (arith, c.rank_proposals-m.ensures.listed_then.1, c.requires.few, c.rank_proposals-m.auto.order)) ∙ c.rank_proposals-m.ensures.order)

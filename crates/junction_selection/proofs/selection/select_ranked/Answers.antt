@@ -17,8 +17,8 @@ loop-p-init c =
     let h = c.requires.selectable in (
       refl,
       omega arith,
-      record { few = h.few; whole = h.whole; small = h.small; removed-long = h.removed-long; reserved_long = h.small; room = omega arith; below = h.below },
-      standing-start _ _ _ c.args.order.now _ _ _ _ c.requires.removed_clear (λ j l. none_set 256 j),
+      record { few = h.few; small = h.small; removed-long = h.removed-long; reserved_long = h.small; room = omega arith; below = h.below },
+      standing-start _ _ _ c.args.order.now _ _ _ c.requires.removed_clear (λ j l. none_set 256 j),
     )
 
 pub loop-p-preserved : goal.loop-p-preserved
@@ -28,15 +28,15 @@ loop-p-preserved c =
       a.same_removed ∙ i.0,
       omega (arith, a.bound, i.1),
       a.selecting,
-      standing_as (a.standing _ i.3) (sym (selected_next c.args.found.now.full.now c.args.found.now.rows.now c.args.order.now c.args.found.now.count c.loop-p.p-index)),
+      standing_as (a.standing _ i.3) (sym (selected_next c.args.found.now.lists.now.full.now c.args.found.now.rows.now c.args.order.now c.args.found.now.lists.now.count c.loop-p.p-index)),
     )
 
 pub returns : goal.returns
 returns c j h =
     let i = c.loop-p.invariant in
     let name = i.0 in
-    let marked : get_or c.loop-p.selection.removed.now j false ≡ any (λ q. eqb j q.index) (selected_of c.args.found.now.full.now c.args.found.now.rows.now c.args.order.now c.args.found.now.count (length c.args.order.now)) =
+    let marked : get_or c.loop-p.selection.removed.now j false ≡ any (λ q. eqb j q.index) (selected_of c.args.found.now.lists.now.full.now c.args.found.now.rows.now c.args.order.now c.args.found.now.lists.now.count (length c.args.order.now)) =
     i.3.removed_at_lem j h
-    ∙ ap (λ k. any (λ q. eqb j q.index) (selected_of c.args.found.now.full.now c.args.found.now.rows.now c.args.order.now c.args.found.now.count k)) (le_antisymm c.loop-p.auto.p-index-end c.loop-p-test.false)
+    ∙ ap (λ k. any (λ q. eqb j q.index) (selected_of c.args.found.now.lists.now.full.now c.args.found.now.rows.now c.args.order.now c.args.found.now.lists.now.count k)) (le_antisymm c.loop-p.auto.p-index-end c.loop-p-test.false)
     in
     search rules

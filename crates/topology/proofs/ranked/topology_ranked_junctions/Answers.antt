@@ -1,10 +1,11 @@
 -- What a part of the call asks is what the parts before it leave (Calling, RankedCalling).
-use Rattle.std.proofs.Common.{ℕ, rules, refl, ◌≡◌, ◌∙◌, arith}
+use Rattle.std.proofs.Common.{ℕ, rules, refl, sym, ◌≡◌, ◌∙◌, arith}
+use lib.Seq.{length-take-le}
 use Rattle.std.specs.Prelude.{Err}
 use Rattle.std.proofs.lemmas.List.{length-replicate}
 use Rattle.pass_lists.proofs.AfterPartition.{ready_finishes}
 use Rattle.topology.proofs.Calling.{no_marks, when_ready, needed-few, ready_fills, ready-lent}
-use Rattle.topology.proofs.RankedCalling.{refused_over, listed-long, ranked-over}
+use Rattle.topology.proofs.RankedCalling.{refused_over, listed-within, ranked-over}
 use Rattle.topology.proofs.ranked.topology_ranked_junctions.Goals as goal
 
 pub returns-in_err-ready-clause-ranked : goal.returns-in_err-ready-clause-ranked
@@ -34,16 +35,24 @@ mark_ranked-n-requires-clause-few c = needed-few (when_ready (c.prepare_lists.en
 pub mark_ranked-n-requires-clause-before_ranking : goal.mark_ranked-n-requires-clause-before_ranking
 mark_ranked-n-requires-clause-before_ranking c = (no_marks, omega (arith, length-replicate {A = ℕ}))
 
-pub finish_ranked-requires-clause-finishes : goal.finish_ranked-requires-clause-finishes
-finish_ranked-requires-clause-finishes c =
+pub finish_ranked-requires : goal.finish_ranked-requires
+finish_ranked-requires c =
     let R = when_ready (c.prepare_lists.ensures.prepared 3 (search rules)) c.in_ok-ready.was in
     ready_finishes R (c.mark_ranked-n.auto.masks ∙ c.prepare_lists.ensures.same.masks_long) (c.mark_ranked-n.auto.queue ∙ c.prepare_lists.ensures.same.queue_long_lem)
 
-pub finish_ranked-requires-clause-listed : goal.finish_ranked-requires-clause-listed
-finish_ranked-requires-clause-listed c =
+pub slice_bounds-listed-end : goal.slice_bounds-listed-end
+slice_bounds-listed-end c =
     let R = when_ready (c.prepare_lists.ensures.prepared 3 (search rules)) c.in_ok-ready.was in
     let F = c.fill.ensures _ (ready_fills R c.prepare_lists.ensures.same.queue_long_lem) in
-    listed-long R F (c.mark_ranked-n.ensures _ (ready-lent R F c.prepare_lists.ensures.same.masks_long c.prepare_lists.ensures.same.queue_long_lem))
+    listed-within R F (c.mark_ranked-n.ensures _ (ready-lent R F c.prepare_lists.ensures.same.masks_long c.prepare_lists.ensures.same.queue_long_lem))
+
+pub slice_bounds-finish_ranked-end : goal.slice_bounds-finish_ranked-end
+slice_bounds-finish_ranked-end c =
+    let R = when_ready (c.prepare_lists.ensures.prepared 3 (search rules)) c.in_ok-ready.was in
+    let F = c.fill.ensures _ (ready_fills R c.prepare_lists.ensures.same.queue_long_lem) in
+    sym
+    (length-take-le c.mark_ranked-n.result c.mark_ranked-n.new.listed
+    (listed-within R F (c.mark_ranked-n.ensures _ (ready-lent R F c.prepare_lists.ensures.same.masks_long c.prepare_lists.ensures.same.queue_long_lem))))
 
 pub returns-clause-ranked : goal.returns-clause-ranked
 returns-clause-ranked c =

@@ -10,26 +10,22 @@ use Rattle.junction_proposals.specs.Rows.{row_at}
 use Rattle.junction_selection.proofs.Standings.{refused, order-front, rows-front}
 use Rattle.junction_selection.proofs.selection.Selection.refuses.Goals as goal
 
-pub bounds-self-found : goal.bounds-self-found
-bounds-self-found c =
-    omega (arith, c.requires.selecting.below c.args.p c.requires.places.1, c.requires.selecting.reserved_long)
-
 pub port_taken-ports-requires : goal.port_taken-ports-requires
 port_taken-ports-requires c =
     let h = c.requires.selecting in
-    record { whole = omega (arith, h.whole, c.requires.places.1); small = h.small; removed-long = h.removed-long; reserved_long = h.reserved_long; index_in = h.below c.args.p c.requires.places.1 }
+    record { whole = c.requires.places.1; small = h.small; removed-long = h.removed-long; reserved_long = h.reserved_long; index_in = h.below c.args.p c.requires.places.1 }
 
 pub region_taken-requires : goal.region_taken-requires
 region_taken-requires c =
     record {
-      row_within = omega (arith, c.requires.selecting.whole, c.requires.places.1);
+      row_within = c.requires.places.1;
       taken_rows = λ k l.
           let size : length (take c.args.self.now.count c.args.self.now.taken) ≡ c.args.self.now.count = length-take-le c.args.self.now.count c.args.self.now.taken (omega (arith, c.requires.places.0, c.requires.selecting.few, c.requires.selecting.room)) in
-          omega (arith, rows-front c.args.self.now.taken (omega (arith, c.requires.places.0, c.requires.selecting.few, c.requires.selecting.room)) c.requires.listed k (omega (arith, l, size)), c.requires.selecting.whole);
+          omega (arith, rows-front c.args.self.now.taken (omega (arith, c.requires.places.0, c.requires.selecting.few, c.requires.selecting.room)) c.requires.listed k (omega (arith, l, size)));
     }
 
 pub returns : goal.returns
 returns c chosen st =
-    refused c.args.found.now.full.now c.args.found.now.rows.now c.args.self.now.taken c.args.self.now.removed.now c.args.self.now.reserved c.args.found.now.count c.args.found.now.n c.args.self.now.count chosen st c.args.p c.requires.selecting.below c.requires.places.1
+    refused c.args.found.now.lists.now.full.now c.args.found.now.rows.now c.args.self.now.taken c.args.self.now.removed.now c.args.self.now.reserved c.args.found.now.lists.now.count c.args.self.now.count chosen st c.args.p c.requires.selecting.below c.requires.places.1
     c.port_taken-ports.ensures (λ i. get_or c.args.self.now.reserved (row_at c.args.found.now.rows.now c.args.p).index false) (c.region_taken.ensures ∙ ap (any (λ q. region_conflict q.kind (row_at c.args.found.now.rows.now c.args.p).kind q (row_at c.args.found.now.rows.now c.args.p)))
     (order-front c.args.found.now.rows.now c.args.self.now.taken c.args.self.now.count (omega (arith, c.requires.places.0, c.requires.selecting.few, c.requires.selecting.room))))
