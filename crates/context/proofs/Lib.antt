@@ -6,6 +6,7 @@ pub mod IncidentCounts
 pub mod IncidentWhole
 pub mod Ones
 pub mod PairStarts
+pub mod Radius
 pub mod RecordLaws
 pub mod RecordCounts
 pub mod AnchorLaws
