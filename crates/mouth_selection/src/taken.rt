@@ -107,11 +107,11 @@ impl Taken<'_> {
         if has_ramp(context.boundaries, m) | self.removed[m] {
             return true;
         }
-        let first = context.starts[m];
-        if first == context.starts[m + 1] {
+        let rows = context.rows(m);
+        if rows.is_empty() {
             return false;
         }
-        let Pair { lo, hi } = row_at(context.pairs, first);
+        let Pair { lo, hi } = row_at(context.pairs, rows.start);
         region_full(&*self.marks, lo) | region_full(&*self.marks, hi)
     }
 
