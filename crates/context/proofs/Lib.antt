@@ -1,5 +1,6 @@
 -- The laws that the proofs of this crate share.
 pub mod AnchorSteps
+pub mod Asked
 pub mod Counting
 pub mod FullPairs
 pub mod IncidentCounts

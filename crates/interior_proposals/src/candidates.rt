@@ -37,7 +37,7 @@ fn spoils(context: PartitionContext, known: Components, i: usize, r: u32) -> boo
         Owned C i (owner_at known.entry.owners.now i) →
         result ≡ spoils_at C r i }
 {
-    let rows = context.starts[i]..context.starts[i + 1];
+    let rows = context.rows(i);
     match known.owners[i] {
         FoundRegions::None => false,
         FoundRegions::One(name) => (name == r) && any_anchored(known.marks, context.pairs, rows),

@@ -67,8 +67,7 @@ fn join_cut(parents: &mut [u32], context: PartitionContext, i: usize)
         Merged cs parents.old (links_of C i) parents.new }
 {
     if is_ordinary(context, i) {
-        let rows = context.starts[i]..context.starts[i + 1];
-        join_pairs(parents, context.pairs, rows);
+        join_pairs(parents, context.pairs, context.rows(i));
     }
 }
 
@@ -119,6 +118,7 @@ fn prepare(marks: &mut [u16], counts: &mut [u32], regions: usize)
         Prepared C marks.new counts.new }
     ensures beyond { Beyond regions marks.old marks.new × Beyond regions counts.old counts.new }
 {
+    // Kept: with the marks by `iter_mut` beside the counts by `zip`, std says nothing of what was written.
     for (k, &count) in counts[..regions].iter().enumerate() {
         marks[k] = flags(marks[k], count);
     }

@@ -159,9 +159,9 @@ fn expand_rows(names: &mut [u32], marks: &[u16], pairs: &[u32], rows: Range<usiz
     fit
 }
 
-// Kept: names and marks that are written are two parameters; in a struct each function would promise besides that its fields are the same two lists at exit.
-//
 // The leaves beyond a port, whose rows these are. Whether the port is valid: no row has two regions named r before, and each has exactly one after.
+// Kept: `names` and `marks` apart, for of the four walks below each writes just one of the two, as its parameters say. Of a struct of both each would promise
+// besides that the other list is as it was, and that the struct holds the same two lists at exit.
 pub fn expand_port(
     names: &mut [u32],
     marks: &mut [u16],

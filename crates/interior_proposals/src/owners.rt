@@ -57,8 +57,7 @@ fn owner_of(context: PartitionContext, names: &[u32], i: usize) -> FoundRegions
         Owned C i result }
 {
     if is_ordinary(context, i) {
-        let rows = context.starts[i]..context.starts[i + 1];
-        common_name(names, context.pairs, rows)
+        common_name(names, context.pairs, context.rows(i))
     } else {
         FoundRegions::None
     }

@@ -1,9 +1,8 @@
 -- Corners near a ramp or a mouth, by the distances that the code compares. Assumes nothing.
-use Prim.Native.Nat.{ℕ, zero, suc, ◌<◌}
-use native.Mathlib.Omega.{arith}
-use mathlib.Core.Path.{◌≡◌, refl, sym, ap, ap₂, ◌∙◌, subst}
-use mathlib.Core.Bool.{Bool, true, false, ◌&&◌, ◌||◌, and-false}
-use mathlib.Core.List.{List, [], ◌∷◌, map}
+use Prim.Native.Nat.{ℕ, ◌<◌}
+use mathlib.Core.Path.{◌≡◌, refl, sym, ap, ◌∙◌, subst}
+use mathlib.Core.Bool.{Bool, true, false, ◌&&◌, ◌||◌}
+use mathlib.Core.List.{List, map}
 use lib.ListN.{length}
 use Rattle.std.specs.Prelude.{MatchBool}
 use Rattle.std.specs.List.{AllWithin, HoldsAt}
@@ -15,9 +14,10 @@ use Rattle.definitions.specs.RegionRecord.{Region, corners}
 use Rattle.definitions.specs.Context.{Context}
 use Rattle.definitions.specs.RampMouths.{max_approach_radius}
 use Rattle.definitions.specs.Junctions.{within_distance}
-use Rattle.laws.specs.ListLaws.Lists.{All, more}
+use Rattle.laws.specs.ListLaws.Lists.{All}
 use Rattle.laws.specs.FloatLaws.Pixels.{PixelPoint, PixelSegment, PixelRegion, pixel-half, center-half, corners-pixel}
 use Rattle.laws.specs.FloatLaws.DistanceRange.{DistanceInRange, distance-in_range}
+use Rattle.context.proofs.Asked.{all-asked}
 use Rattle.context.proofs.Radius.{radius_is}
 use Rattle.geometry.specs.declared.Point as code
 use Rattle.geometry.specs.Forms.{point_form}
@@ -68,22 +68,7 @@ module _ (broad : Bool) (p q : Point) where
     unfolding test
     answered {x = x} h a = sym (λ i. corner_near (e i) (f i) broad (point_form x)) ∙ a (corner-in_range h hs e) (corner-in_range h ht f)
 
-    every : (l : List code.Point) → All PixelPoint (map point_form l) → AllWithin (Answer true) l 0 (length l) → all test (map point_form l) ≡ true
-    unfolding all
-    every [] h a = refl
-    every (x ∷ l) (more h t) a = ap₂ ◌&&◌ (answered h (a 0 x (omega arith) (omega arith))) (every l t (λ k d z m. a (suc k) d (omega arith) (omega arith)))
-
-    some : (l : List code.Point) → All PixelPoint (map point_form l) → (k : ℕ) → k < length l → HoldsAt (Answer false) l k → all test (map point_form l) ≡ false
-    unfolding all
-    some [] h k m a = absurd (omega arith)
-    some (x ∷ l) (more h t) zero m a = ap (λ b. b && all test (map point_form l)) (answered h (a x))
-    some (x ∷ l) (more h t) (suc k) m a = ap (λ b. test (point_form x) && b) (some l t k (omega arith) a) ∙ and-false (test (point_form x))
-
-    asked : (l : List code.Point) → All PixelPoint (map point_form l) → (r : Bool) → MatchBool r (AllWithin (Answer true) l 0 (length l)) ((k : ℕ) × (k < length l) × HoldsAt (Answer false) l k) → r ≡ all test (map point_form l)
-    asked l h true a = sym (every l h a)
-    asked l h false (k, m, a) = sym (some l h k m a)
-
     pub corners-asked : (l : List code.Point) (R : Region) → map point_form l ≡ corners R → PixelRegion R → (r : Bool)
         → MatchBool r (AllWithin (Answer true) l 0 (length l)) ((k : ℕ) × (k < length l) × HoldsAt (Answer false) l k) → r ≡ all (corner_near (center s) (center t) broad) (corners R)
     unfolding test
-    corners-asked l R g h r a = asked l (subst (All PixelPoint) (sym g) (corners-pixel h)) r a ∙ ap (all test) g
+    corners-asked l R g h r a = all-asked point_form test Answer (λ v x. answered) l (subst (All PixelPoint) (sym g) (corners-pixel h)) r a ∙ ap (all test) g
