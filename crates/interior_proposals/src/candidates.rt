@@ -50,8 +50,9 @@ fn edge_count(owners: &[FoundRegions; 256], count: usize, r: u32) -> usize
     requires { count ≤ max_entries }
     ensures { result ≡ count_below count (λ i. owned_by r (owner_at owners.now i)) }
 {
-    (0..count)
-        .filter(|&i| owners[i] == FoundRegions::One(r))
+    owners[..count]
+        .iter()
+        .filter(|&&owner| owner == FoundRegions::One(r))
         .count()
 }
 
