@@ -1,4 +1,5 @@
-// The components of regions that ordinary full cuts join, as classes of crate `parents` in a lent list, where region r is number r - 1; then the name of each region.
+// The components of regions that ordinary full cuts join, as classes of crate `parents` in a lent list, where region r is number r - 1; then the name of each
+// region.
 ghost use Rattle.std.specs.Prelude.{◌≡◌, List, [], ◌∷◌, ℕ, suc, ◌+◌, ◌-◌, ◌*◌, ◌%◌, ◌≤◌, ◌<◌, eqb, length, get_or, set, false};
 ghost use Rattle.definitions.specs.Limits.{max_side, numbers_per_pair, numbers_per_boundary, tallies_per_span};
 ghost use Rattle.definitions.specs.Context.{Context};

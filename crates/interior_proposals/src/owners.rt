@@ -13,8 +13,8 @@ use context::found_regions::FoundRegions;
 use context::pairs::row_at;
 use std::ops::Range;
 
-// What is known of components: the name that each region has, the marks of regions, and the owner of each boundary, the component in which all its pairs lie: none
-// where it is no ordinary full cut or has no pair.
+// What is known of components: the name that each region has, the marks of regions, and the owner of each boundary, the component in which all its pairs lie:
+// none where it is no ordinary full cut or has no pair.
 #[derive(Clone, Copy)]
 pub struct Components<'a> {
     pub names: &'a [u32],

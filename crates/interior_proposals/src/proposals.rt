@@ -40,7 +40,7 @@ fn expand_ports(
 }
 
 // The two ports of the component r, if it is a candidate with two ports that fit and are valid. The names then hold r for each of its regions and leaves.
-pub fn propose(
+fn propose(
     context: PartitionContext,
     names: &mut [u32],
     marks: &mut [u16],

@@ -1,5 +1,5 @@
-// The choice among proposals by the best of each ramp. A best that conflicts with one taken still ranks before all that is left of its ramp: it is found anew only
-// where it is the least of the bests.
+// The choice among proposals by the best of each ramp. A best that conflicts with one taken still ranks before all that is left of its ramp: it is found anew
+// only where it is the least of the bests.
 ghost use Rattle.std.specs.Prelude.{◌≡◌, true, List, ℕ, ◌*◌, ◌≤◌, ◌<◌, length, get_or, None};
 ghost use Rattle.definitions.specs.Limits.{numbers_per_boundary};
 ghost use Rattle.definitions.specs.Context.{Context};
@@ -59,7 +59,8 @@ fn next_best(
     least_best(context.boundaries, &bests[..context.count])
 }
 
-// Takes proposals until the best of a ramp has to be found, and gives that ramp; none where no proposal is left. The bests of all ramps are known, now or from before.
+// Takes proposals until the best of a ramp has to be found, and gives that ramp; none where no proposal is left. The bests of all ramps are known, now or from
+// before.
 pub fn advance(
     context: PartitionContext,
     taken: &mut Taken,

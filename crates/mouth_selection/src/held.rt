@@ -1,5 +1,5 @@
-// Regions that taken proposals hold. Half of a region's mark says how: the number of its `Hold`, and 0 where none names it. The odd part says that the region is
-// anchored, and stays.
+// Regions that taken proposals hold. Half of a region's mark says how: the number of its `Hold`, and 0 where none names it. The odd part says that the region
+// is anchored, and stays.
 ghost use Rattle.std.specs.Prelude.{◌≡◌, [], ◌∷◌, ℕ, ◌+◌, ◌≤◌, ◌<◌, length, leb};
 ghost use Rattle.definitions.specs.MouthShapes.{regions_of};
 ghost use Rattle.context.specs.Shown.{pair_at, pairs_between};
@@ -16,8 +16,8 @@ use mouth_proposals::mouths::MouthKind;
 use std::ops::Range;
 
 // How a proposal holds a region: other mouths may lie outside it too, or nothing else may name it.
-// Kept: a region's mark is a number of the list that C lends, whose lowest bit says that the region is anchored, so that it has room for the number of a hold, and
-// not for an `Option<Hold>`.
+// Kept: a region's mark is a number of the list that C lends, whose lowest bit says that the region is anchored, so that it has room for the number of a hold,
+// and not for an `Option<Hold>`.
 #[derive(Clone, Copy, PartialEq, Eq)]
 enum Hold {
     Shared = 1,

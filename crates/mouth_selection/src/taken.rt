@@ -90,8 +90,8 @@ impl Taken<'_> {
         hold_proposal(context, &mut *self.marks, proposal);
     }
 
-    // Whether boundary m can be the mouth of no proposal any more: it has a ramp, or it is removed, or a region of its first row is held so that nothing else may name
-    // it.
+    // Whether boundary m can be the mouth of no proposal any more: it has a ramp, or it is removed, or a region of its first row is held so that nothing else
+    // may name it.
     fn is_gone(&self, context: PartitionContext, m: usize) -> bool
         requires boundaries_room { numbers_per_boundary * context.count ≤ length context.boundaries.now }
         requires rows { NamedRows context.pairs.now context.starts.now context.count (length self.now.marks.now) }
