@@ -12,17 +12,6 @@ use Rattle.mouth_selection.specs.Keys.{SafeKey}
 use Rattle.mouth_selection.proofs.RoundLaws.{least_taken, next_is}
 use Rattle.mouth_selection.proofs.bests.next_best.Goals as goal
 
-pub least_best-requires : goal.least_best-requires
-least_best-requires c =
-    let bests = c.args.bests.now in
-    let n = c.args.context.count in
-    let few : n ≤ length bests = search rules in
-    record {
-      safe = λ a l.
-          let below : a < n = omega (arith, l, length-take-le n bests few) in
-          subst (OnO (SafeKey c.args.context.boundaries.now)) (sym (get_or-take n bests a None below)) (c.requires.safe a below);
-    }
-
 pub returns-then-all_gone : goal.returns-then-all_gone
 returns-then-all_gone c = λ C T L S B. record { listed = absent; least = c.all_gone.ensures C T L S c.if-all_gone.true }
 
