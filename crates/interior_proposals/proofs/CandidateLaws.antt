@@ -4,10 +4,12 @@ use native.Mathlib.Omega.{arith}
 use mathlib.Core.Path.{◌≡◌, refl, sym, ap, ap₂, ◌∙◌}
 use mathlib.Core.Bool.{Bool, true, false, not, ◌&&◌, ◌||◌, cond, and-true, and-false, true≢false, false≢true}
 use mathlib.Core.List.{List, []}
-use lib.ListN.{length, get_or}
+use lib.ListN.{length, get_or, take}
 use lib.Dec.{eqb, leb}
 use borrow.Author.Tests.{eq-eqb, ne_eqb, not-true}
 use Rattle.std.specs.Prelude.{MatchBool}
+use Rattle.std.specs.List.{filter}
+use Rattle.std.proofs.lemmas.List.Filters.{length-filter_more}
 use Rattle.definitions.specs.Scan.{any, any_below_lem, all_below, count_below, gather, bit}
 use Rattle.definitions.specs.Context.{Context, incident_count}
 use Rattle.definitions.specs.MouthShapes.{regions_of}
@@ -25,7 +27,7 @@ use Rattle.laws.specs.RustInteriors.ComponentRegions.{inside, edge_is}
 use Rattle.context.specs.Shown.{pairs_between}
 use Rattle.interior_proposals.specs.Given.{flags_of, Marked}
 use Rattle.context.specs.declared.found_regions.FoundRegions.{FoundRegions}
-use Rattle.interior_proposals.specs.Owners.{pair_named, one_owner, several, owned_by, owner_at, all_in_lem, edge, Owned, Owners}
+use Rattle.interior_proposals.specs.Owners.{pair_named, nobody, one_owner, several, owned_by, owner_at, all_in_lem, edge, Owned, Owners}
 use Rattle.interior_proposals.specs.Candidates.{Mapped, is_marked, pair_marked, spoils_at, candidate, port}
 use Rattle.interior_proposals.proofs.Commons.{any_same, several_one}
 
@@ -213,6 +215,19 @@ counted_same f g zero h = refl
 counted_same f g (suc n) h = ap₂ ◌+◌ (counted_same f g n (λ k l. h k (omega arith))) (ap bit (h n (omega arith)))
 
 -- where no boundary spoils the component, those that it owns are its edges
+-- how many of the first n owners are the component r
+pub owned_count : (owners : List FoundRegions) (r n : ℕ) → n ≤ length owners → length (filter (owned_by r) (take n owners)) ≡ count_below n (λ i. owned_by r (owner_at owners i))
+unfolding count_below
+owned_count owners r zero l = refl
+owned_count owners r (suc n) l =
+    let e : n + 1 ≡ suc n = omega arith in
+    ap (λ m. length (filter (owned_by r) (take m owners))) (sym e) ∙ length-filter_more (owned_by r) owners n nobody (omega arith)
+    ∙ ap₂ ◌+◌ (owned_count owners r n (omega arith)) (bit_is (owned_by r (owner_at owners n)))
+  where
+    bit_is : (b : Bool) → cond b 1 0 ≡ bit b
+    bit_is true = refl
+    bit_is false = refl
+
 pub counted_owned : (C : Context) (r : ℕ) (owners : List FoundRegions) {n count : ℕ} {t : Bool} → 1 ≤ r → r ≤ C.regions → Owners C owners → t ≡ eqb (component_of C (components C) r) r → t ≡ true → C.count ≡ count → any_below_lem C.count (spoils_at C r) ≡ false
     → n ≡ count_below count (λ i. owned_by r (owner_at owners i)) → (leb 1 n && leb n max_interior_edges) ≡ candidate C r
 counted_owned C r owners from upto O q h e s c =

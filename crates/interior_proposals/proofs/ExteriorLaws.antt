@@ -4,6 +4,7 @@ use mathlib.Core.Path.{◌≡◌, refl, sym, ap, ap₂, subst, ◌∙◌}
 use mathlib.Core.Bool.{Bool, true, false, not, ◌&&◌, ◌||◌, cond, or-false, or-true, or_assoc, and-true, false≢true}
 use mathlib.Core.List.{List, [], ◌∷◌, ◌++◌, append-nil}
 use lib.ListN.{set}
+use Rattle.std.proofs.lemmas.List.{set-get_or}
 use lib.Dec.{eqb, leb}
 use Rattle.definitions.specs.Scan.{any, member, concat_map, bit}
 use Rattle.definitions.specs.Grid.{Pair, contains}
@@ -104,7 +105,7 @@ module _ (C : Context) (rs names rows : List ℕ) (first end r : ℕ) (I : Insid
       once : {mid : List ℕ} → mid ≡ set marks (hi - 1) (cond (a && not b) (entry_at marks hi % 4 + 4) (entry_at marks hi)) → Marked C (λ x. old x || (a && not b && eqb x hi)) mid
       once s = subst (Marked C (λ x. old x || (a && not b && eqb x hi))) (sym s) (marked_on E.marked hi (high_in w h l e).0 (high_in w h l e).1 (a && not b))
 
-      pub marking_more : {mid now : List ℕ} → mid ≡ set marks (hi - 1) (cond (a && not b) (entry_at marks hi % 4 + 4) (entry_at marks hi)) → now ≡ set mid (lo - 1) (cond (b && not a) (entry_at mid lo % 4 + 4) (entry_at mid lo)) → Marking was (k + 1) now (fit && not (a && b))
+      marking_more : {mid now : List ℕ} → mid ≡ set marks (hi - 1) (cond (a && not b) (entry_at marks hi % 4 + 4) (entry_at marks hi)) → now ≡ set mid (lo - 1) (cond (b && not a) (entry_at mid lo % 4 + 4) (entry_at mid lo)) → Marking was (k + 1) now (fit && not (a && b))
       marking_more {mid} s t =
           record {
             marked = marked_same (subst (Marked C (λ x. (old x || (a && not b && eqb x hi)) || (b && not a && eqb x lo))) (sym t) (marked_on (once s) lo (low_in_lem w h l d).0 (low_in_lem w h l d).1 (b && not a)))
@@ -117,6 +118,27 @@ module _ (C : Context) (rs names rows : List ℕ) (first end r : ℕ) (I : Insid
           next x =
               or_assoc (old x) (a && not b && eqb x hi) (b && not a && eqb x lo) ∙ ap (λ u. old x || u) (sym (exterior-row x))
               ∙ sym (ap (λ m. member x (exteriors rs m)) (between_next rows first k h) ∙ exteriors_last rs (pairs_between rows first k) (pair_at rows k) x)
+
+      -- as the code marks, by the two tests
+      abbrev pub step : Bool → Bool → List ℕ
+      step true true = marks
+      step true false = set marks (hi - 1) (entry_at marks hi % 4 + 4)
+      step false true = set marks (lo - 1) (entry_at marks lo % 4 + 4)
+      step false false = marks
+
+      abbrev mid_by : Bool → Bool → List ℕ
+      mid_by x y = set marks (hi - 1) (cond (x && not y) (entry_at marks hi % 4 + 4) (entry_at marks hi))
+
+      twice : (x y : Bool) → set (mid_by x y) (lo - 1) (cond (y && not x) (entry_at (mid_by x y) lo % 4 + 4) (entry_at (mid_by x y) lo)) ≡ step x y
+      twice true true = set-get_or (mid_by true true) (lo - 1) 0 ∙ set-get_or marks (hi - 1) 0
+      twice true false = set-get_or (mid_by true false) (lo - 1) 0
+      twice false true = ap (λ m. set m (lo - 1) (entry_at m lo % 4 + 4)) (set-get_or marks (hi - 1) 0)
+      twice false false = set-get_or (mid_by false false) (lo - 1) 0 ∙ set-get_or marks (hi - 1) 0
+
+      pub marking-by : (x y : Bool) → a ≡ x → b ≡ y → {now : List ℕ} {fit' : Bool} → now ≡ step x y → fit' ≡ (fit && not (x && y)) → Marking was (k + 1) now fit'
+      marking-by x y e f {now} {fit'} n g =
+          subst (λ m. Marking was (k + 1) m fit') (twice a b ∙ ap₂ step e f ∙ sym n)
+          (subst (λ v. Marking was (k + 1) (set (mid_by a b) (lo - 1) (cond (b && not a) (entry_at (mid_by a b) lo % 4 + 4) (entry_at (mid_by a b) lo))) v) ((λ i. fit && not (e i && f i)) ∙ sym g) (marking_more refl refl))
 
   pub marking-end : {was marks : List ℕ} {k : ℕ} {fit : Bool} → Marking was k marks fit → k ≤ end → end ≤ k → Marking was end marks fit
   marking-end {was} {marks} {fit = fit} E a b = subst (λ l. Exteriored C rs l was marks fit) (between-end rows first a b) E

@@ -3,10 +3,11 @@ use Prim.Native.Nat.{ℕ, zero, suc, ◌+◌, ◌≤◌, ◌<◌}
 use native.Mathlib.Omega.{arith}
 use native.Mathlib.Numerals.{add-one}
 use mathlib.Core.Path.{◌≡◌, refl, sym, ap, ap₂, ◌∙◌}
-use mathlib.Core.Bool.{Bool, true, false}
+use mathlib.Core.Bool.{Bool, true, false, not, false≢true}
 use mathlib.Core.Logic.{⊎_elim}
 use mathlib.Core.List.{List, [], ◌∷◌, ◌++◌, append-nil, append_assoc}
-use Rattle.std.specs.Prelude.{Option, None, Some, MatchOption}
+use Rattle.std.specs.Prelude.{Option, None, Some, MatchOption, is_some}
+use Rattle.std.specs.Bool.{then_some}
 use Rattle.definitions.specs.Scan.{collect, to_list, only_if}
 use Rattle.definitions.specs.Context.{Context}
 use Rattle.definitions.specs.RampInteriors.{components, component_ports}
@@ -90,10 +91,17 @@ module _ (C : Context) (r : ℕ) where
         upto-b : picked (port C r) (b + 1) ≡ a ∷ b ∷ []
         upto-b = picked_one (port C r) b B.2 ∙ ap (λ l. l ++ (b ∷ [])) (picked-skip (port C r) b (a + 1) B.0 B.3 ∙ upto-a)
 
-        pub ports_two : NoPort C r (b + 1) count → both_ports a b ≡ two_ports all_found
+        ports_two : NoPort C r (b + 1) count → both_ports a b ≡ two_ports all_found
         ports_two N = sym (ap two_ports (all_is e ∙ picked-skip (port C r) count (b + 1) (omega (arith, B.1)) N ∙ upto-b))
 
-        pub ports_more : {d : ℕ} → PortFrom C r count (b + 1) d → None ≡ two_ports all_found
+        ports_more : {d : ℕ} → PortFrom C r count (b + 1) d → None ≡ two_ports all_found
         ports_more {d} D =
             let rest = picked-rest (port C r) count (d + 1) (omega (arith, D.1)) in
             sym (ap two_ports (all_is e ∙ rest.1 ∙ ap (λ l. l ++ rest.0) (picked_one (port C r) d D.2 ∙ ap (λ l. l ++ (d ∷ [])) (picked-skip (port C r) d (b + 1) D.0 D.3 ∙ upto-b))))
+
+        -- t says that there is no third
+        pub ports_all : (third : Option ℕ) (t : Bool) → is_some third ≡ not t → NextPort C r count (b + 1) third → then_some t (record { first = a; second = b }) ≡ two_ports all_found
+        ports_all None true e N = ports_two N
+        ports_all None false e N = absurd (false≢true e)
+        ports_all (Some d) true e D = absurd (false≢true (sym e))
+        ports_all (Some d) false e D = ports_more D

@@ -1,30 +1,33 @@
 -- All components, one after the other: what one of them does to the names leaves what the others are told by, as no two meet. Assumes nothing.
-use Prim.Native.Nat.{ℕ, ◌+◌, ◌≤◌, ◌<◌}
+use Prim.Native.Nat.{ℕ, zero, suc, ◌+◌, ◌≤◌, ◌<◌}
 use native.Mathlib.Omega.{arith}
 use mathlib.Core.Path.{◌≡◌, refl, sym, ap, ap₂, subst, ◌∙◌}
 use mathlib.Core.Bool.{Bool, true, false, not, ◌&&◌, ◌||◌, cond, true≢false}
 use mathlib.Core.Logic.{⊎_elim}
 use mathlib.Core.List.{List, [], ◌∷◌}
-use lib.ListN.{length, set}
+use lib.ListN.{length, set, take}
 use lib.Dec.{eqb}
 use borrow.Author.Tests.{eq-eqb, ne_eqb, not-true}
-use Rattle.std.specs.Prelude.{Option, None, MatchBool}
+use Rattle.std.specs.Prelude.{Option, None}
+use Rattle.std.specs.Bool.{then_some}
+use Rattle.std.specs.List.{list_any}
+use Rattle.std.proofs.lemmas.List.Folds.{list_any_more}
 use Rattle.definitions.specs.Scan.{any_below_lem, member}
 use Rattle.definitions.specs.Context.{Context}
 use Rattle.definitions.specs.RampInteriors.{components, component_ports, ports_fit}
 use Rattle.laws.specs.ListLaws.Tests.{both}
 use Rattle.laws.specs.ListLaws.Below.{below_at}
-use Rattle.laws.specs.ListLaws.Chains.{any_is}
 use Rattle.laws.specs.ListLaws.ScanSteps.{any_next, any-fails_at}
 use Rattle.laws.specs.RustContext.SoundContext.{Sound}
 use Rattle.laws.specs.RustInteriors.ComponentRegions.{inside}
 use Rattle.laws.specs.ListLaws.Beyond.{beyond_same, beyond-then}
 use Rattle.laws.specs.NumberLaws.Comparisons.{last_or}
 use Rattle.context.specs.declared.found_regions.FoundRegions.{FoundRegions}
-use Rattle.interior_proposals.specs.Owners.{one_owner, is_one, owned_by, name_of, owner_at, name_at, all_in_lem, edge, Owners}
+use Rattle.context.specs.declared.found_regions.FoundRegions.TheVariants as owner-is
+use Rattle.interior_proposals.specs.Owners.{nobody, one_owner, is_one, owned_by, name_of, owner_at, name_at, all_in_lem, edge, Owners}
 use Rattle.interior_proposals.specs.Candidates.{Told, candidate, both_ports}
 use Rattle.interior_proposals.specs.Leaves.{Inside}
-use Rattle.interior_proposals.specs.Proposals.{expanded_of, fitting_ports, proposed_ports, Facing, Leafed, Proposed, owned_before, is_first, found_ports, Progress, Owning, FoundAll}
+use Rattle.interior_proposals.specs.Proposals.{expanded_of, fitting_ports, proposed_ports, Facing, Leafed, Proposed, owned_before, is_first, FirstOf, found_ports, Progress, Owning, FoundAll}
 use Rattle.interior_proposals.specs.declared.ports.Ports.{Ports}
 use Rattle.interior_proposals.proofs.PortLaws.{same_ports}
 use Rattle.interior_proposals.proofs.Stored.{filled_more}
@@ -44,15 +47,29 @@ module _ (owners : List FoundRegions) (i : ℕ) where
   unfolding is_first
   first_one h = one_named (owner_at owners i) (both (is_one (owner_at owners i)) (not (owned_before owners i (name_at owners i))) h).0
 
-  -- by what a chain over those before says
-  pub owned_is : (r : ℕ) (t : Bool) → MatchBool t ((k : ℕ) × (0 ≤ k) × (k < i) × (owned_by r (owner_at owners k) ≡ true)) ((k : ℕ) → 0 ≤ k → k < i → owned_by r (owner_at owners k) ≡ false) → t ≡ owned_before owners i r
-  unfolding owned_before
-  owned_is r t = any_is (λ j. owned_by r (owner_at owners j)) i t
+  -- by whether one of the owners before is the component r
+  module _ (r : ℕ) {f : FoundRegions → Bool} (told : (o : FoundRegions) → f o ≡ owned_by r o) where
+    any_taken : (n : ℕ) → n ≤ length owners → list_any f (take n owners) ≡ any_below_lem n (λ j. owned_by r (owner_at owners j))
+    unfolding any_below_lem
+    any_taken zero l = refl
+    any_taken (suc n) l =
+        let e : n + 1 ≡ suc n = omega arith in
+        subst (λ m. list_any f (take m owners) ≡ any_below_lem m (λ j. owned_by r (owner_at owners j))) e
+        (list_any_more f owners n nobody (omega arith) ∙ ap₂ ◌||◌ (any_taken n (omega arith)) (told _) ∙ sym (any_next (λ j. owned_by r (owner_at owners j)) n))
+
+    pub owned_among : i ≤ length owners → list_any f (take i owners) ≡ owned_before owners i r
+    unfolding owned_before
+    owned_among = any_taken i
 
   -- by the owner
-  pub none_first : is_one (owner_at owners i) ≡ false → is_first owners i ≡ false
+  pub none_first : ((r : ℕ) → owner_at owners i ≡ one_owner r → ⊥) → is_first owners i ≡ false
   unfolding is_first
-  none_first e = ap (λ t. t && not (owned_before owners i (name_at owners i))) e
+  none_first h = ap (λ t. t && not (owned_before owners i (name_at owners i))) (none (owner_at owners i) h)
+    where
+      none : (o : FoundRegions) → ((r : ℕ) → o ≡ one_owner r → ⊥) → is_one o ≡ false
+      none owner-is.None h = refl
+      none (owner-is.One r) h = absurd (h r refl)
+      none owner-is.Several h = refl
 
   module _ {r : ℕ} (e : owner_at owners i ≡ one_owner r) where
     pub first_is : is_first owners i ≡ not (owned_before owners i r)
@@ -60,11 +77,9 @@ module _ (owners : List FoundRegions) (i : ℕ) where
     first_is = ap (λ o. is_one o && not (owned_before owners i (name_of o))) e
 
     -- where a chain says whether a boundary before has it
-    pub not-first : {t : Bool} → t ≡ owned_before owners i r → t ≡ true → is_first owners i ≡ false
-    not-first d h = first_is ∙ ap not (sym d ∙ h)
-
-    pub first_found : {t : Bool} → t ≡ owned_before owners i r → t ≡ false → is_first owners i ≡ true
-    first_found d h = first_is ∙ ap not (sym d ∙ h)
+    pub first_by : (t : Bool) → t ≡ owned_before owners i r → FirstOf owners i (then_some (not t) r)
+    first_by true d = first_is ∙ ap not (sym d)
+    first_by false d = (e, first_is ∙ ap not (sym d))
 
 module _ {C : Context} (owners : List FoundRegions) (O : Owners C owners) (i : ℕ) (l : i < C.count) (h : is_first owners i ≡ true) where
   abbrev owner : ℕ

@@ -9,6 +9,7 @@ use lib.ListN.{get_or}
 use lib.Dec.{eqb, leb}
 use borrow.Author.Tests.{eq-eqb, eqb-true, leb-true, not-true}
 use Rattle.std.specs.Prelude.{None}
+use Rattle.std.specs.Bool.{then_some}
 use Rattle.definitions.specs.Scan.{any, any_below_lem, count_below}
 use Rattle.definitions.specs.Context.{Context, no_ramp, full_cut}
 use Rattle.definitions.specs.MouthShapes.{regions_of}
@@ -180,7 +181,7 @@ module _ {C : Context} {boundaries tallies pairs starts names marks : List ℕ} 
               each = λ x l m. ⊎_elim (λ n. inl n) (λ n. inr (n.0, ⊎_elim (λ S. leafed x l m n.0 a ports-below.0 S (not-true (no_ramp C a) ramps.0)) (λ S. leafed x l m n.0 b ports-below.1 S (not-true (no_ramp C b) ramps.1)) n.1)) (B.each x l m);
             }
 
-        pub ports-valid : t ≡ true → Proposed C r names now marks nowMarks (both_ports a b)
+        ports-valid : t ≡ true → Proposed C r names now marks nowMarks (both_ports a b)
         ports-valid w =
             record {
               result = sym (valid_is ∙ ap (λ z. cond z (both_ports a b) None) w);
@@ -191,7 +192,7 @@ module _ {C : Context} {boundaries tallies pairs starts names marks : List ℕ} 
               cleared = B.cleared;
             }
 
-        pub ports-invalid : t ≡ false → Proposed C r names now marks nowMarks None
+        ports-invalid : t ≡ false → Proposed C r names now marks nowMarks None
         ports-invalid w =
             record {
               result = sym (valid_is ∙ ap (λ z. cond z (both_ports a b) None) w);
@@ -199,6 +200,10 @@ module _ {C : Context} {boundaries tallies pairs starts names marks : List ℕ} 
               spread = spread;
               cleared = B.cleared;
             }
+
+        pub ports-proposed : (v : Bool) → t ≡ v → Proposed C r names now marks nowMarks (then_some v (record { first = a; second = b }))
+        ports-proposed true w = ports-valid w
+        ports-proposed false w = ports-invalid w
 
 -- ---- what the calls ask for
 

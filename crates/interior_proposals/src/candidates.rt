@@ -37,7 +37,7 @@ fn spoils(context: PartitionContext, known: Components, i: usize, r: u32) -> boo
         Owned C i (owner_at known.entry.owners.now i) →
         result ≡ spoils_at C r i }
 {
-    let rows = context.starts[i]..context.starts[i + 1];
+    let rows = context.rows(i);
     match known.owners[i] {
         FoundRegions::None => false,
         FoundRegions::One(name) => (name == r) && any_anchored(known.marks, context.pairs, rows),
@@ -50,8 +50,9 @@ fn edge_count(owners: &[FoundRegions; 256], count: usize, r: u32) -> usize
     requires { count ≤ max_entries }
     ensures { result ≡ count_below count (λ i. owned_by r (owner_at owners.now i)) }
 {
-    (0..count)
-        .filter(|&i| owners[i] == FoundRegions::One(r))
+    owners[..count]
+        .iter()
+        .filter(|&&owner| owner == FoundRegions::One(r))
         .count()
 }
 

@@ -1,4 +1,5 @@
-// The components of regions that ordinary full cuts join, as classes of crate `parents` in a lent list, where region r is number r - 1; then the name of each region.
+// The components of regions that ordinary full cuts join, as classes of crate `parents` in a lent list, where region r is number r - 1; then the name of each
+// region.
 ghost use Rattle.std.specs.Prelude.{◌≡◌, List, [], ◌∷◌, ℕ, suc, ◌+◌, ◌-◌, ◌*◌, ◌%◌, ◌≤◌, ◌<◌, eqb, length, get_or, set, false};
 ghost use Rattle.definitions.specs.Limits.{max_side, numbers_per_pair, numbers_per_boundary, tallies_per_span};
 ghost use Rattle.definitions.specs.Context.{Context};
@@ -67,8 +68,7 @@ fn join_cut(parents: &mut [u32], context: PartitionContext, i: usize)
         Merged cs parents.old (links_of C i) parents.new }
 {
     if is_ordinary(context, i) {
-        let rows = context.starts[i]..context.starts[i + 1];
-        join_pairs(parents, context.pairs, rows);
+        join_pairs(parents, context.pairs, context.rows(i));
     }
 }
 
@@ -119,6 +119,7 @@ fn prepare(marks: &mut [u16], counts: &mut [u32], regions: usize)
         Prepared C marks.new counts.new }
     ensures beyond { Beyond regions marks.old marks.new × Beyond regions counts.old counts.new }
 {
+    // Kept: with the marks by `iter_mut` beside the counts by `zip`, std says nothing of what was written.
     for (k, &count) in counts[..regions].iter().enumerate() {
         marks[k] = flags(marks[k], count);
     }

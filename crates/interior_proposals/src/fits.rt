@@ -12,12 +12,10 @@ ghost use Rattle.interior_proposals.specs.Fits.{Listed, Aimed, elevation_fits, i
 ghost use Rattle.geometry.specs.Placed.{Placed};
 
 use crate::ports::Ports;
-use context::{PartitionContext, Region};
+use context::{MAX_APPROACH_RADIUS, PartitionContext, Region};
 use geometry::Point;
 use geometry::boundaries::{center_of, has_ramp, lower_at, ramp_at, same_kind, upper_at};
-use geometry::points::distance;
-
-const MAX_APPROACH_RADIUS: f64 = 512.0;
+use geometry::points::within_distance;
 
 const ELEVATIONS: u32 = 8;
 
@@ -91,10 +89,8 @@ fn corner_fits(first: Point, second: Point, corner: Point) -> bool
         result ≡ is_within (point_form first) (point_form second) (point_form corner) }
 {
     // Most corners are near the first, and a distance takes long.
-    if distance(corner, first) <= MAX_APPROACH_RADIUS {
-        return true;
-    }
-    distance(corner, second) <= MAX_APPROACH_RADIUS
+    within_distance(corner, first, MAX_APPROACH_RADIUS)
+        || within_distance(corner, second, MAX_APPROACH_RADIUS)
 }
 
 // Whether a region has the elevations of the ramp, and each corner near one of the ports.
@@ -104,9 +100,8 @@ pub fn region_fits(reach: Reach, region: Region) -> bool
     if !elevations_fit(region.elevations, reach.lower, reach.upper) {
         return false;
     }
-    let corners = region.corners();
-    corner_fits(reach.first, reach.second, corners[0])
-        & corner_fits(reach.first, reach.second, corners[1])
-        & corner_fits(reach.first, reach.second, corners[2])
-        & corner_fits(reach.first, reach.second, corners[3])
+    region
+        .corners()
+        .iter()
+        .all(|&corner| corner_fits(reach.first, reach.second, corner))
 }

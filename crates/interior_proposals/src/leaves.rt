@@ -30,21 +30,15 @@ fn is_leaf(marks: &[u16], x: u32) -> bool
     marks[x as usize - 1] % 4 == 2
 }
 
-fn with_exterior(mark: u16, on: bool) -> u16
-    ensures { result ≡ cond on (mark % 4 + 4) mark }
-{
-    if on { mark % 4 + 4 } else { mark }
-}
-
-// Marks region x as an exterior, if `on`.
-fn mark_exterior(marks: &mut [u16], x: u32, on: bool)
+// Marks region x as an exterior.
+fn mark_exterior(marks: &mut [u16], x: u32)
     requires { (1 ≤ x) × (x ≤ length marks.old) }
-    ensures marks { marks.new ≡ set marks.old (x - 1) (cond on (entry_at marks.old x % 4
-        + 4) (entry_at marks.old x)) }
+    ensures marks { marks.new ≡ set marks.old (x - 1) (entry_at marks.old x % 4
+        + 4) }
     ensures marks_length { length marks.new ≡ length marks.old }
 {
-    let mark = with_exterior(marks[x as usize - 1], on);
-    marks[x as usize - 1] = mark;
+    let mark = &mut marks[x as usize - 1];
+    *mark = *mark % 4 + 4;
 }
 
 fn clear_exterior(marks: &mut [u16], x: u32)
@@ -52,8 +46,7 @@ fn clear_exterior(marks: &mut [u16], x: u32)
     ensures marks { marks.new ≡ set marks.old (x - 1) (entry_at marks.old x % 4) }
     ensures marks_length { length marks.new ≡ length marks.old }
 {
-    let mark = marks[x as usize - 1] % 4;
-    marks[x as usize - 1] = mark;
+    marks[x as usize - 1] %= 4;
 }
 
 // Marks the other region of each row that has exactly one region named r. Whether no row has two.
@@ -74,12 +67,13 @@ fn mark_exteriors(
 {
     let mut fit = true;
     for k in rows.start..rows.end {
-        let pair = row_at(pairs, k);
-        let a = parent_of(names, pair.lo) == r;
-        let b = parent_of(names, pair.hi) == r;
-        mark_exterior(marks, pair.hi, a & !b);
-        mark_exterior(marks, pair.lo, b & !a);
-        fit = fit & !(a & b);
+        let Pair { lo, hi } = row_at(pairs, k);
+        match (parent_of(names, lo) == r, parent_of(names, hi) == r) {
+            (true, true) => fit = false,
+            (true, false) => mark_exterior(marks, hi),
+            (false, true) => mark_exterior(marks, lo),
+            (false, false) => {}
+        }
     }
     fit
 }
@@ -153,15 +147,14 @@ fn expand_rows(names: &mut [u32], marks: &[u16], pairs: &[u32], rows: Range<usiz
 {
     let mut fit = true;
     for k in rows.start..rows.end {
-        let ok = expand_row(names, marks, row_at(pairs, k), r);
-        fit = fit & ok;
+        fit &= expand_row(names, marks, row_at(pairs, k), r);
     }
     fit
 }
 
-// Kept: names and marks that are written are two parameters; in a struct each function would promise besides that its fields are the same two lists at exit.
-//
 // The leaves beyond a port, whose rows these are. Whether the port is valid: no row has two regions named r before, and each has exactly one after.
+// Kept: `names` and `marks` apart, for of the four walks below each writes just one of the two, as its parameters say. Of a struct of both each would promise
+// besides that the other list is as it was, and that the struct holds the same two lists at exit.
 pub fn expand_port(
     names: &mut [u32],
     marks: &mut [u16],

@@ -2,10 +2,10 @@
 
 #![tactic(auto)]
 
-pub mod candidates;
+mod candidates;
 pub mod components;
 pub mod fits;
-pub mod leaves;
+mod leaves;
 pub mod owners;
 pub mod ports;
 pub mod proposals;

@@ -13,8 +13,8 @@ use context::found_regions::FoundRegions;
 use context::pairs::row_at;
 use std::ops::Range;
 
-// What is known of components: the name that each region has, the marks of regions, and the owner of each boundary, the component in which all its pairs lie: none
-// where it is no ordinary full cut or has no pair.
+// What is known of components: the name that each region has, the marks of regions, and the owner of each boundary, the component in which all its pairs lie:
+// none where it is no ordinary full cut or has no pair.
 #[derive(Clone, Copy)]
 pub struct Components<'a> {
     pub names: &'a [u32],
@@ -57,8 +57,7 @@ fn owner_of(context: PartitionContext, names: &[u32], i: usize) -> FoundRegions
         Owned C i result }
 {
     if is_ordinary(context, i) {
-        let rows = context.starts[i]..context.starts[i + 1];
-        common_name(names, context.pairs, rows)
+        common_name(names, context.pairs, context.rows(i))
     } else {
         FoundRegions::None
     }

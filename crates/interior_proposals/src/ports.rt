@@ -29,12 +29,9 @@ fn is_port(context: PartitionContext, known: Components, i: usize, r: u32) -> bo
     match known.owners[i] {
         // It is an edge of r, or all its pairs lie in another component.
         FoundRegions::One(_) => false,
-        FoundRegions::None | FoundRegions::Several => touches(
-            known.names,
-            context.pairs,
-            context.starts[i]..context.starts[i + 1],
-            r,
-        ),
+        FoundRegions::None | FoundRegions::Several => {
+            touches(known.names, context.pairs, context.rows(i), r)
+        }
     }
 }
 
@@ -65,8 +62,6 @@ pub fn find_ports(context: PartitionContext, known: Components, r: u32) -> Optio
 {
     let first = next_port(context, known, r, 0)?;
     let second = next_port(context, known, r, first + 1)?;
-    match next_port(context, known, r, second + 1) {
-        None => Some(Ports { first, second }),
-        Some(_) => None,
-    }
+    let third = next_port(context, known, r, second + 1);
+    third.is_none().then_some(Ports { first, second })
 }

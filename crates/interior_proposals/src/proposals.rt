@@ -34,27 +34,13 @@ fn expand_ports(
         BothWalked C ports.first ports.second r rs names.old names.new marks.old marks.new result }
     ensures lengths { (length names.new ≡ length names.old) × (length marks.new ≡ length marks.old) }
 {
-    let Ports { first, second } = ports;
-    let starts = context.starts;
-    let before = expand_port(
-        names,
-        marks,
-        context.pairs,
-        starts[first]..starts[first + 1],
-        r,
-    );
-    let behind = expand_port(
-        names,
-        marks,
-        context.pairs,
-        starts[second]..starts[second + 1],
-        r,
-    );
-    before & behind
+    let first = expand_port(names, marks, context.pairs, context.rows(ports.first), r);
+    let second = expand_port(names, marks, context.pairs, context.rows(ports.second), r);
+    first & second
 }
 
 // The two ports of the component r, if it is a candidate with two ports that fit and are valid. The names then hold r for each of its regions and leaves.
-pub fn propose(
+fn propose(
     context: PartitionContext,
     names: &mut [u32],
     marks: &mut [u16],
@@ -81,11 +67,7 @@ pub fn propose(
     if !ports_fit(context, ports) {
         return None;
     }
-    if expand_ports(names, marks, context, ports, r) {
-        Some(ports)
-    } else {
-        None
-    }
+    expand_ports(names, marks, context, ports, r).then_some(ports)
 }
 
 // The component of which boundary i is the first edge.
@@ -93,16 +75,10 @@ fn first_of(owners: &[FoundRegions; 256], i: usize) -> Option<u32>
     requires { i < max_entries }
     ensures { FirstOf owners.now i result }
 {
-    match owners[i] {
-        FoundRegions::None | FoundRegions::Several => None,
-        FoundRegions::One(name) => {
-            if (0..i).any(|j| owners[j] == FoundRegions::One(name)) {
-                None
-            } else {
-                Some(name)
-            }
-        }
-    }
+    let FoundRegions::One(name) = owners[i] else {
+        return None;
+    };
+    (!owners[..i].contains(&owners[i])).then_some(name)
 }
 
 // What is found at boundary i, if it comes first.

@@ -22,7 +22,7 @@ use Rattle.laws.specs.RustContext.SoundContext.{Sound}
 use Rattle.context.specs.Shown.{ShownPairs}
 use Rattle.context.specs.declared.found_regions.FoundRegions.{FoundRegions}
 use Rattle.context.specs.declared.found_regions.FoundRegions.TheVariants as owner-is
-use Rattle.interior_proposals.specs.Owners.{one_owner, is_one, owned_by, name_of, owner_at, name_at, edge, Owners}
+use Rattle.interior_proposals.specs.Owners.{one_owner, owned_by, name_of, owner_at, name_at, edge, Owners}
 use Rattle.interior_proposals.specs.Leaves.{Inside}
 use Rattle.interior_proposals.specs.Proposals.{expanded_of, proposed_ports, owned_before, is_first, found_ports, records_fit}
 use Rattle.interior_proposals.specs.Candidates.{both_ports}
@@ -31,7 +31,7 @@ use Rattle.interior_proposals.proofs.CandidateLaws.{edge-owned, candidate_unspoi
 use Rattle.interior_proposals.proofs.NoConflict.{Fit}
 use Rattle.interior_proposals.proofs.Commons.{owned_one}
 use Rattle.interior_proposals.proofs.Removed.{fit_of, is_proposal, removed_none, removed-owned, proposal_is}
-use Rattle.interior_proposals.proofs.ProgressLaws.{first_region, first_unmet, none_first, first_found, proposed_two, found_first}
+use Rattle.interior_proposals.proofs.ProgressLaws.{first_region, first_unmet, first_is, none_first, proposed_two, found_first}
 use Rattle.interior_regions.specs.Places.{region_at, is_named, fits_at, ramp_at, interior_fits_lem}
 use Rattle.interior_regions.specs.Marks.{accepted, marked_before, EndOf}
 use Rattle.interior_regions.proofs.PlaceLaws.{place-readable, Placed, incident_placed, Spanned, expanded_incident}
@@ -160,7 +160,7 @@ module _ {C : Context} (S : Sound C) (owners : List FoundRegions) (O : Owners C 
   judged_none e = ap (records_fit C owner) e
 
   -- nothing is accepted where no component is met first
-  pub judged_other : is_one (owner_at owners i) ≡ false → accepted C owners i ≡ false
+  pub judged_other : ((r : ℕ) → owner_at owners i ≡ one_owner r → ⊥) → accepted C owners i ≡ false
   unfolding found_ports
   judged_other e = judged_none (ap (λ t. cond t (proposed_ports C owner) None) (none_first owners i e))
 
@@ -206,7 +206,7 @@ module _ {C : Context} (S : Sound C) (owners : List FoundRegions) (O : Owners C 
         (λ h.
         let f = below_first (λ k. owned_by r (owner_at owners k)) C.count (below_at C.count (λ k. owned_by r (owner_at owners k)) j l (ap (owned_by r) e ∙ eq-eqb r r refl)) in
         let d = owned_one r (owner_at owners f.place) f.found in
-        let g = first_found owners f.place d refl f.none in
+        let g = first_is owners f.place d ∙ ap not f.none in
         below_at C.count test f.place f.below (ap₂ ◌&&◌ (first_accepted S owners O f.place f.below g ∙ ap (λ x. records_fit C x (proposed_ports C x)) (ap name_of d) ∙ h) (ap₂ owned_by (ap name_of d) e ∙ eq-eqb r r refl)))
 
   pub marked-removed : marked_before C owners C.count j ≡ member j (removed C)

@@ -1,4 +1,3 @@
-mod Backwards
 mod Starting
 mod Stretches
 pub mod PlaceLaws

@@ -10,7 +10,7 @@ use Rattle.definitions.specs.Context.{Context}
 use Rattle.interior_proposals.specs.Proposals.{found_ports}
 use Rattle.interior_proposals.specs.declared.ports.Ports.{Ports}
 use Rattle.context.specs.declared.found_regions.FoundRegions.{FoundRegions}
-use Rattle.interior_proposals.specs.Owners.{one_owner, is_one, name_of, owner_at, name_at}
+use Rattle.interior_proposals.specs.Owners.{one_owner, name_of, owner_at, name_at}
 use Rattle.interior_regions.specs.Places.{interior_fits_lem}
 use Rattle.interior_regions.specs.Marks.{Interiors, accepted, Stretched, EndOf}
 use Rattle.interior_regions.proofs.PlaceLaws.{starts-rise, place-readable, Spanned}
@@ -18,7 +18,7 @@ use Rattle.interior_regions.proofs.JudgeLaws.{found-fit, found-spanned, judged_t
 
 module _ {C : Context} {boundaries tallies pairs starts names : List ℕ} {owners : List FoundRegions} {found : List (Option Ports)} {count : ℕ} (I : Interiors C boundaries tallies pairs starts names owners found count) (i : ℕ) (l : i < C.count) where
   -- where no component owns it
-  pub stretched_other : is_one (owner_at owners i) ≡ false → accepted C owners i ≡ false
+  pub stretched_other : ((r : ℕ) → owner_at owners i ≡ one_owner r → ⊥) → accepted C owners i ≡ false
   stretched_other = judged_other I.owning.given.sound owners I.owning.owned i l
 
   pub stretched_none : get_or found i None ≡ None → accepted C owners i ≡ false

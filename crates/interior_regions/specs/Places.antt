@@ -1,15 +1,12 @@
 -- The regions of rows, place by place: row j has the places 2 j and 2 j + 1. Definitions only; assumes nothing.
-use Rattle.std.specs.Prelude.{ℕ, ◌+◌, ◌*◌, ◌/◌, ◌%◌, ◌≤◌, ◌<◌, Bool, not, ◌&&◌, ◌||◌, List, length, get_or, eqb, leb}
+use Rattle.std.specs.Prelude.{ℕ, ◌+◌, ◌*◌, ◌/◌, ◌≤◌, ◌<◌, Bool, not, ◌&&◌, ◌||◌, List, length, eqb, leb}
 use Rattle.definitions.specs.Limits.{numbers_per_pair}
 use Rattle.definitions.specs.Scan.{any_below_lem, all_below}
 use Rattle.definitions.specs.RegionRecord.{has_ramp}
 use Rattle.definitions.specs.Context.{Context}
 use Rattle.definitions.specs.RampInteriors.{region_fits}
 use Rattle.interior_proposals.specs.Owners.{entry_at}
-
--- the region at place k
-abbrev pub region_at : List ℕ → ℕ → ℕ
-region_at rows k = get_or rows (numbers_per_pair * (k / 2) + 1 + k % 2) 0
+pub use Rattle.region_pairs.specs.Forms.{region_at}
 
 -- the row of place k stands in the list, and names a region up to n there
 pub record Readable (rows : List ℕ) (n k : ℕ) : Type 0 where

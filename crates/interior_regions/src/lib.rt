@@ -14,13 +14,11 @@ ghost use Rattle.interior_regions.specs.Places.{region_at, Readable, is_named};
 
 use context::PartitionContext;
 use context::found_regions::FoundRegions;
-use definitions::limits::NUMBERS_PER_PAIR;
 use interior_proposals::components::{name_components, parent_of};
 use interior_proposals::owners::find_owners;
 use interior_proposals::ports::Ports;
 use interior_proposals::proposals::propose_all;
-
-const REGIONS_PER_PAIR: usize = 2;
+use region_pairs::{REGIONS_PER_PAIR, region_at};
 
 // The component at a boundary, the places of rows among which its regions stand, and its ports.
 #[derive(Clone, Copy)]
@@ -31,15 +29,7 @@ pub struct Interior {
     pub ports: Ports,
 }
 
-// The region that stands at place k of the rows: each row has two places.
-fn region_at(pairs: &[u32], k: usize) -> u32
-    requires { (n : ℕ) × Readable pairs.now n k }
-    ensures { result ≡ region_at pairs.now k }
-{
-    pairs[NUMBERS_PER_PAIR * (k / REGIONS_PER_PAIR) + 1 + k % REGIONS_PER_PAIR]
-}
-
-// Where its record stands.
+// Where the record of the region at place k of the rows stands.
 pub fn record_place(pairs: &[u32], k: usize) -> usize
     requires { (n : ℕ) × Readable pairs.now n k }
     ensures { result ≡ region_at pairs.now k - 1 }
@@ -72,6 +62,7 @@ pub fn mark_edges(
     if !on {
         return;
     }
+    // Kept: with the marks by `iter_mut` beside the owners by `zip`, std says nothing of what was written.
     for (j, &owner) in owners[..count].iter().enumerate() {
         removed[j] |= owner == FoundRegions::One(name);
     }
@@ -102,21 +93,19 @@ pub fn interior_at(
         StandsAt C context.entry.pairs.now names owners.now i result }
 {
     let ports = found[i]?;
-    match owners[i] {
-        FoundRegions::None | FoundRegions::Several => None,
-        FoundRegions::One(name) => {
-            let low = i.min(ports.first.min(ports.second));
-            // Boundary i is an edge itself.
-            let last = last_edge(owners, context.count, name).unwrap_or(i);
-            let high = last.max(ports.first.max(ports.second)) + 1;
-            Some(Interior {
-                name,
-                begin: REGIONS_PER_PAIR * context.starts[low],
-                end: REGIONS_PER_PAIR * context.starts[high],
-                ports,
-            })
-        }
-    }
+    let FoundRegions::One(name) = owners[i] else {
+        return None;
+    };
+    let low = i.min(ports.first.min(ports.second));
+    // Boundary i is an edge itself.
+    let last = last_edge(owners, context.count, name).unwrap_or(i);
+    let high = last.max(ports.first.max(ports.second));
+    Some(Interior {
+        name,
+        begin: REGIONS_PER_PAIR * context.rows(low).start,
+        end: REGIONS_PER_PAIR * context.rows(high).end,
+        ports,
+    })
 }
 
 // Names the components in place of the counts, and finds owners and ports.

@@ -4,10 +4,6 @@ use lib.Ieee.{binary64, of_bits, of_int, div}
 use Rattle.definitions.specs.Geometry.{float}
 use Rattle.definitions.specs.RampMouths.{max_mouth_distance, max_overlay_width_ratio}
 
-pub two_is : of_bits binary64 0x4000000000000000 ≡ float 2
-unfolding float of_int of_bits
-two_is = refl
-
 pub ratio_is : of_bits binary64 0x3FF8000000000000 ≡ max_overlay_width_ratio
 unfolding max_overlay_width_ratio float of_int of_bits div
 ratio_is = refl

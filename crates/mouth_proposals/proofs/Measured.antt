@@ -7,12 +7,14 @@ use lib.ListN.{get_or}
 use lib.Ieee.{Float, binary64, le, mul, of_bits}
 use Rattle.definitions.specs.Limits.{numbers_per_boundary}
 use Rattle.definitions.specs.Grid.{Segment, segment_at}
+use Rattle.definitions.specs.Geometry.{float}
 use Rattle.definitions.specs.RampGeometry.{fmin, fmax, overlapping_ramp_representative}
 use Rattle.definitions.specs.Context.{Context, width}
 use Rattle.definitions.specs.RampMouths.{max_overlay_width_ratio, broad_mouth, nearby_representative, overlay_representative, overlay_only}
 use Rattle.laws.specs.FloatLaws.Pixels.{PixelSegment}
+use Rattle.geometry.specs.Widths.{is_twice_as_wide}
 use Rattle.context.specs.Shown.{ShownBoundaries}
-use Rattle.mouth_proposals.proofs.Literals.{two_is, ratio_is}
+use Rattle.mouth_proposals.proofs.Literals.{ratio_is}
 
 pub pixels_at : {s t : Segment} → s ≡ t → PixelSegment t → PixelSegment s
 pixels_at e h = subst⁻¹ PixelSegment e h
@@ -25,11 +27,11 @@ module _ {C : Context} {boundaries : List ℕ} (S : ShownBoundaries C boundaries
   unfolding width
   width-shown i l e = e ∙ sym (ap (λ b. of_bits binary64 b.width_bits) (S.at i l))
 
-module _ (C : Context) (m a : ℕ) {mouth ramp : Float} (mw : mouth ≡ width C m) (rw' : ramp ≡ width C a) where
-  pub broad_is : le (mul binary64 (of_bits binary64 0x4000000000000000) ramp) mouth ≡ broad_mouth C m a
-  unfolding broad_mouth
-  broad_is = λ i. le (mul binary64 (two_is i) (rw' i)) (mw i)
+  pub broad_is : (m a : ℕ) → m < C.count → a < C.count → is_twice_as_wide boundaries m a ≡ broad_mouth C m a
+  unfolding is_twice_as_wide broad_mouth
+  broad_is m a l k = λ i. le (mul binary64 (float 2) (width-shown a k refl i)) (width-shown m l refl i)
 
+module _ (C : Context) (m a : ℕ) {mouth ramp : Float} (mw : mouth ≡ width C m) (rw' : ramp ≡ width C a) where
   -- the widths that are compared
   module _ {larger smaller : Float} (hi : larger ≡ fmax mouth ramp) (lo : smaller ≡ fmin mouth ramp) where
     compared : le larger (mul binary64 (of_bits binary64 0x3FF8000000000000) smaller)

@@ -4,7 +4,7 @@ ghost use Rattle.definitions.specs.Limits.{tallies_per_span};
 ghost use Rattle.definitions.specs.Scan.{filter};
 ghost use Rattle.definitions.specs.Grid.{contains};
 ghost use Rattle.definitions.specs.MouthShapes.{mouth_shape};
-ghost use Rattle.definitions.specs.Context.{Context, full_pair, other_region};
+ghost use Rattle.definitions.specs.Context.{Context, full_pair};
 ghost use Rattle.context.specs.Shown.{ShownTallies, ShownPairs};
 ghost use Rattle.context.specs.Rows.{Stretch, pair_form};
 ghost use Rattle.mouth_proposals.specs.Rows.{inner_of, shape_form, one_of};
@@ -26,12 +26,6 @@ pub struct Sides {
 pub enum Approach {
     Single(Sides),
     Star(Sides),
-}
-
-fn other_region(r: u32, p: Pair) -> u32
-    ensures { result ≡ other_region r (pair_form p) }
-{
-    if p.lo == r { p.hi } else { p.lo }
 }
 
 // The one region of q that a row of mouth m names, but for the one outside; none where there are none or two.
@@ -62,7 +56,7 @@ fn approach_from(context: PartitionContext, m: usize, s: Shape, q: Pair) -> Opti
         Shape::Single(p) => {
             let r = shared_region(context, m, None, q)?;
             Some(Approach::Single(Sides {
-                outer: other_region(r, p),
+                outer: p.other(r),
                 approach: r,
             }))
         }

@@ -2,10 +2,10 @@
 
 #![tactic(auto)]
 
-pub mod approaches;
+mod approaches;
 pub mod candidates;
-pub mod ends;
-pub mod measures;
+mod ends;
+mod measures;
 pub mod mouths;
 pub mod regions;
-pub mod shapes;
+mod shapes;

@@ -1,19 +1,18 @@
 // What is measured of a mouth and a ramp, two boundaries of the list.
-ghost use Rattle.std.specs.Prelude.{◌≡◌, not, ◌||◌, ℕ, ◌*◌, ◌+◌, ◌<◌, get_or};
-ghost use Rattle.std.specs.Float.{binary64};
-ghost use Rattle.std.specs.Float.Ieee.{lt, of_bits};
-ghost use Rattle.definitions.specs.Limits.{numbers_per_boundary};
+ghost use Rattle.std.specs.Prelude.{◌≡◌, not, ◌||◌, ℕ, ◌<◌};
+ghost use Rattle.std.specs.Float.Ieee.{lt};
 ghost use Rattle.definitions.specs.Context.{Context};
-ghost use Rattle.definitions.specs.RampMouths.{max_mouth_distance, broad_mouth, nearby_representative, overlay_representative, overlay_only, separation_of};
+ghost use Rattle.definitions.specs.RampMouths.{max_mouth_distance, nearby_representative, overlay_representative, overlay_only, separation_of};
 ghost use Rattle.context.specs.Shown.{ShownBoundaries};
 ghost use Rattle.mouth_proposals.specs.Lent.{Placed};
 ghost use Rattle.mouth_proposals.specs.Candidates.{Measured};
 
-use geometry::boundaries::{segment_of, width_at};
+use geometry::boundaries::segment_of;
 use geometry::numbers::{fmax, fmin};
 use geometry::ramp_geometry::{
     is_nearby_parallel_representative, overlapping_ramp_representative, segment_distance,
 };
+use geometry::widths::{is_twice_as_wide, width_of};
 
 const MAX_MOUTH_DISTANCE: f64 = 224.0;
 
@@ -33,7 +32,7 @@ impl Measures {
         ensures { (C : Context) → ShownBoundaries C boundaries.now → m < C.count → a < C.count → Measured C m a result }
     {
         Self {
-            broad: broad_mouth(boundaries, m, a),
+            broad: is_twice_as_wide(boundaries, m, a),
             nearby: nearby_representative(boundaries, m, a),
             overlay: overlay_representative(boundaries, m, a),
         }
@@ -51,21 +50,6 @@ impl Measures {
     {
         self.overlay & !self.nearby & !self.broad
     }
-}
-
-fn width_of(boundaries: &[u64], i: usize) -> f64
-    requires { Placed boundaries.now i }
-    ensures { result ≡ of_bits binary64 (get_or boundaries.now (numbers_per_boundary * i + 4) 0) }
-{
-    f64::from_bits(width_at(boundaries, i))
-}
-
-// Whether the mouth is twice as wide as the ramp, or wider.
-fn broad_mouth(boundaries: &[u64], m: usize, a: usize) -> bool
-    requires { Placed boundaries.now m × Placed boundaries.now a }
-    ensures { (C : Context) → ShownBoundaries C boundaries.now → m < C.count → a < C.count → result ≡ broad_mouth C m a }
-{
-    width_of(boundaries, m) >= 2.0 * width_of(boundaries, a)
 }
 
 fn nearby_representative(boundaries: &[u64], m: usize, a: usize) -> bool

@@ -135,8 +135,7 @@ fn star_mouth(
     if measures.overlay_only() | (regions.incident_count(sides.approach) != 2) | blocked {
         return None;
     }
-    let rows = context.starts[m]..context.starts[m + 1];
-    inner_fit(context.pairs, regions, rows, sides).then_some(Mouth {
+    inner_fit(context.pairs, regions, context.rows(m), sides).then_some(Mouth {
         outer: Some(sides.outer),
         kind: MouthKind::of_approach(measures.broad),
     })
@@ -170,7 +169,7 @@ fn triangle_mouth(context: PartitionContext, regions: RegionMarks, m: usize) -> 
         m < C.count →
         candidate_form C m a result ≡ triangle_mouth C m a (distinct_regions (C.pairs m)) }
 {
-    let first = context.starts[m];
+    let first = context.rows(m).start;
     let p = row_at(context.pairs, first);
     let q = row_at(context.pairs, first + 1);
     let one = with_region(regions, FoundRegions::None, p.lo);

@@ -56,12 +56,11 @@ pub fn star(context: PartitionContext, m: usize) -> Option<Shape>
     ensures { shape_form (rows_of context.entry.pairs.now context.entry.starts.now m) result
         ≡ mouth_shape true (rows_of context.entry.pairs.now context.entry.starts.now m) }
 {
-    let first = context.starts[m];
-    let end = context.starts[m + 1];
-    match end - first {
+    let rows = context.rows(m);
+    match rows.end - rows.start {
         0 => None,
-        1 => Some(Shape::Single(row_at(context.pairs, first))),
-        _ => star_of(context.pairs, first..end),
+        1 => Some(Shape::Single(row_at(context.pairs, rows.start))),
+        _ => star_of(context.pairs, rows),
     }
 }
 
@@ -80,13 +79,13 @@ impl Edges {
             (length (rows_of context.entry.pairs.now context.entry.starts.now i) ≡ 2 → ⊥)
             (λ e. rows_of context.entry.pairs.now context.entry.starts.now i ≡ pair_form e.first ∷ pair_form e.second ∷ []) }
     {
-        let k = context.starts[i];
-        if context.starts[i + 1] - k != 2 {
+        let Range { start, end } = context.rows(i);
+        if end - start != 2 {
             return None;
         }
         Some(Self {
-            first: row_at(context.pairs, k),
-            second: row_at(context.pairs, k + 1),
+            first: row_at(context.pairs, start),
+            second: row_at(context.pairs, start + 1),
         })
     }
 

@@ -1,46 +1,48 @@
 -- Corners near a ramp or a mouth, by the distances that the code compares. Assumes nothing.
-use Prim.Native.Nat.{ℕ, zero, suc, ◌<◌}
-use native.Mathlib.Omega.{arith}
-use mathlib.Core.Path.{◌≡◌, refl, sym, ap, ap₂, ◌∙◌, subst}
-use mathlib.Core.Bool.{Bool, true, false, ◌&&◌, ◌||◌, and-false}
-use mathlib.Core.List.{List, [], ◌∷◌, map}
+use Prim.Native.Nat.{ℕ, ◌<◌}
+use mathlib.Core.Path.{◌≡◌, refl, sym, ap, ◌∙◌, subst}
+use mathlib.Core.Bool.{Bool, true, false, ◌&&◌, ◌||◌}
+use mathlib.Core.List.{List, map}
 use lib.ListN.{length}
 use Rattle.std.specs.Prelude.{MatchBool}
 use Rattle.std.specs.List.{AllWithin, HoldsAt}
-use lib.Ieee.{Float, binary64, le, of_bits, of_int}
+use lib.Ieee.{binary64, le, of_bits}
 use Rattle.definitions.specs.Scan.{all}
 use Rattle.definitions.specs.Grid.{Segment}
-use Rattle.definitions.specs.Geometry.{float, Point, center, distance}
+use Rattle.definitions.specs.Geometry.{Point, center, distance}
 use Rattle.definitions.specs.RegionRecord.{Region, corners}
 use Rattle.definitions.specs.Context.{Context}
 use Rattle.definitions.specs.RampMouths.{max_approach_radius}
-use Rattle.laws.specs.ListLaws.Lists.{All, more}
+use Rattle.definitions.specs.Junctions.{within_distance}
+use Rattle.laws.specs.ListLaws.Lists.{All}
 use Rattle.laws.specs.FloatLaws.Pixels.{PixelPoint, PixelSegment, PixelRegion, pixel-half, center-half, corners-pixel}
 use Rattle.laws.specs.FloatLaws.DistanceRange.{DistanceInRange, distance-in_range}
+use Rattle.context.proofs.Asked.{all-asked}
+use Rattle.context.proofs.Radius.{radius_is}
 use Rattle.geometry.specs.declared.Point as code
 use Rattle.geometry.specs.Forms.{point_form}
 use Rattle.mouth_regions.specs.Near.{corner_near, region_near}
 
--- the literal of the code is the limit of the definitions
-radius_is : of_bits binary64 0x4080000000000000 ≡ max_approach_radius
-unfolding max_approach_radius float of_int of_bits
-radius_is = refl
+-- the code's test of two points
+abbrev within : Point → Point → Bool
+within p q = within_distance p q (of_bits binary64 0x4080000000000000)
 
-module _ (ramp mouth c : Point) (broad : Bool) {d : Float} (e : d ≡ distance c ramp) where
-  abbrev limit : Float
-  limit = of_bits binary64 0x4080000000000000
+within_is : (p q : Point) → within p q ≡ le (distance p q) max_approach_radius
+unfolding within_distance
+within_is p q = ap (le (distance p q)) radius_is
 
-  pub near-ramp : le d limit ≡ true → true ≡ corner_near ramp mouth broad c
+module _ (ramp mouth c : Point) (broad : Bool) {u : Bool} (e : u ≡ within c ramp) where
+  pub near-ramp : u ≡ true → u ≡ corner_near ramp mouth broad c
   unfolding corner_near
-  near-ramp h = ap (λ b. b || broad && le (distance c mouth) max_approach_radius) (sym h ∙ (λ i. le (e i) (radius_is i)))
+  near-ramp h = h ∙ ap (λ b. b || broad && le (distance c mouth) max_approach_radius) (sym h ∙ e ∙ within_is c ramp)
 
-  pub near-mouth : le d limit ≡ false → {f : Float} → f ≡ distance c mouth → broad ≡ true → le f limit ≡ corner_near ramp mouth broad c
+  pub near-mouth : u ≡ false → broad ≡ true → {v : Bool} → v ≡ within c mouth → v ≡ corner_near ramp mouth broad c
   unfolding corner_near
-  near-mouth h g b = (λ i. le (g i) (radius_is i)) ∙ (λ i. (sym h ∙ (λ i. le (e i) (radius_is i))) i || sym b i && le (distance c mouth) max_approach_radius)
+  near-mouth h b f = f ∙ within_is c mouth ∙ (λ i. (sym h ∙ e ∙ within_is c ramp) i || sym b i && le (distance c mouth) max_approach_radius)
 
-  pub near_none : le d limit ≡ false → broad ≡ false → false ≡ corner_near ramp mouth broad c
+  pub near_none : u ≡ false → broad ≡ false → broad ≡ corner_near ramp mouth broad c
   unfolding corner_near
-  near_none h b = λ i. (sym h ∙ (λ i. le (e i) (radius_is i))) i || sym b i && le (distance c mouth) max_approach_radius
+  near_none h b = b ∙ (λ i. (sym h ∙ e ∙ within_is c ramp) i || sym b i && le (distance c mouth) max_approach_radius)
 
 -- a corner and a centre are in range
 corner-in_range : {c p : Point} {s : Segment} → PixelPoint c → PixelSegment s → p ≡ center s → DistanceInRange c p
@@ -66,22 +68,7 @@ module _ (broad : Bool) (p q : Point) where
     unfolding test
     answered {x = x} h a = sym (λ i. corner_near (e i) (f i) broad (point_form x)) ∙ a (corner-in_range h hs e) (corner-in_range h ht f)
 
-    every : (l : List code.Point) → All PixelPoint (map point_form l) → AllWithin (Answer true) l 0 (length l) → all test (map point_form l) ≡ true
-    unfolding all
-    every [] h a = refl
-    every (x ∷ l) (more h t) a = ap₂ ◌&&◌ (answered h (a 0 x (omega arith) (omega arith))) (every l t (λ k d z m. a (suc k) d (omega arith) (omega arith)))
-
-    some : (l : List code.Point) → All PixelPoint (map point_form l) → (k : ℕ) → k < length l → HoldsAt (Answer false) l k → all test (map point_form l) ≡ false
-    unfolding all
-    some [] h k m a = absurd (omega arith)
-    some (x ∷ l) (more h t) zero m a = ap (λ b. b && all test (map point_form l)) (answered h (a x))
-    some (x ∷ l) (more h t) (suc k) m a = ap (λ b. test (point_form x) && b) (some l t k (omega arith) a) ∙ and-false (test (point_form x))
-
-    asked : (l : List code.Point) → All PixelPoint (map point_form l) → (r : Bool) → MatchBool r (AllWithin (Answer true) l 0 (length l)) ((k : ℕ) × (k < length l) × HoldsAt (Answer false) l k) → r ≡ all test (map point_form l)
-    asked l h true a = sym (every l h a)
-    asked l h false (k, m, a) = sym (some l h k m a)
-
     pub corners-asked : (l : List code.Point) (R : Region) → map point_form l ≡ corners R → PixelRegion R → (r : Bool)
         → MatchBool r (AllWithin (Answer true) l 0 (length l)) ((k : ℕ) × (k < length l) × HoldsAt (Answer false) l k) → r ≡ all (corner_near (center s) (center t) broad) (corners R)
     unfolding test
-    corners-asked l R g h r a = asked l (subst (All PixelPoint) (sym g) (corners-pixel h)) r a ∙ ap (all test) g
+    corners-asked l R g h r a = all-asked point_form test Answer (λ v x. answered) l (subst (All PixelPoint) (sym g) (corners-pixel h)) r a ∙ ap (all test) g

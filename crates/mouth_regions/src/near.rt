@@ -10,21 +10,19 @@ ghost use Rattle.mouth_proposals.specs.Candidates.{is_broad};
 ghost use Rattle.mouth_proposals.specs.Lent.{Placed};
 ghost use Rattle.mouth_regions.specs.Near.{corner_near, region_near};
 
-use context::Region;
+use context::{MAX_APPROACH_RADIUS, Region};
 use geometry::Point;
 use geometry::boundaries::center_of;
-use geometry::points::distance;
+use geometry::points::within_distance;
 use mouth_proposals::candidates::MouthProposal;
-
-const MAX_APPROACH_RADIUS: f64 = 512.0;
 
 fn corner_near(ramp: Point, mouth: Point, broad: bool, corner: Point) -> bool
     ensures { DistanceInRange (point_form corner) (point_form ramp) →
         DistanceInRange (point_form corner) (point_form mouth) →
         result ≡ corner_near (point_form ramp) (point_form mouth) broad (point_form corner) }
 {
-    distance(corner, ramp) <= MAX_APPROACH_RADIUS
-        || (broad && distance(corner, mouth) <= MAX_APPROACH_RADIUS)
+    within_distance(corner, ramp, MAX_APPROACH_RADIUS)
+        || (broad && within_distance(corner, mouth, MAX_APPROACH_RADIUS))
 }
 
 // Whether each corner of the region is near the ramp's centre or, for a broad two-port approach, the mouth's.

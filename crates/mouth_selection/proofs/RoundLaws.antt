@@ -1,14 +1,15 @@
 -- Keys read off the lists are those of the definitions: the better of two entries, and the least of the bests of the ramps. Assumes nothing.
 use Rattle.mouth_proposals.specs.Listed.{proposal_in}
 use Rattle.mouth_proposals.specs.declared.candidates.Candidate.{Candidate}
-use Prim.Native.Nat.{ℕ, zero, suc, ◌+◌, ◌<◌}
+use Prim.Native.Nat.{ℕ, zero, suc, ◌+◌, ◌≤◌, ◌<◌}
 use native.Mathlib.Numerals.{add-one}
 use native.Mathlib.Omega.{arith}
 use mathlib.Core.Path.{◌≡◌, refl, ap, ap₂, sym, ◌∙◌, subst}
 use mathlib.Core.Bool.{Bool, true, false, cond}
 use Rattle.std.specs.Prelude.{Option, None, Some}
 use mathlib.Core.List.{List, ◌∷◌, ◌++◌}
-use lib.ListN.{get_or}
+use lib.ListN.{length, take, get_or}
+use lib.Seq.{get_or-take, length-take-le}
 use Rattle.definitions.specs.Sort.{list_lt}
 use Rattle.definitions.specs.Context.{Context, endpoints_key}
 use Rattle.definitions.specs.RampMouths.{MouthProposal, key, ranks_before}
@@ -36,6 +37,15 @@ least_none boundaries bests = refl
 pub least_more : (boundaries : List ℕ) (bests : List (Option Candidate)) (k : ℕ) → least_of boundaries bests (k + 1) ≡ better_of boundaries (least_of boundaries bests k) (get_or bests k None)
 unfolding least_of
 least_more boundaries bests k = rw add-one refl
+
+-- of the first n, the least of fewer is as before
+least_in-take : (boundaries : List ℕ) (bests : List (Option Candidate)) (n k : ℕ) → k ≤ n → least_of boundaries (take n bests) k ≡ least_of boundaries bests k
+unfolding least_of
+least_in-take boundaries bests n zero l = refl
+least_in-take boundaries bests n (suc k) l = ap₂ (better_of boundaries) (least_in-take boundaries bests n k (omega arith)) (get_or-take n bests k None (omega arith))
+
+pub least_taken : (boundaries : List ℕ) (bests : List (Option Candidate)) (n : ℕ) → n ≤ length bests → least_of boundaries (take n bests) (length (take n bests)) ≡ least_of boundaries bests n
+least_taken boundaries bests n l = ap (least_of boundaries (take n bests)) (length-take-le n bests l) ∙ least_in-take boundaries bests n n (omega arith)
 
 -- what holds of every best holds of the least
 pub least_keeps : (boundaries : List ℕ) (bests : List (Option Candidate)) {P : Candidate → Type 0} (n : ℕ) → ((a : ℕ) → a < n → OnO P (get_or bests a None)) → OnO P (least_of boundaries bests n)

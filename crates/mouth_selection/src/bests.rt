@@ -1,5 +1,5 @@
-// The choice among proposals by the best of each ramp. A best that conflicts with one taken still ranks before all that is left of its ramp: it is found anew only
-// where it is the least of the bests.
+// The choice among proposals by the best of each ramp. A best that conflicts with one taken still ranks before all that is left of its ramp: it is found anew
+// only where it is the least of the bests.
 ghost use Rattle.std.specs.Prelude.{◌≡◌, true, List, ℕ, ◌*◌, ◌≤◌, ◌<◌, length, get_or, None};
 ghost use Rattle.definitions.specs.Limits.{numbers_per_boundary};
 ghost use Rattle.definitions.specs.Context.{Context};
@@ -20,6 +20,7 @@ fn renew(ramp_ends: &[bool; 256], bests: &mut [Option<Candidate>; 256], count: u
     requires { count ≤ 256 }
     ensures { Renewed ramp_ends.now bests.old bests.new count }
 {
+    // Kept: with the bests by `iter_mut` beside the ends by `zip`, std says nothing of what was written.
     for (a, &is_used) in ramp_ends[..count].iter().enumerate() {
         if is_used {
             bests[a] = None;
@@ -28,16 +29,11 @@ fn renew(ramp_ends: &[bool; 256], bests: &mut [Option<Candidate>; 256], count: u
 }
 
 // The least of the bests, the first of level ones.
-fn least_best(
-    boundaries: &[u64],
-    bests: &[Option<Candidate>; 256],
-    count: usize,
-) -> Option<Candidate>
-    requires few { count ≤ 256 }
-    requires safe { (a : ℕ) → a < count → OnO (SafeKey boundaries.now) (get_or bests.now a None) }
-    ensures { result ≡ least_of boundaries.now bests.now count }
+fn least_best(boundaries: &[u64], bests: &[Option<Candidate>]) -> Option<Candidate>
+    requires safe { (a : ℕ) → a < length bests.now → OnO (SafeKey boundaries.now) (get_or bests.now a None) }
+    ensures { result ≡ least_of boundaries.now bests.now (length bests.now) }
 {
-    bests[..count]
+    bests
         .iter()
         .fold(None, |least, &best| better_of(boundaries, least, best))
 }
@@ -60,10 +56,11 @@ fn next_best(
     if taken.all_gone(context) {
         return None;
     }
-    least_best(context.boundaries, bests, context.count)
+    least_best(context.boundaries, &bests[..context.count])
 }
 
-// Takes proposals until the best of a ramp has to be found, and gives that ramp; none where no proposal is left. The bests of all ramps are known, now or from before.
+// Takes proposals until the best of a ramp has to be found, and gives that ramp; none where no proposal is left. The bests of all ramps are known, now or from
+// before.
 pub fn advance(
     context: PartitionContext,
     taken: &mut Taken,

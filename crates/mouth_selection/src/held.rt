@@ -1,5 +1,5 @@
-// Regions that taken proposals hold. Half of a region's mark says how: the number of its `Hold`, and 0 where none names it. The odd part says that the region is
-// anchored, and stays.
+// Regions that taken proposals hold. Half of a region's mark says how: the number of its `Hold`, and 0 where none names it. The odd part says that the region
+// is anchored, and stays.
 ghost use Rattle.std.specs.Prelude.{◌≡◌, [], ◌∷◌, ℕ, ◌+◌, ◌≤◌, ◌<◌, length, leb};
 ghost use Rattle.definitions.specs.MouthShapes.{regions_of};
 ghost use Rattle.context.specs.Shown.{pair_at, pairs_between};
@@ -16,21 +16,19 @@ use mouth_proposals::mouths::MouthKind;
 use std::ops::Range;
 
 // How a proposal holds a region: other mouths may lie outside it too, or nothing else may name it.
-// Kept: the marks are numbers in a list that C lends, which has no room for more, so that a hold is kept there by its number.
+// Kept: a region's mark is a number of the list that C lends, whose lowest bit says that the region is anchored, so that it has room for the number of a hold,
+// and not for an `Option<Hold>`.
 #[derive(Clone, Copy, PartialEq, Eq)]
 enum Hold {
-    Shared,
-    Alone,
+    Shared = 1,
+    Alone = 2,
 }
 
 impl Hold {
     fn number(self) -> u16
         ensures { result ≡ hold_number self }
     {
-        match self {
-            Hold::Shared => 1,
-            Hold::Alone => 2,
-        }
+        self as u16
     }
 
     // How a proposal of this kind holds the region outside. Its inner regions it holds alone.
@@ -65,10 +63,7 @@ fn outer_held(marks: &[u16], outer: Option<u32>, hold: Hold) -> bool
     requires { Numbered (length marks.now) outer }
     ensures { result ≡ outer_held marks.now outer (hold_number hold) }
 {
-    match outer {
-        None => false,
-        Some(r) => is_held(marks, r, hold),
-    }
+    outer.is_some_and(|r| is_held(marks, r, hold))
 }
 
 // Whether region r is held, and is not the one outside.
@@ -100,12 +95,9 @@ pub fn proposal_held(context: PartitionContext, marks: &[u16], proposal: MouthPr
         ..
     } = proposal;
     outer_held(marks, outer, Hold::outside(kind))
-        || (context.starts[mouth]..context.starts[mouth + 1]).any(|k| row_held(
-            context.pairs,
-            marks,
-            k,
-            outer,
-        ))
+        || context
+            .rows(mouth)
+            .any(|k| row_held(context.pairs, marks, k, outer))
 }
 
 fn hold_region(marks: &mut [u16], r: u32, hold: Hold)
@@ -168,6 +160,5 @@ pub fn hold_proposal(context: PartitionContext, marks: &mut [u16], proposal: Mou
         ..
     } = proposal;
     hold_outer(&mut *marks, outer, kind);
-    let rows = context.starts[mouth]..context.starts[mouth + 1];
-    hold_inner(context.pairs, &mut *marks, rows, outer);
+    hold_inner(context.pairs, &mut *marks, context.rows(mouth), outer);
 }

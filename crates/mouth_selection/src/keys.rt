@@ -43,10 +43,7 @@ pub fn is_better(boundaries: &[u64], entry: Candidate, best: Option<Candidate>) 
     requires { SafeKey boundaries.now entry × OnO (SafeKey boundaries.now) best }
     ensures { result ≡ is_better boundaries.now entry best }
 {
-    match best {
-        None => true,
-        Some(other) => ranks_before(boundaries, entry, other),
-    }
+    best.is_none_or(|other| ranks_before(boundaries, entry, other))
 }
 
 // The better of two, of level ones the earlier.
@@ -59,13 +56,7 @@ pub fn better_of(
     ensures { result ≡ better_of boundaries.now best later }
 {
     match later {
-        None => best,
-        Some(entry) => {
-            if is_better(boundaries, entry, best) {
-                later
-            } else {
-                best
-            }
-        }
+        Some(entry) if is_better(boundaries, entry, best) => later,
+        _ => best,
     }
 }

@@ -3,6 +3,6 @@
 #![tactic(auto)]
 
 pub mod bests;
-pub mod held;
+mod held;
 pub mod keys;
 pub mod taken;

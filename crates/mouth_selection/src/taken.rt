@@ -90,8 +90,8 @@ impl Taken<'_> {
         hold_proposal(context, &mut *self.marks, proposal);
     }
 
-    // Whether boundary m can be the mouth of no proposal any more: it has a ramp, or it is removed, or a region of its first row is held so that nothing else may name
-    // it.
+    // Whether boundary m can be the mouth of no proposal any more: it has a ramp, or it is removed, or a region of its first row is held so that nothing else
+    // may name it.
     fn is_gone(&self, context: PartitionContext, m: usize) -> bool
         requires boundaries_room { numbers_per_boundary * context.count ≤ length context.boundaries.now }
         requires rows { NamedRows context.pairs.now context.starts.now context.count (length self.now.marks.now) }
@@ -107,11 +107,11 @@ impl Taken<'_> {
         if has_ramp(context.boundaries, m) | self.removed[m] {
             return true;
         }
-        let first = context.starts[m];
-        if first == context.starts[m + 1] {
+        let rows = context.rows(m);
+        if rows.is_empty() {
             return false;
         }
-        let Pair { lo, hi } = row_at(context.pairs, first);
+        let Pair { lo, hi } = row_at(context.pairs, rows.start);
         region_full(&*self.marks, lo) | region_full(&*self.marks, hi)
     }
 

@@ -8,9 +8,7 @@ use borrow.Author.Rules.{rules}
 use Rattle.std.specs.Prelude.{Option, None, Some, unwrap_or}
 use Rattle.definitions.specs.Limits.{max_entries}
 use Rattle.interior_proposals.specs.declared.ports.Ports.{Ports}
-use mathlib.Core.Logic.{⊎_elim}
 use Rattle.context.specs.declared.found_regions.FoundRegions.{FoundRegions}
-use Rattle.interior_proposals.specs.Owners.{is_one}
 use Rattle.interior_regions.specs.Marks.{SomeInteriors, EndOf, LastEdge}
 use Rattle.interior_regions.proofs.PlaceLaws.{starts_fit}
 use Rattle.interior_regions.proofs.Stretches.{stretched_none, stretched_other, ports-below, stretched_two}
@@ -28,8 +26,8 @@ module _ {pairs starts : List ℕ} {owners : List FoundRegions} {found : List (O
     after : max p.first p.second < count
     after = let I = pre.1.1.1.1 in omega (arith, ports-below I i (omega (arith, I.owning.counted)) e)
 
-    high : {name n : ℕ} → EndOf owners count name n → max n (max p.first p.second + 1) ≤ count
-    high E = omega (arith, after, E.upto)
+    high : {name : ℕ} (n : ℕ) → EndOf owners count name (n + 1) → max n (max p.first p.second) < count
+    high n E = omega (arith, after, E.upto)
 
   -- boundary i stands for the last edge where there is none
   ended : {name : ℕ} (o : Option ℕ) → LastEdge owners count name o → EndOf owners count name (unwrap_or o i + 1)
@@ -40,38 +38,28 @@ pub returns-in_err-ports : goal.returns-in_err-ports
 returns-in_err-ports c =
     λ C b t n I. rw c.from_residual.ensures (stretched_none I _ (omega (arith, I.owning.counted, c.requires.i_within)) c.in_err-ports.was)
 
-pub overflow_add-high : goal.overflow_add-high
-overflow_add-high c =
-    let E = ended c.requires.interiors c.requires.i_within c.last_edge.result c.last_edge.ensures in
-    omega (arith, c.max.ensures, c.max-high.ensures, c.unwrap_or-last.ensures, high c.requires.interiors c.requires.i_within c.in_ok-ports.was E, few c.requires.interiors c.requires.i_within)
+pub returns-in_default : goal.returns-in_default
+returns-in_default c = λ C bs t ns I. stretched_other I _ (omega (arith, I.owning.counted, c.requires.i_within)) c.in_default.not-One
 
 pub overflow_mul-result : goal.overflow_mul-result
 overflow_mul-result c =
     let low : c.min-low.result ≤ c.args.context.count = omega (arith, c.min-low.ensures, c.requires.i_within) in
-    search (rules, short c.requires.interiors c.requires.i_within c.min-low.result low)
+    rw c.rows.ensures.0 (search (rules, short c.requires.interiors c.requires.i_within c.min-low.result low))
 
-pub offset_bounds-context-high : goal.offset_bounds-context-high
-offset_bounds-context-high c =
+pub rows-requires-2 : goal.rows-requires-2
+rows-requires-2 c =
     let E = ended c.requires.interiors c.requires.i_within c.last_edge.result c.last_edge.ensures in
-    omega (arith, c.max.ensures, c.max-high.ensures, c.unwrap_or-last.ensures, high c.requires.interiors c.requires.i_within c.in_ok-ports.was E, few c.requires.interiors c.requires.i_within)
+    omega (arith, c.max.ensures, c.max-high.ensures, c.unwrap_or-last.ensures, high c.requires.interiors c.requires.i_within c.in_ok-ports.was _ E, few c.requires.interiors c.requires.i_within)
 
-pub bounds-context-high : goal.bounds-context-high
-bounds-context-high c =
+pub overflow_mul-result-2 : goal.overflow_mul-result-2
+overflow_mul-result-2 c =
     let E = ended c.requires.interiors c.requires.i_within c.last_edge.result c.last_edge.ensures in
-    omega (arith, c.max.ensures, c.max-high.ensures, c.unwrap_or-last.ensures, high c.requires.interiors c.requires.i_within c.in_ok-ports.was E, few c.requires.interiors c.requires.i_within)
+    let upto : c.max-high.result + 1 ≤ c.args.context.count = omega (arith, c.max.ensures, c.max-high.ensures, c.unwrap_or-last.ensures, high c.requires.interiors c.requires.i_within c.in_ok-ports.was _ E) in
+    rw c.rows-2.ensures.1 (search (rules, short c.requires.interiors c.requires.i_within (c.max-high.result + 1) upto))
 
-pub overflow_mul-result-in-One : goal.overflow_mul-result-in-One
-overflow_mul-result-in-One c =
-    let E = ended c.requires.interiors c.requires.i_within c.last_edge.result c.last_edge.ensures in
-    let upto : c.max-high.result + 1 ≤ c.args.context.count = omega (arith, c.max.ensures, c.max-high.ensures, c.unwrap_or-last.ensures, high c.requires.interiors c.requires.i_within c.in_ok-ports.was E) in
-    search (rules, short c.requires.interiors c.requires.i_within (c.max-high.result + 1) upto)
-
-pub returns-in-None : goal.returns-in-None
-returns-in-None c = λ C bs t ns I. stretched_other I _ (omega (arith, I.owning.counted, c.requires.i_within)) (⊎_elim (λ e. ap is_one e) (λ e. ap is_one e) c.in-None.is)
-
-pub returns-in-One : goal.returns-in-One
-returns-in-One c =
+pub returns : goal.returns
+returns c =
     λ C bs t ns I.
     let E = ended c.requires.interiors c.requires.i_within c.last_edge.result c.last_edge.ensures in
-    stretched_two I c.args.i (omega (arith, I.owning.counted, c.requires.i_within)) c.in_ok-ports.was c.in-One.is E
-    (c.min-low.ensures ∙ ap (min c.args.i) c.min.ensures) (omega (arith, c.max-high.ensures, c.max.ensures, c.unwrap_or-last.ensures))
+    rw (c.rows.ensures.0, c.rows-2.ensures.1) (stretched_two I c.args.i (omega (arith, I.owning.counted, c.requires.i_within)) c.in_ok-ports.was c.in-One.is E
+    (c.min-low.ensures ∙ ap (min c.args.i) c.min.ensures) (omega (arith, c.max-high.ensures, c.max.ensures, c.unwrap_or-last.ensures)))

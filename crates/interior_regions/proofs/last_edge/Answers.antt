@@ -7,16 +7,16 @@ use Rattle.std.specs.declared.iter.Rev.{Rev}
 use Rattle.context.specs.declared.found_regions.FoundRegions.{FoundRegions}
 use Rattle.interior_proposals.specs.Owners.{owned_by, owner_at}
 use Rattle.interior_regions.specs.Marks.{EndOf, LastEdge}
-use Rattle.interior_regions.proofs.Backwards.{last_from_range}
+use Rattle.range_laws.specs.Backwards.{last_from_range}
 use Rattle.interior_regions.proofs.last_edge.Goals as goal
 
 module _ (owners : List FoundRegions) (count name : ℕ) (s : Rev (Range ℕ)) (e : rev_source s ≡ record { start = 0; end = count }) where
   ends : (r : Option ℕ)
       → MatchOption r ((k : ℕ) → (rev_source s).start ≤ k → k < (rev_source s).end → owned_by name (owner_at owners k) ≡ false)
-      (λ j. ((rev_source s).start ≤ j) × (j < (rev_source s).end) × ((k : ℕ) → j < k → k < (rev_source s).end → owned_by name (owner_at owners k) ≡ false))
+      (λ j. ((rev_source s).start ≤ j) × (j < (rev_source s).end) × (owned_by name (owner_at owners j) ≡ true) × ((k : ℕ) → j < k → k < (rev_source s).end → owned_by name (owner_at owners k) ≡ false))
       → LastEdge owners count name r
   ends None h = record { upto = omega arith; none = λ k a b. h k (omega (arith, ap (λ t. t.start) e)) (omega (arith, ap (λ t. t.end) e)) }
-  ends (Some j) (a, b, h) = (
+  ends (Some j) (a, b, t, h) = (
     omega (arith, b, ap (λ t. t.end) e),
     record { upto = omega (arith, b, ap (λ t. t.end) e); none = λ k c d. h k (omega arith) (omega (arith, ap (λ t. t.end) e)) },
   )

@@ -15,12 +15,12 @@ loop-k-preserved c =
     let u = c.loop-k.invariant.0 in (
       omega arith,
       omega (arith, c.loop-k-test.true),
-      c.expand_row-ok.ensures.names_length ∙ c.loop-k.invariant.2,
+      c.expand_row-fit.ensures.names_length ∙ c.loop-k.invariant.2,
       λ C i rs es v P I M.
           let H = c.loop-k.invariant.3 C i rs es v P I M in
           let s = up_to C i c.args.r rs es v c.args.pairs.now c.args.rows.start c.args.rows.end P k in
           held_more C i _ rs es v _ _ _ P k u c.loop-k-test.true (row_low c.args.pairs.now c.loop-k.k c.row_at.ensures) (row_high c.args.pairs.now c.loop-k.k c.row_at.ensures) H
-          (c.expand_row-ok.ensures.expanded C i s.regions es s.valid (row_of C i c.args.r rs es v _ _ _ P k u c.loop-k-test.true (row_low c.args.pairs.now c.loop-k.k c.row_at.ensures) (row_high c.args.pairs.now c.loop-k.k c.row_at.ensures)) H.inside M),
+          (c.expand_row-fit.ensures.expanded C i s.regions es s.valid (row_of C i c.args.r rs es v _ _ _ P k u c.loop-k-test.true (row_low c.args.pairs.now c.loop-k.k c.row_at.ensures) (row_high c.args.pairs.now c.loop-k.k c.row_at.ensures)) H.inside M),
     )
 
 pub returns : goal.returns

@@ -1,6 +1,6 @@
 -- `ports::find_ports` meets its contract, from the ports that were found one by one. Assumes nothing.
 use Rattle.std.proofs.Common.{◌∙◌}
-use Rattle.interior_proposals.proofs.PortLaws.{ports_none, ports_one, ports_two, ports_more}
+use Rattle.interior_proposals.proofs.PortLaws.{ports_none, ports_one, ports_all}
 use Rattle.interior_proposals.proofs.ports.find_ports.Goals as goal
 
 pub returns-in_err-first : goal.returns-in_err-first
@@ -10,10 +10,8 @@ pub returns-in_err-second : goal.returns-in_err-second
 returns-in_err-second c =
     λ C M e O h. c.from_residual-in_err-second.ensures ∙ ports_one C _ e (c.in_ok-first.ensures.next_port C M e O h) (c.in_err-second.ensures.next_port C M e O h)
 
-pub returns-in-None : goal.returns-in-None
-returns-in-None c =
-    λ C M e O h. ports_two C _ e (c.in_ok-first.ensures.next_port C M e O h) (c.in_ok-second.ensures.next_port C M e O h) (c.in-None.ensures.next_port C M e O h)
-
-pub returns-in-Some : goal.returns-in-Some
-returns-in-Some c =
-    λ C M e O h. ports_more C _ e (c.in_ok-first.ensures.next_port C M e O h) (c.in_ok-second.ensures.next_port C M e O h) (c.in-Some.ensures.next_port C M e O h)
+pub returns : goal.returns
+returns c =
+    λ C M e O h.
+    c.then_some.ensures
+    ∙ ports_all C _ e (c.in_ok-first.ensures.next_port C M e O h) (c.in_ok-second.ensures.next_port C M e O h) c.next_port-third.result c.is_none.result c.is_none.ensures (c.next_port-third.ensures.next_port C M e O h)

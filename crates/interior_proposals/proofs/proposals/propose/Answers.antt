@@ -1,6 +1,6 @@
 -- `proposals::propose` meets its contract, from what its calls ensure. Assumes nothing.
 use Rattle.std.proofs.Common.{refl, sym}
-use Rattle.interior_proposals.proofs.ProposalLaws.{no_candidate, no_ports, component-inside, ports-below, unfit, ports-valid, ports-invalid, facing-listed, facing-reachable}
+use Rattle.interior_proposals.proofs.ProposalLaws.{no_candidate, no_ports, component-inside, ports-below, unfit, ports-proposed, facing-listed, facing-reachable}
 use Rattle.interior_proposals.proofs.proposals.propose.Goals as goal
 
 pub returns-then-not-is_candidate : goal.returns-then-not-is_candidate
@@ -41,22 +41,12 @@ expand_ports-requires c =
     let l = ports-below F h (c.in_ok-ports.ensures c.requires.0 F.mapped F.counted F.owned h) in
     record { first_reachable = facing-reachable F _ l.0; second_reachable = facing-reachable F _ l.1 }
 
-pub returns-then-expand_ports : goal.returns-then-expand_ports
-returns-then-expand_ports c = record {
+pub returns : goal.returns
+returns c = record {
   proposed = λ C F.
       let h = sym (c.if-not-is_candidate.ensures C F.mapped F.counted F.owned) in
       let e = c.in_ok-ports.ensures C F.mapped F.counted F.owned h in
       let l = ports-below F h e in
-      ports-valid F h e (c.if-not-ports_fit.ensures C F.given.bounds F.given.tallied l.0 l.1) (c.expand_ports.ensures.expanded C _ F.given.paired l.0 l.1 (component-inside F h) F.mapped.marked) c.if-expand_ports.true;
-  lengths = c.expand_ports.ensures.lengths;
-}
-
-pub returns-else-expand_ports : goal.returns-else-expand_ports
-returns-else-expand_ports c = record {
-  proposed = λ C F.
-      let h = sym (c.if-not-is_candidate.ensures C F.mapped F.counted F.owned) in
-      let e = c.in_ok-ports.ensures C F.mapped F.counted F.owned h in
-      let l = ports-below F h e in
-      ports-invalid F h e (c.if-not-ports_fit.ensures C F.given.bounds F.given.tallied l.0 l.1) (c.expand_ports.ensures.expanded C _ F.given.paired l.0 l.1 (component-inside F h) F.mapped.marked) c.if-expand_ports.false;
+      rw c.then_some.ensures (ports-proposed F h e (c.if-not-ports_fit.ensures C F.given.bounds F.given.tallied l.0 l.1) (c.expand_ports.ensures.expanded C _ F.given.paired l.0 l.1 (component-inside F h) F.mapped.marked) _ refl);
   lengths = c.expand_ports.ensures.lengths;
 }

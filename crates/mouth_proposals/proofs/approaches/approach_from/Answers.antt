@@ -15,7 +15,7 @@ pub returns-in_ok-r-in-Single : goal.returns-in_ok-r-in-Single
 returns-in_ok-r-in-Single c =
     let s = c.args in
     λ C P l h e.
-    ap (λ x. Some (approach.Single (record { outer = x; approach = c.in_ok-r-in-Single.r }))) c.other_region.ensures
+    ap (λ x. Some (approach.Single (record { outer = x; approach = c.in_ok-r-in-Single.r }))) c.other.ensures
     ∙ from_single (C.pairs s.m) (pair_form s.q) s.s e (P.named s.m l) c.in-Single.is (sym c.in_ok-r-in-Single.was ∙ c.shared_region.ensures C P l h)
 
 pub returns-in_err-r-in-Star : goal.returns-in_err-r-in-Star

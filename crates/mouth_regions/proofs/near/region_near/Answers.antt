@@ -10,16 +10,6 @@ use Rattle.mouth_regions.specs.Near.{corner_near, region_near}
 use Rattle.mouth_regions.proofs.Nearness.{near_is, Answer, corners-asked}
 use Rattle.mouth_regions.proofs.near.region_near.Goals as goal
 
-pub center_of-ramp-requires : goal.center_of-ramp-requires
-center_of-ramp-requires c =
-    let ramp = c.requires.1 in
-    record { whole = ramp.whole; pixels = ramp.pixels }
-
-pub center_of-mouth-requires : goal.center_of-mouth-requires
-center_of-mouth-requires c =
-    let mouth = c.requires.0 in
-    record { whole = mouth.whole; pixels = mouth.pixels }
-
 pub returns : goal.returns
 returns c =
     let R = record_of c.args.region in

@@ -2,11 +2,10 @@
 use native.Mathlib.Omega.{arith}
 use mathlib.Core.Path.{◌≡◌, sym, ap, ap₂, ◌∙◌, subst}
 use mathlib.Core.List.{List}
-use Prim.Native.Nat.{ℕ, ◌≤◌, ◌<◌}
+use Prim.Native.Nat.{ℕ, ◌<◌}
 use Rattle.std.proofs.Common.{rules, tests}
 use Rattle.std.specs.Prelude.{Option, None}
-use lib.ListN.{length, take, get_or}
-use lib.Seq.{get_or-take, length-take-le}
+use lib.ListN.{length, get_or}
 use Rattle.std.proofs.lemmas.List.{get_or_default}
 use Rattle.std.proofs.lemmas.Iterator.{YieldsList-from_slice}
 use Rattle.laws.specs.ListLaws.Options.{OnO}
@@ -16,40 +15,32 @@ use Rattle.mouth_selection.proofs.Folds.{callable_in_fold, kept_by_fold}
 use Rattle.mouth_selection.proofs.RoundLaws.{least_none, least_more, least_keeps}
 use Rattle.mouth_selection.proofs.bests.least_best.Goals as goal
 
--- the best at place k of the first n
-module _ (bests : List (Option Candidate)) (n k : ℕ) {best : Option Candidate} (few : n ≤ length bests) (l : k < length (take n bests)) (e : best ≡ get_or (take n bests) k best) where
-  below : k < n
-  below = omega (arith, l, length-take-le n bests few)
-
-  item : best ≡ get_or bests k None
-  item = e ∙ get_or-take n bests k best below ∙ get_or_default bests k best None (omega (arith, below, few))
+-- the best at place k
+item : (bests : List (Option Candidate)) {k : ℕ} {best : Option Candidate} → k < length bests → best ≡ get_or bests k best → best ≡ get_or bests k None
+item bests {k} {best} l e = e ∙ get_or_default bests k best None l
 
 pub fold-requires-clause-callable : goal.fold-requires-clause-callable
 fold-requires-clause-callable c =
     let s = c.args in
     let bests = s.bests.now in
-    let few : s.count ≤ length bests = omega (arith, c.requires.few) in
     let least : ℕ → Option Candidate → Type 0 = λ k b. b ≡ least_of s.boundaries.now bests k in
-    callable_in_fold (YieldsList-from_slice (take s.count bests) cc) _ _ least None
+    callable_in_fold (YieldsList-from_slice bests cc) _ _ least None
     (λ b x k q r at i w.
-    let h = ap₂ (better_of s.boundaries.now) i (item bests s.count k few at.0 at.1) ∙ sym (least_more s.boundaries.now bests k) in
+    let h = ap₂ (better_of s.boundaries.now) i (item bests at.0 at.1) ∙ sym (least_more s.boundaries.now bests k) in
     search (rules, tests, h))
     (least_none s.boundaries.now bests)
     (λ b x k at i.
-    let below = below bests s.count k few at.0 at.1 in
-    let safe : OnO (SafeKey s.boundaries.now) b = subst (OnO (SafeKey s.boundaries.now)) (sym i) (least_keeps s.boundaries.now bests k (λ a m. c.requires.safe a (omega (arith, m, below)))) in
-    let own : OnO (SafeKey s.boundaries.now) x.now = subst (OnO (SafeKey s.boundaries.now)) (sym (item bests s.count k few at.0 at.1)) (c.requires.safe k below) in
+    let safe : OnO (SafeKey s.boundaries.now) b = subst (OnO (SafeKey s.boundaries.now)) (sym i) (least_keeps s.boundaries.now bests k (λ a m. c.requires.safe a (omega (arith, m, at.0)))) in
+    let own : OnO (SafeKey s.boundaries.now) x.now = subst (OnO (SafeKey s.boundaries.now)) (sym (item bests at.0 at.1)) (c.requires.safe k at.0) in
     search (rules, tests))
 
 pub returns : goal.returns
 returns c =
     let s = c.args in
     let bests = s.bests.now in
-    let few : s.count ≤ length bests = omega (arith, c.requires.few) in
     let least : ℕ → Option Candidate → Type 0 = λ k b. b ≡ least_of s.boundaries.now bests k in
-    kept_by_fold (YieldsList-from_slice (take s.count bests) cc) _ _ least None
+    kept_by_fold (YieldsList-from_slice bests cc) _ _ least None
     (λ b x k q r at i w.
-    let h = ap₂ (better_of s.boundaries.now) i (item bests s.count k few at.0 at.1) ∙ sym (least_more s.boundaries.now bests k) in
+    let h = ap₂ (better_of s.boundaries.now) i (item bests at.0 at.1) ∙ sym (least_more s.boundaries.now bests k) in
     search (rules, tests, h))
     (least_none s.boundaries.now bests) _ c.fold.ensures.ran
-    ∙ ap (least_of s.boundaries.now bests) (length-take-le s.count bests few)

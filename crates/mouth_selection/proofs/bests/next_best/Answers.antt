@@ -1,12 +1,19 @@
 -- `bests::next_best` meets its contract: nothing is left where no boundary can be a mouth, else the least of the bests is next. Assumes nothing.
-use mathlib.Core.Path.{sym, subst}
-use Rattle.laws.specs.ListLaws.Options.{absent}
+use Prim.Native.Nat.{◌≤◌, ◌<◌}
+use native.Mathlib.Omega.{arith}
+use mathlib.Core.Path.{sym, subst, ◌∙◌}
+use lib.ListN.{length}
+use lib.Seq.{get_or-take, length-take-le}
+use borrow.Author.Rules.{rules}
+use Rattle.std.specs.Prelude.{None}
+use Rattle.laws.specs.ListLaws.Options.{OnO, absent}
 use Rattle.mouth_selection.specs.Selecting.{NextBest}
-use Rattle.mouth_selection.proofs.RoundLaws.{next_is}
+use Rattle.mouth_selection.specs.Keys.{SafeKey}
+use Rattle.mouth_selection.proofs.RoundLaws.{least_taken, next_is}
 use Rattle.mouth_selection.proofs.bests.next_best.Goals as goal
 
 pub returns-then-all_gone : goal.returns-then-all_gone
 returns-then-all_gone c = λ C T L S B. record { listed = absent; least = c.all_gone.ensures C T L S c.if-all_gone.true }
 
 pub returns : goal.returns
-returns c = λ C T L S B. subst (NextBest C T c.args.bests.now c.args.context.count) (sym c.least_best.ensures) (next_is L.bounds L.counted B)
+returns c = λ C T L S B. subst (NextBest C T c.args.bests.now c.args.context.count) (sym (c.least_best.ensures ∙ least_taken c.args.context.boundaries.now c.args.bests.now c.args.context.count (search rules))) (next_is L.bounds L.counted B)

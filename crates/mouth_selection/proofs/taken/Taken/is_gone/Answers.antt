@@ -4,10 +4,11 @@ use mathlib.Core.Path.{sym, ap, ◌∙◌}
 use mathlib.Core.Logic.{⊎_elim}
 use mathlib.Core.Bool.{false, ◌||◌}
 use lib.ListN.{get_or}
-use lib.Arith.{lt_of_le-ne}
 use lib.Dec.{eqb}
-use borrow.Author.Tests.{not-true}
+use borrow.Author.Rules.{rules}
+use borrow.Author.Tests.{not-true, tests}
 use Rattle.laws.specs.ListLaws.Tests.{or_split}
+use Rattle.context.specs.Shown.{pair_at}
 use Rattle.mouth_selection.proofs.GoneMouths.{gone-ramp, gone-removed, gone_held}
 use Rattle.mouth_selection.proofs.taken.Taken.is_gone.Goals as goal
 
@@ -21,5 +22,5 @@ returns-then-has_ramp-self c =
 pub returns : goal.returns
 returns c =
     let s = c.args in
-    let some_row : get_or s.context.starts.now s.m 0 < get_or s.context.starts.now (s.m + 1) 0 = lt_of_le-ne (c.requires.rows.stretch s.m c.requires.m_within).rising c.if-first-context.false in
-    λ C T B P S hm e. gone_held C T P hm S some_row c.row_at-lo.ensures (sym (λ i. c.region_full.ensures i || c.region_full-2.ensures i) ∙ e)
+    let some_row : get_or s.context.starts.now s.m 0 < get_or s.context.starts.now (s.m + 1) 0 = search (rules, tests) in
+    λ C T B P S hm e. gone_held C T P hm S some_row (c.row_at-lo.ensures ∙ ap (pair_at s.context.pairs.now) c.rows-rows.ensures.0) (sym (λ i. c.region_full.ensures i || c.region_full-2.ensures i) ∙ e)
