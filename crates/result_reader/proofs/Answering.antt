@@ -1,12 +1,12 @@
 -- From what was judged to what is answered: the three ways in which a reading ends. And when lists have room. Assumes nothing.
-use Prim.Native.Nat.{ℕ, ◌*◌, ◌/◌, ◌≤◌}
+use Prim.Native.Nat.{ℕ, ◌*◌, ◌/◌}
 use native.Mathlib.Omega.{arith}
 use mathlib.Core.Path.{◌≡◌, refl, ap, ◌∙◌}
-use mathlib.Core.Bool.{Bool, true, false, ◌&&◌, cond}
+use mathlib.Core.Bool.{true, false, ◌&&◌, cond}
 use mathlib.Core.List.{List}
 use lib.ListN.{length}
 use lib.Dec.{leb}
-use borrow.Author.Tests.{leb-true, leb-false, le-leb}
+use borrow.Author.Tests.{leb-true}
 use Rattle.definitions.specs.Limits.{tallies_per_span, numbers_per_pair, numbers_per_row}
 use Rattle.definitions.specs.Lists.{overwrite}
 use Rattle.definitions.specs.Refusals.{or_else}
@@ -44,28 +44,6 @@ room-known {plan} {labels} {tallies} {pairs} {rows} h =
       for_pairs = leb-true (plan.pairs.count * numbers_per_pair) pairs ab.1;
       for_rows = leb-true (plan.rows.count * numbers_per_row) rows abc.1;
     }
-
-same_test : (a b c d : ℕ) → (a ≤ b → c ≤ d) → (c ≤ d → a ≤ b) → leb a b ≡ leb c d
-same_test a b c d f g = go (leb c d) refl
-  where
-    go : (t : Bool) → leb c d ≡ t → leb a b ≡ t
-    go true e = le-leb a b (g (leb-true c d e))
-    go false e = other (leb a b) refl
-      where
-        other : (t : Bool) → leb a b ≡ t → leb a b ≡ false
-        other true q = absurd (omega (arith, leb-false c d e, f (leb-true a b q)))
-        other false q = q
-
--- a length divided, in the place of a count multiplied
-pub divided : (plan : Plan) (labels tallies pairs rows : ℕ)
-    → room_in plan labels tallies pairs rows
-    ≡ (leb plan.labels.count labels && leb plan.tallies.count (tallies / 2) && leb plan.pairs.count (pairs / 3) && leb plan.rows.count (rows / 5))
-divided plan labels tallies pairs rows =
-    let a = same_test (plan.labels.count * 1) labels plan.labels.count labels (λ h. omega arith) (λ h. omega arith) in
-    let b = same_test (plan.tallies.count * tallies_per_span) tallies plan.tallies.count (tallies / 2) (λ h. omega arith) (λ h. omega arith) in
-    let c = same_test (plan.pairs.count * numbers_per_pair) pairs plan.pairs.count (pairs / 3) (λ h. omega arith) (λ h. omega arith) in
-    let d = same_test (plan.rows.count * numbers_per_row) rows plan.rows.count (rows / 5) (λ h. omega arith) (λ h. omega arith) in
-    λ i. a i && b i && c i && d i
 
 -- ---- a result that was found
 

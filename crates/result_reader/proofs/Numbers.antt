@@ -5,7 +5,7 @@ use native.Mathlib.Omega.{arith}
 use mathlib.Core.Path.{◌≡◌, refl, sym, ap, ◌∙◌}
 use mathlib.Core.List.{List, [], ◌∷◌, ◌++◌}
 use lib.ListN.{length, take, drop, set, length-set}
-use lib.Seq.{take-suc-set, take_all}
+use lib.Seq.{take-suc-set}
 use Rattle.definitions.specs.SheetNumber.{found, failed, number}
 use Rattle.definitions.specs.Sheet.{give, and_then, times}
 use Rattle.laws.specs.SheetReading.SheetLaws.{keeps-number, keeps-times, ends-inside, times-failed, then_found, then-failed}
@@ -84,11 +84,6 @@ module _ {n at : ℕ} {bytes values : List ℕ} {next i : ℕ} (R : Reading n at
       let rest : i + (1 + (n - (i + 1))) ≡ n = omega arith in
       sym (ap (λ k. times k number at (drop at bytes)) rest)
       ∙ both-fails at (drop at bytes) i (1 + (n - (i + 1))) R.read (first_fails next (drop next bytes) (n - (i + 1)) (as_number next (drop next bytes) e))
-
-pub reading_ends : {n at : ℕ} {bytes values : List ℕ} {next i : ℕ} → Reading n at bytes values next i → n ≤ i → times n number at (drop at bytes) ≡ found values next (drop next bytes)
-reading_ends {n} {at} {bytes} {values} {next} {i} R h =
-    let all : i ≡ n = omega (arith, R.few) in
-    sym (ap (λ k. times k number at (drop at bytes)) all) ∙ R.read ∙ ap (λ l. found l next (drop next bytes)) (take_all i values (omega (arith, R.long)))
 
 -- ---- as many twice
 

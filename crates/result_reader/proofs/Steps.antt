@@ -52,14 +52,8 @@ module _ (key : List ℕ → List ℕ) where
   ascent_next s t numbers k place e f es = ap (λ u. ascent_from key u es) (e ∙ ap (λ l. ascent_of s l place) f) ∙ ascent_step s numbers place es
 
 module _ {state : Result (Option (List ℕ)) ℕ} (k : List ℕ) (place : ℕ) where
-  pub climbed_first : state ≡ Ok None → Ok (Some k) ≡ ascent_of state k place
-  climbed_first e = sym (ap (λ s. ascent_of s k place) e)
-
   pub climbed_on : {before : List ℕ} → state ≡ Ok (Some before) → list_lt before k ≡ true → Ok (Some k) ≡ ascent_of state k place
   climbed_on e f = sym (ap (λ s. ascent_of s k place) e ∙ ap (λ u. cond u (Ok (Some k)) (Err place)) f)
 
   pub climbed_not : {before : List ℕ} → state ≡ Ok (Some before) → list_lt before k ≡ false → Err place ≡ ascent_of state k place
   climbed_not e f = sym (ap (λ s. ascent_of s k place) e ∙ ap (λ u. cond u (Ok (Some k)) (Err place)) f)
-
-  pub climbed_broken : {first : ℕ} → state ≡ Err first → Err first ≡ ascent_of state k place
-  climbed_broken e = sym (ap (λ s. ascent_of s k place) e)

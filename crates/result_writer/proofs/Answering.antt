@@ -83,6 +83,3 @@ module _ (r : Result) (lent : List ℕ) where
             said = ap (answer 0) all ∙ sym (room fitting e ∙ ap (λ u. first_refusal (refusal 10 (unless u) ∷ []) (length (result_bytes r))) f);
             left = P.stored ∙ sets_overwrite lent (result_bytes r) fits;
           }
-
-pub fits-known : (r : Result) (lent : List ℕ) (fitting : Bool) → fitting ≡ leb (length (result_bytes r)) (length lent) → fitting ≡ true → length (result_bytes r) ≤ length lent
-fits-known r lent fitting e f = leb-true (length (result_bytes r)) (length lent) (sym e ∙ f)

@@ -86,9 +86,6 @@ pub record Spending (numbers : List ℕ) (whole left i : ℕ) : Type 0 where
   pub few : i ≤ length numbers
   pub same : spent (Some left) (length (concat_map shortest (drop i numbers))) ≡ spent (Some whole) (length (concat_map shortest numbers))
 
-pub spending_starts : {numbers : List ℕ} {whole : ℕ} → Spending numbers whole whole 0
-spending_starts = record { few = omega arith; same = refl }
-
 module _ {numbers : List ℕ} {whole left i : ℕ} (S : Spending numbers whole left i) where
   -- the next number's size is taken
   taken : i < length numbers → {r : Option ℕ} → r ≡ spent (Some left) (length (shortest (get_or numbers i 0)))

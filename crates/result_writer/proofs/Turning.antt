@@ -61,9 +61,6 @@ pub record Turning (regions : ℕ) (labels : List ℕ) (n i : ℕ) : Type 0 wher
   pub few : i ≤ length labels
   pub same : turns regions n (ones (drop i labels)) ≡ turns regions 0 (ones labels)
 
-pub turning-starts : {regions : ℕ} {labels : List ℕ} → Turning regions labels 0 0
-turning-starts = record { few = omega arith; same = refl }
-
 module _ {regions n i : ℕ} {labels : List ℕ} (T : Turning regions labels n i) where
   next_label : i < length labels → turns regions n (one (get_or labels i 0) ∷ ones (drop (suc i) labels)) ≡ turns regions 0 (ones labels)
   next_label h = ap (λ m. turns regions n (ones m)) (sym (drop-cons labels i 0 h)) ∙ T.same
