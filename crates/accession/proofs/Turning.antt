@@ -1,9 +1,8 @@
 -- The records of a list from the last on, as chunks in reverse: the record that a turn has, and what it puts in the output (`Putting`). Assumes nothing.
-use Rattle.std.proofs.Common.{rules}
 use Prim.Native.Nat.{ℕ, ◌+◌, ◌-◌, ◌*◌, ◌/◌, ◌≤◌, ◌<◌}
 use native.Mathlib.Omega.{arith}
 use mathlib.Core.Path.{◌≡◌, sym, ap, subst, ◌∙◌}
-use mathlib.Core.Bool.{Bool, true, false}
+use mathlib.Core.Bool.{true, false}
 use mathlib.Core.List.{List, reverse}
 use lib.ListN.{length, get_or, take, drop}
 use borrow.Rule.Slice.PartMut.{put_mid}

@@ -1,26 +1,19 @@
 -- What is listed of a day: a map exactly when one of its terms has the day (`pool_members`), in strictly rising order, so each once (`pool_rising`). Its entry
 -- shows a record of the map, of that day or earlier, after which every record of the map is of a later day (`newest_is`), or none exactly when there is none
 -- (`none_newest`, `none_shown`). Assumes nothing.
-use Prim.Native.Nat.{ℕ, zero, suc, ◌+◌, ◌≤◌, ◌<◌}
-use native.Mathlib.Omega.{arith}
-use Rattle.std.proofs.Math.Path.{◌≡◌, refl, ap}
-use Rattle.std.proofs.Common.{sym, ap₂, subst, ◌∙◌}
-use Rattle.std.specs.Prelude.{Bool, ◌&&◌, ◌||◌, cond, List, [], ◌∷◌, get_or, ltb, leb, Option, None, Some}
-use Rattle.std.proofs.Math.Bool.{true, false, or-false}
-use Rattle.std.proofs.lemmas.Bool.{false≢true}
-use Rattle.std.proofs.Math.ListN.{length, length-append}
+use Prim.Native.Nat.{ℕ, ◌≤◌, ◌<◌}
+use Rattle.std.proofs.Math.Path.{◌≡◌, ap}
+use Rattle.std.proofs.Common.{sym, subst, ◌∙◌}
+use Rattle.std.specs.Prelude.{List, ltb, Option, None}
+use Rattle.std.proofs.Math.Bool.{true}
+use Rattle.std.proofs.Math.ListN.{length}
 use Rattle.std.proofs.Math.Dec.{eqb}
-use borrow.Author.Tests.{eq-eqb, eqb-true, eqb-false, ltb-true, ltb-false, leb-true, leb-false}
-use Rattle.definitions.specs.Scan.{any_below_lem, only_if, to_list, collect, any, filter, member}
-use Rattle.laws.specs.ListLaws.Tests.{both}
-use Rattle.laws.specs.ListLaws.Below.{below_ext}
-use Rattle.laws.specs.ListLaws.Lists.{any_append, filter-append}
-use Rattle.laws.specs.ListLaws.SortedMembers.{any-sort, length-sort, number-order}
-use Rattle.laws.specs.OrderLaws.StableSort.{After, Sorted, sort_sorted, filter-sort}
-use Rattle.catalogue.specs.Accession.{Accession, accession_at}
+use Rattle.definitions.specs.Scan.{only_if, collect, filter}
+use Rattle.laws.specs.ListLaws.SortedMembers.{length-sort, number-order}
+use Rattle.laws.specs.OrderLaws.StableSort.{sort_sorted, filter-sort}
 use Rattle.catalogue.specs.Terms.{term_at, term_count, days_of, contains, terms_refusal}
 use Rattle.catalogue.proofs.TermLaws.{each_once}
-use Rattle.catalogue.specs.Pool.{maps_in, maps_of_day, newest, entry_of}
+use Rattle.catalogue.specs.Pool.{maps_in, maps_of_day}
 use Rattle.catalogue.specs.PoolLaws.{Rising, collected-once, once-rising, kept}
 
 pub pool_rising : (terms : List ℕ) (day : ℕ) → terms_refusal terms ≡ None → Rising (maps_of_day terms day)

@@ -15,10 +15,10 @@ use Rattle.definitions.specs.Scan.{any_below_lem, only_if, to_list, collect, any
 use Rattle.laws.specs.ListLaws.Tests.{both}
 use Rattle.laws.specs.ListLaws.Below.{below_ext}
 use Rattle.laws.specs.ListLaws.Lists.{any_append, filter-append}
-use Rattle.laws.specs.ListLaws.SortedMembers.{any-sort, length-sort, number-order}
-use Rattle.laws.specs.OrderLaws.StableSort.{After, Sorted, sort_sorted, filter-sort}
+use Rattle.laws.specs.ListLaws.SortedMembers.{any-sort, number-order}
+use Rattle.laws.specs.OrderLaws.StableSort.{After, Sorted}
 use Rattle.catalogue.specs.Accession.{Accession, accession_at}
-use Rattle.catalogue.specs.Terms.{term_at, term_count, days_of, contains, terms_refusal}
+use Rattle.catalogue.specs.Terms.{term_at, term_count, days_of, contains}
 use Rattle.catalogue.specs.Pool.{maps_in, maps_of_day, newest, entry_of}
 
 -- ---- a map is listed exactly when one of its terms has the day

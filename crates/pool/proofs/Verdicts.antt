@@ -17,7 +17,7 @@ use Rattle.catalogue.specs.Dates.{Date, day_of}
 use Rattle.catalogue.specs.Terms.{term_count, is_finished, terms_refusal}
 use Rattle.catalogue.specs.Accession.{accession_count, accessions_fault}
 use Rattle.catalogue.specs.Accession as accession
-use Rattle.catalogue.specs.Pool.{maps_in, maps_of_day, entries_of, entries_on, asked_fault, pool_verdict, pool_at_exit}
+use Rattle.catalogue.specs.Pool.{maps_in, maps_of_day, entries_of, entries_on, asked_fault, pool_verdict}
 use Rattle.catalogue.proofs.PoolLaws.{pool_rising}
 use Rattle.pool_entries.specs.Steps.{blank, RecordsShown}
 use Rattle.pool_entries.proofs.Showing.{entries_of-length}

@@ -1,15 +1,14 @@
 -- The keys of the terms that are taken, as the loop goes, and the first terms of a list as a list of their own. Assumes nothing.
 use Prim.Native.Nat.{ℕ, ◌+◌, ◌*◌, ◌/◌, ◌≤◌, ◌<◌}
 use native.Mathlib.Omega.{arith}
-use mathlib.Core.Path.{◌≡◌, refl, sym, ap, subst, ◌∙◌}
-use mathlib.Core.Bool.{Bool, true, false, ◌&&◌}
+use mathlib.Core.Path.{◌≡◌, subst}
+use mathlib.Core.Bool.{false, ◌&&◌}
 use mathlib.Core.List.{List}
-use lib.ListN.{length, get_or, set, take, length-set}
-use lib.Seq.{get_or-set_same, get_or-set_other, get_or-take, length-take-le}
-use lib.Dec.{eqb, ltb}
-use borrow.Author.Tests.{ltb-true, ltb-false}
+use lib.ListN.{length, get_or, take}
+use lib.Seq.{get_or-take, length-take-le}
+use lib.Dec.{eqb}
 use Rattle.catalogue.specs.Terms.{Term, Days, term_at, days_of, overlap}
-use Rattle.pool_faults.specs.Apart.{Apart, ApartTo, Between, position_in, Keys}
+use Rattle.pool_faults.specs.Apart.{Apart, ApartTo}
 use Rattle.std.specs.Prelude.{Some}
 
 -- ---- all maps, from the lowest on

@@ -2,14 +2,13 @@
 -- of its map. Assumes nothing.
 use Prim.Native.Nat.{ℕ, zero, suc, ◌+◌, ◌%◌, ◌≤◌, ◌<◌}
 use native.Mathlib.Omega.{arith}
-use mathlib.Core.Path.{◌≡◌, refl, sym, ap, subst, ◌∙◌}
+use mathlib.Core.Path.{◌≡◌, refl, ap}
 use Rattle.std.specs.Prelude.{Option, None, Some}
 use mathlib.Core.Bool.{Bool, true, false, ◌&&◌, ◌||◌, true≢false}
 use mathlib.Core.List.{List}
-use lib.ListN.{length, get_or, set, length-set}
-use lib.Seq.{get_or-set_same, get_or-set_other}
+use lib.ListN.{length, get_or}
 use lib.Dec.{eqb, ltb, leb}
-use borrow.Author.Tests.{eqb-true, eqb-false, ltb-true, ltb-false, le-ltb, lt-leb, leb-true, leb-false}
+use borrow.Author.Tests.{eqb-true, ltb-true, ltb-false, le-ltb, lt-leb, leb-true, leb-false}
 use Rattle.std.specs.Bool.{⊤}
 use Rattle.std.specs.Option.{MatchOption, unwrap_or}
 use Rattle.definitions.specs.Scan.{only_if}
@@ -17,7 +16,7 @@ use Rattle.definitions.specs.Refusals.{Refusal, first_below_lem}
 use Rattle.laws.specs.ListLaws.Below.{below_none}
 use Rattle.laws.specs.ListLaws.Tests.{both}
 use Rattle.laws.specs.ListLaws.NoFault.{found, none_at}
-use Rattle.catalogue.specs.Terms.{Term, Days, term_at, days_of, is_empty, overlap, overlaps_earlier, term_fault}
+use Rattle.catalogue.specs.Terms.{Days, term_at, days_of, is_empty, overlap, overlaps_earlier, term_fault}
 use Rattle.pool_terms.specs.Contract.{sharing, first_in, end_in}
 use Rattle.pool_faults.specs.Apart.{Sound, Faultless, ApartTo}
 use Rattle.pool_faults.specs.Ends.{Latest, EndKept, passes}

@@ -31,7 +31,8 @@ fn passes(term: Term, ends: &[u64; SLOTS]) -> bool
     ensures { result ≡ passes (term_as term) ends.now }
 {
     let latest = ends[slot_of::<SLOTS>(term.on_map)];
-    term.days().is_some_and(|days| days.from < days.to && latest <= days.from)
+    term.days()
+        .is_some_and(|days| days.from < days.to && latest <= days.from)
 }
 
 // How many of the first terms pass, one after the other: all that come in the order of their days.

@@ -14,7 +14,7 @@ use Rattle.laws.specs.ListLaws.Below.{below_at, below_none, below_first}
 use Rattle.laws.specs.ListLaws.ScanSteps.{any-fails_at}
 use Rattle.catalogue.specs.Accession.{accession_at, accession_count, on_same_map, own_ascends, day_stands, is_first, supersedes_freely, keeps_rules, accessions_fault}
 use Rattle.catalogue.proofs.AccessionLaws.Current.{Keep, kept, superseded_below, later_below, own-above, one_last, superseded-later}
-use Rattle.catalogue.specs.AccessionLaws.Last.{last_below, last_within, last_passes, none_behind}
+use Rattle.catalogue.specs.AccessionLaws.Last.{last_within, last_passes, none_behind}
 use Rattle.catalogue.specs.AccessionLaws.Chain.{previous, follows, true_not, and_right, Link, starts, goes_on}
 
 module _ (l : List ℕ) (i : ℕ) where

@@ -9,7 +9,7 @@ use Rattle.definitions.specs.Scan.{collect}
 use Rattle.laws.specs.ListLaws.Tests.{both, same_test}
 use Rattle.laws.specs.ListLaws.Below.{below_at, below_none, below_first}
 use Rattle.laws.specs.OrderLaws.ListOrder.{eqb_sym}
-use Rattle.catalogue.specs.Accession.{Accession, accession_at, accession_count, on_same_map, accessions_fault}
+use Rattle.catalogue.specs.Accession.{accession_at, accession_count, on_same_map, accessions_fault}
 use Rattle.catalogue.specs.Line.{reversed, on_line_of, line_of}
 use Rattle.catalogue.proofs.AccessionLaws.Current.{kept, own_unique}
 use Rattle.catalogue.specs.AccessionLaws.Newest.{newest_first, newest-skip, newest_ext}

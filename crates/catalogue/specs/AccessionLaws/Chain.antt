@@ -2,18 +2,13 @@
 -- record of its map before it, no earlier by its day, or has 0 where there is none: the one record of the map that is still free is its last (Current.antt),
 -- and the last has the latest day. So a check may look for the last record of the map alone. Assumes nothing.
 use Prim.Native.Nat.{ℕ, zero, suc, ◌<◌, ◌≤◌}
-use Rattle.std.proofs.Common.{arith, ap₂, ◌∙◌, true≢false}
-use Rattle.std.specs.Prelude.{◌≡◌, ◌&&◌, List, leb, None}
-use Rattle.std.proofs.Math.Path.{refl, sym, ap}
-use Rattle.std.proofs.Math.Bool.{Bool, true, false, not, cond}
-use Rattle.std.proofs.Math.Dec.{eqb, ltb}
-use borrow.Author.Tests.{eqb-true, eqb-false, eq-eqb, ne_eqb, ltb-true, ltb-false, le-ltb, le-leb, leb-true, not-true}
-use Rattle.definitions.specs.Scan.{any_below_lem}
-use Rattle.laws.specs.ListLaws.Tests.{both, same_test}
-use Rattle.laws.specs.ListLaws.Below.{below_at, below_none, below_first}
-use Rattle.laws.specs.ListLaws.ScanSteps.{any-fails_at}
-use Rattle.catalogue.specs.Accession.{accession_at, accession_count, on_same_map, own_ascends, day_stands, is_first, supersedes_freely, keeps_rules, accessions_fault}
-use Rattle.catalogue.specs.AccessionLaws.Last.{last_below, last_within, last_passes, none_behind}
+use Rattle.std.proofs.Common.{◌∙◌}
+use Rattle.std.specs.Prelude.{◌≡◌, ◌&&◌, List, leb}
+use Rattle.std.proofs.Math.Path.{sym, ap}
+use Rattle.std.proofs.Math.Bool.{Bool, true, false, not}
+use Rattle.std.proofs.Math.Dec.{eqb}
+use Rattle.catalogue.specs.Accession.{accession_at, on_same_map}
+use Rattle.catalogue.specs.AccessionLaws.Last.{last_below}
 
 -- the last record of record i's map before it: one more than its position, or 0 where there is none
 unfoldable pub previous : List ℕ → ℕ → ℕ

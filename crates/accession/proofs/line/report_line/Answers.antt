@@ -1,8 +1,6 @@
 -- `accession::line::report_line` meets its contract: each check refuses by its number, or those that are left decide. Assumes nothing.
-use Rattle.std.proofs.Common.{rules, refl, sym, ap, ◌≡◌, ◌∙◌, ℕ, arith}
-use Rattle.std.specs.Prelude.{Option, None, Some, Err}
-use Rattle.definitions.specs.Refusals.{Refusal}
-use Rattle.definitions.specs.Verdict.{refusal}
+use Rattle.std.proofs.Common.{rules, refl, ap, ◌≡◌, ◌∙◌}
+use Rattle.std.specs.Prelude.{Err}
 use Rattle.refusals.proofs.Steps.{stopped, passed, ensured, searched}
 use Rattle.catalogue.specs.Line.{line_verdict}
 use Rattle.refusals.specs.Answers.{answer_of}

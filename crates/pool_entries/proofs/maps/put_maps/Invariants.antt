@@ -1,5 +1,4 @@
 -- `maps::put_maps` meets its contract. The invariant: the maps of the terms that were passed stand at the front. Assumes nothing.
-use Rattle.catalogue.specs.Terms.{term_count}
 use Rattle.pool_entries.proofs.Listing.{Putting}
 use Rattle.pool_entries.proofs.maps.put_maps.Given as goal
 
