@@ -10,8 +10,8 @@ pub mod records;
 pub mod region_marks;
 pub mod runs;
 
-// The record of a region, as RegionStats of context.rs: SPECIFICATION 9; its ramp cells are counted. Edges are in pixels; bit e of `elevations` says that a cell
-// has elevation e.
+// The record of a region, as RegionStats of context.rs: SPECIFICATION 9; its ramp cells are counted. Edges are in pixels; bit e of `elevations` says that a
+// cell has elevation e.
 #[repr(C)]
 #[derive(Clone, Copy)]
 pub struct Region {

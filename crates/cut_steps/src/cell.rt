@@ -37,8 +37,8 @@ fn side_of(g: SpanGeometry, cell: WalkPosition) -> i64
 }
 
 // Whether a cell is so far from the span's line that the centre of every neighbour of larger number lies on the same side of it: a step changes the side value
-// by at most 8 pixels times both extents of the span. On the positive side its extent along y is enough: the first endpoint is not to the right of the second, so
-// that a step to the south never lowers the value.
+// by at most 8 pixels times both extents of the span. On the positive side its extent along y is enough: the first endpoint is not to the right of the second,
+// so that a step to the south never lowers the value.
 fn is_far(g: SpanGeometry, cell: WalkPosition) -> bool
     requires { Sound g × (cell.x < max_side) × (cell.y < max_side) }
     ensures { result ≡ true → Far (segment_of g) (at cell.x cell.y) }
@@ -263,8 +263,8 @@ impl SpanWalk<'_> {
         )
     }
 
-    // The directions of a cell in which a step leads to a cell of larger number and is cut, a bit for each. The cell is between the span's ends, and its changes
-    // of sides are given.
+    // The directions of a cell in which a step leads to a cell of larger number and is cut, a bit for each. The cell is between the span's ends, and its
+    // changes of sides are given.
     pub fn crossed_directions(&self, cell: WalkPosition, changes: u16) -> u16
         requires asked { CellIn self.now cell }
         requires crossed { Crossed (segment_of self.now.g) (at cell.x cell.y) changes }
