@@ -152,8 +152,8 @@ fn assess_span(
     assessing.found
 }
 
-// Assesses every span by the labels of the partition and the masks of cut steps: two tallies a span, and the rows of pairs as far as there is room. Gives how many
-// rows there are, or none where they are more than the list has room for.
+// Assesses every span by the labels of the partition and the masks of cut steps: two tallies a span, and the rows of pairs as far as there is room. Gives how
+// many rows there are, or none where they are more than the list has room for.
 pub fn assess_spans(
     grid: TerrainGrid,
     masks: &[u16],

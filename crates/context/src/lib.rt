@@ -13,8 +13,8 @@ pub mod runs;
 // How far the corners of a region that is approached may be from a boundary's center, in pixels, as passes 1 and 2 ask it.
 pub const MAX_APPROACH_RADIUS: f64 = 512.0;
 
-// The record of a region, as RegionStats of context.rs: SPECIFICATION 9; its ramp cells are counted. Edges are in pixels; bit e of `elevations` says that a cell
-// has elevation e.
+// The record of a region, as RegionStats of context.rs: SPECIFICATION 9; its ramp cells are counted. Edges are in pixels; bit e of `elevations` says that a
+// cell has elevation e.
 #[repr(C)]
 #[derive(Clone, Copy)]
 pub struct Region {

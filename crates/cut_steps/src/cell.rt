@@ -37,8 +37,8 @@ fn side_of(g: SpanGeometry, cell: WalkPosition) -> i64
 }
 
 // Whether a cell is so far from the span's line that the centre of every neighbour of larger number lies on the same side of it: a step changes the side value
-// by at most 8 pixels times both extents of the span. On the positive side its extent along y is enough: the first endpoint is not to the right of the second, so
-// that a step to the south never lowers the value.
+// by at most 8 pixels times both extents of the span. On the positive side its extent along y is enough: the first endpoint is not to the right of the second,
+// so that a step to the south never lowers the value.
 fn is_far(g: SpanGeometry, cell: WalkPosition) -> bool
     requires { Sound g × (cell.x < max_side) × (cell.y < max_side) }
     ensures { result ≡ true → Far (segment_of g) (at cell.x cell.y) }
@@ -198,10 +198,10 @@ pub fn side_changes(columns: bool, back: usize, ahead: usize, j: usize) -> u16
 
 impl SpanWalk<'_> {
     // Whether a cell is walkable and may have a cut step to a cell of larger number: of most candidates these tests say that it has none.
-    pub fn is_near(self, cell: WalkPosition) -> bool
-        requires { CellIn self cell }
-        ensures where_true { result ≡ true → walkable (walk_map self.entry) (at cell.x cell.y) ≡ true }
-        ensures where_false { result ≡ false → CutIn self.entry cell 0 }
+    pub fn is_near(&self, cell: WalkPosition) -> bool
+        requires { CellIn self.now cell }
+        ensures where_true { result ≡ true → walkable (walk_map self.now) (at cell.x cell.y) ≡ true }
+        ensures where_false { result ≡ false → CutIn self.now cell 0 }
     {
         if !is_walkable(self.grid, cell.x, cell.y) {
             return false;
@@ -216,10 +216,10 @@ impl SpanWalk<'_> {
     }
 
     // Whether the step from a walkable cell in a direction to cells of larger number is there and is cut.
-    fn is_cut_onward(self, inner: bool, cell: WalkPosition, direction: Direction) -> bool
-        requires asked { OnwardAsked self.grid.width self.grid.height self.grid.cells.now self.g cell.x cell.y direction.dx direction.dy }
-        requires inner_cell { inner ≡ true → Inner self.grid.width self.grid.height cell.x cell.y }
-        ensures { result ≡ is_cut_onward (walk_map self.entry) (segment_of self.entry.g) (at cell.x cell.y) (at direction.dx direction.dy) }
+    fn is_cut_onward(&self, inner: bool, cell: WalkPosition, direction: Direction) -> bool
+        requires asked { OnwardAsked self.now.grid.width self.now.grid.height self.now.grid.cells.now self.now.g cell.x cell.y direction.dx direction.dy }
+        requires inner_cell { inner ≡ true → Inner self.now.grid.width self.now.grid.height cell.x cell.y }
+        ensures { result ≡ is_cut_onward (walk_map self.now) (segment_of self.now.g) (at cell.x cell.y) (at direction.dx direction.dy) }
     {
         if !self.grid.is_inside(inner, cell, direction) {
             return false;
@@ -237,10 +237,10 @@ impl SpanWalk<'_> {
     }
 
     // Whether the step east from a walkable cell is there and is cut. Beside a flat span most are ruled out by the first test.
-    fn is_cut_east(self, inner: bool, cell: WalkPosition) -> bool
-        requires asked { OnwardAsked self.grid.width self.grid.height self.grid.cells.now self.g cell.x cell.y 2 1 }
-        requires inner_cell { inner ≡ true → Inner self.grid.width self.grid.height cell.x cell.y }
-        ensures { result ≡ is_cut_onward (walk_map self.entry) (segment_of self.entry.g) (at cell.x cell.y) (at 2 1) }
+    fn is_cut_east(&self, inner: bool, cell: WalkPosition) -> bool
+        requires asked { OnwardAsked self.now.grid.width self.now.grid.height self.now.grid.cells.now self.now.g cell.x cell.y 2 1 }
+        requires inner_cell { inner ≡ true → Inner self.now.grid.width self.now.grid.height cell.x cell.y }
+        ensures { result ≡ is_cut_onward (walk_map self.now) (segment_of self.now.g) (at cell.x cell.y) (at 2 1) }
     {
         if is_far_eastward(self.g, cell) {
             return false;
@@ -248,13 +248,11 @@ impl SpanWalk<'_> {
         self.is_cut_onward(inner, cell, EAST)
     }
 
-    // The directions of a walkable cell in which a step leads to a cell of larger number and is cut, a bit for each. A call of its own would copy the walk for every
-    // cell.
-    #[inline(always)]
-    pub fn cut_directions(self, cell: WalkPosition) -> u16
-        requires asked { CellIn self cell }
-        requires walkable_cell { walkable (walk_map self) (at cell.x cell.y) ≡ true }
-        ensures { CutIn self.entry cell result }
+    // The directions of a walkable cell in which a step leads to a cell of larger number and is cut, a bit for each.
+    pub fn cut_directions(&self, cell: WalkPosition) -> u16
+        requires asked { CellIn self.now cell }
+        requires walkable_cell { walkable (walk_map self.now) (at cell.x cell.y) ≡ true }
+        ensures { CutIn self.now cell result }
     {
         let inner = self.grid.is_inner(cell);
         onward_mask(
@@ -265,12 +263,12 @@ impl SpanWalk<'_> {
         )
     }
 
-    // The directions of a cell in which a step leads to a cell of larger number and is cut, a bit for each. The cell is between the span's ends, and its changes
-    // of sides are given.
-    pub fn crossed_directions(self, cell: WalkPosition, changes: u16) -> u16
-        requires asked { CellIn self cell }
-        requires crossed { Crossed (segment_of self.g) (at cell.x cell.y) changes }
-        ensures { CutIn self.entry cell result }
+    // The directions of a cell in which a step leads to a cell of larger number and is cut, a bit for each. The cell is between the span's ends, and its
+    // changes of sides are given.
+    pub fn crossed_directions(&self, cell: WalkPosition, changes: u16) -> u16
+        requires asked { CellIn self.now cell }
+        requires crossed { Crossed (segment_of self.now.g) (at cell.x cell.y) changes }
+        ensures { CutIn self.now cell result }
     {
         if !is_walkable(self.grid, cell.x, cell.y) {
             return 0;

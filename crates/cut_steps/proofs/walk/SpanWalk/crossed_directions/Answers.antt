@@ -13,8 +13,8 @@ use Rattle.cut_steps.proofs.walk.SpanWalk.crossed_directions.Goals as goal
 pub returns-then-not-is_walkable : goal.returns-then-not-is_walkable
 returns-then-not-is_walkable c =
     let a = c.args in
-    let M = grid_of a.self.grid.width a.self.grid.height a.self.grid.cells.now in
-    record { small = omega arith; bits = no_bits M (segment_of a.self.g) (at a.cell.x a.cell.y) (no_step M (segment_of a.self.g) (at a.cell.x a.cell.y) (sym c.is_walkable.ensures ∙ not-true _ c.if-not-is_walkable.true-raw)) }
+    let M = grid_of a.self.now.grid.width a.self.now.grid.height a.self.now.grid.cells.now in
+    record { small = omega arith; bits = no_bits M (segment_of a.self.now.g) (at a.cell.x a.cell.y) (no_step M (segment_of a.self.now.g) (at a.cell.x a.cell.y) (sym c.is_walkable.ensures ∙ not-true _ c.if-not-is_walkable.true-raw)) }
 
 pub steps_onward-requires : goal.steps_onward-requires
 steps_onward-requires c = (in_grid_of c.requires.asked, sym c.is_walkable.ensures ∙ not-false _ c.if-not-is_walkable.false-raw)

@@ -19,4 +19,4 @@ is_cut_onward-requires-3 c = record { asked = onward-asked c.requires.asked 2 2 
 pub returns : goal.returns
 returns c =
     let a = c.args in
-    four-directions a.self.grid.width a.self.grid.height a.self.grid.cells.now (segment_of a.self.g) a.cell.x a.cell.y c.is_cut_east.ensures c.is_cut_onward.ensures c.is_cut_onward-2.ensures c.is_cut_onward-3.ensures c.onward_mask.ensures
+    four-directions a.self.now.grid.width a.self.now.grid.height a.self.now.grid.cells.now (segment_of a.self.now.g) a.cell.x a.cell.y c.is_cut_east.ensures c.is_cut_onward.ensures c.is_cut_onward-2.ensures c.is_cut_onward-3.ensures c.onward_mask.ensures

@@ -12,7 +12,7 @@ is_far_eastward-requires c = in_limits c.requires.asked.cell
 pub returns-then-is_far_eastward : goal.returns-then-is_far_eastward
 returns-then-is_far_eastward c =
     let a = c.args in
-    clear_of (grid_of a.self.grid.width a.self.grid.height a.self.grid.cells.now) (segment_of a.self.g) (at a.cell.x a.cell.y) (at 2 1) (c.is_far_eastward.ensures c.if-is_far_eastward.true)
+    clear_of (grid_of a.self.now.grid.width a.self.now.grid.height a.self.now.grid.cells.now) (segment_of a.self.now.g) (at a.cell.x a.cell.y) (at 2 1) (c.is_far_eastward.ensures c.if-is_far_eastward.true)
 
 pub is_cut_onward-requires : goal.is_cut_onward-requires
 is_cut_onward-requires c = c.requires

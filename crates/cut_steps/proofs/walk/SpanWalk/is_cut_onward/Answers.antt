@@ -14,31 +14,31 @@ pub is_inside-requires : goal.is_inside-requires
 is_inside-requires c = record { nearby = nearby c.requires.asked; inner_cell = c.requires.inner_cell }
 
 pub returns-then-not-is_inside : goal.returns-then-not-is_inside
-returns-then-not-is_inside c = let a = c.args in outside a.self.grid.width a.self.grid.height a.self.grid.cells.now (segment_of a.self.g) a.cell.x a.cell.y a.direction.dx a.direction.dy (c.is_inside.ensures.1 (not-true _ c.if-not-is_inside.true-raw))
+returns-then-not-is_inside c = let a = c.args in outside a.self.now.grid.width a.self.now.grid.height a.self.now.grid.cells.now (segment_of a.self.now.g) a.cell.x a.cell.y a.direction.dx a.direction.dy (c.is_inside.ensures.1 (not-true _ c.if-not-is_inside.true-raw))
 
 pub is_step-requires : goal.is_step-requires
 is_step-requires c =
-    let inside : let a = c.args in Inside a.self.grid.width a.self.grid.height a.cell.x a.cell.y a.direction.dx a.direction.dy = c.is_inside.ensures.0 (not-false _ c.if-not-is_inside.false-raw) in
+    let inside : let a = c.args in Inside a.self.now.grid.width a.self.now.grid.height a.cell.x a.cell.y a.direction.dx a.direction.dy = c.is_inside.ensures.0 (not-false _ c.if-not-is_inside.false-raw) in
     stepping c.requires.asked inside
 
 pub returns-then-not-is_step : goal.returns-then-not-is_step
 returns-then-not-is_step c =
     let a = c.args in
-    blocked (grid_of a.self.grid.width a.self.grid.height a.self.grid.cells.now) (segment_of a.self.g) (at a.cell.x a.cell.y) (at a.direction.dx a.direction.dy) (sym c.is_step.ensures ∙ not-true _ c.if-not-is_step.true-raw)
+    blocked (grid_of a.self.now.grid.width a.self.now.grid.height a.self.now.grid.cells.now) (segment_of a.self.now.g) (at a.cell.x a.cell.y) (at a.direction.dx a.direction.dy) (sym c.is_step.ensures ∙ not-true _ c.if-not-is_step.true-raw)
 
 pub overflow_sub-x : goal.overflow_sub-x
 overflow_sub-x c =
-    let inside : let a = c.args in Inside a.self.grid.width a.self.grid.height a.cell.x a.cell.y a.direction.dx a.direction.dy = c.is_inside.ensures.0 (not-false _ c.if-not-is_inside.false-raw) in
+    let inside : let a = c.args in Inside a.self.now.grid.width a.self.now.grid.height a.cell.x a.cell.y a.direction.dx a.direction.dy = c.is_inside.ensures.0 (not-false _ c.if-not-is_inside.false-raw) in
     omega (arith, inside)
 
 pub overflow_sub-y : goal.overflow_sub-y
 overflow_sub-y c =
-    let inside : let a = c.args in Inside a.self.grid.width a.self.grid.height a.cell.x a.cell.y a.direction.dx a.direction.dy = c.is_inside.ensures.0 (not-false _ c.if-not-is_inside.false-raw) in
+    let inside : let a = c.args in Inside a.self.now.grid.width a.self.now.grid.height a.cell.x a.cell.y a.direction.dx a.direction.dy = c.is_inside.ensures.0 (not-false _ c.if-not-is_inside.false-raw) in
     omega (arith, inside)
 
 pub cuts-requires : goal.cuts-requires
 cuts-requires c =
-    let inside : let a = c.args in Inside a.self.grid.width a.self.grid.height a.cell.x a.cell.y a.direction.dx a.direction.dy = c.is_inside.ensures.0 (not-false _ c.if-not-is_inside.false-raw) in
+    let inside : let a = c.args in Inside a.self.now.grid.width a.self.now.grid.height a.cell.x a.cell.y a.direction.dx a.direction.dy = c.is_inside.ensures.0 (not-false _ c.if-not-is_inside.false-raw) in
     let A = c.requires.asked in
     let i = inside in
     (A.cell.sound, omega (arith, A.cell.in_x, A.cell.narrow), omega (arith, A.cell.in_y, A.cell.short), omega (arith, i.left, i.right, A.cell.narrow), omega (arith, i.up, i.down, A.cell.short))
@@ -47,4 +47,4 @@ pub returns : goal.returns
 returns c =
     let a = c.args in
     c.cuts.ensures
-    ∙ onward-cut (grid_of a.self.grid.width a.self.grid.height a.self.grid.cells.now) (segment_of a.self.g) (at a.cell.x a.cell.y) (at a.direction.dx a.direction.dy) (sym c.is_step.ensures ∙ not-false _ c.if-not-is_step.false-raw) c.requires.asked.onward
+    ∙ onward-cut (grid_of a.self.now.grid.width a.self.now.grid.height a.self.now.grid.cells.now) (segment_of a.self.now.g) (at a.cell.x a.cell.y) (at a.direction.dx a.direction.dy) (sym c.is_step.ensures ∙ not-false _ c.if-not-is_step.false-raw) c.requires.asked.onward

@@ -14,7 +14,7 @@ is_walkable-requires c = in_grid_of c.requires
 pub returns-then-not-is_walkable : goal.returns-then-not-is_walkable
 returns-then-not-is_walkable c =
     let a = c.args in
-    record { where_true = λ e. absurd (false≢true e); where_false = λ e. no_directions a.self.grid.width a.self.grid.height a.self.grid.cells.now (segment_of a.self.g) a.cell.x a.cell.y (sym c.is_walkable.ensures ∙ not-true _ c.if-not-is_walkable.true-raw) }
+    record { where_true = λ e. absurd (false≢true e); where_false = λ e. no_directions a.self.now.grid.width a.self.now.grid.height a.self.now.grid.cells.now (segment_of a.self.now.g) a.cell.x a.cell.y (sym c.is_walkable.ensures ∙ not-true _ c.if-not-is_walkable.true-raw) }
 
 pub is_far-requires : goal.is_far-requires
 is_far-requires c = in_limits c.requires
@@ -22,7 +22,7 @@ is_far-requires c = in_limits c.requires
 pub returns-then-is_far : goal.returns-then-is_far
 returns-then-is_far c =
     let a = c.args in
-    record { where_true = λ e. absurd (false≢true e); where_false = λ e. far-directions a.self.grid.width a.self.grid.height a.self.grid.cells.now (segment_of a.self.g) a.cell.x a.cell.y (c.is_far.ensures c.if-is_far.true) }
+    record { where_true = λ e. absurd (false≢true e); where_false = λ e. far-directions a.self.now.grid.width a.self.now.grid.height a.self.now.grid.cells.now (segment_of a.self.now.g) a.cell.x a.cell.y (c.is_far.ensures c.if-is_far.true) }
 
 pub walks_south-requires : goal.walks_south-requires
 walks_south-requires c = in_grid_of c.requires
@@ -40,5 +40,5 @@ returns c =
     let a = c.args in
     record {
       where_true = λ e. sym c.is_walkable.ensures ∙ not-false _ c.if-not-is_walkable.false-raw;
-      where_false = λ e. east-directions a.self.grid.width a.self.grid.height a.self.grid.cells.now (segment_of a.self.g) a.cell.x a.cell.y (sym c.walks_south.ensures ∙ c.if-walks_south.false) (c.is_far_eastward.ensures (not-false _ e));
+      where_false = λ e. east-directions a.self.now.grid.width a.self.now.grid.height a.self.now.grid.cells.now (segment_of a.self.now.g) a.cell.x a.cell.y (sym c.walks_south.ensures ∙ c.if-walks_south.false) (c.is_far_eastward.ensures (not-false _ e));
     }
