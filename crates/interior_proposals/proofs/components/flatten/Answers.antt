@@ -8,9 +8,6 @@ use Rattle.interior_proposals.proofs.Forests.{flat-start, own_name, parents_name
 use Rattle.interior_proposals.proofs.components.flatten.Goals as goal
 use Rattle.interior_proposals.proofs.components.flatten.Goals.{then-p-k, else-p-k}
 
-pub loop-k-init : goal.loop-k-init
-loop-k-init c = (omega arith, beyond_same _ _, λ cs P e. flat-start cs _)
-
 pub loop-k-preserved : goal.loop-k-preserved
 loop-k-preserved c =
     let k = c.loop-k.k in
@@ -27,8 +24,6 @@ loop-k-preserved c =
           ]),
     )
 
-pub returns : goal.returns
-returns c = record {
-  named = λ cs P e. flat-end P (c.loop-k.invariant.2 cs P e) c.loop-k-test.false e;
-  beyond = c.loop-k.invariant.1;
-}
+pub returns-clause-named : goal.returns-clause-named
+returns-clause-named c =
+    λ cs P e. flat-end P (c.loop-k.invariant.2 cs P e) c.loop-k-test.false e

@@ -13,28 +13,8 @@ use Rattle.interior_proposals.proofs.Stored.{stored-start, stored_more}
 use Rattle.interior_proposals.proofs.Preparing.{prepared}
 use Rattle.interior_proposals.proofs.components.prepare.Goals as goal
 
-pub loop-k-init : goal.loop-k-init
-loop-k-init c = (omega arith, beyond_same _ _, stored-start _ _)
-
-pub loop-k-preserved : goal.loop-k-preserved
-loop-k-preserved c =
-    let k = c.loop-k.k in
+pub returns-clause-prepared : goal.returns-clause-prepared
+returns-clause-prepared c =
     let inv = c.loop-k.invariant in
     let pre = c.requires in
-    let size : length (take c.args.regions c.args.counts.now) ≡ c.args.regions = length-take-le c.args.regions c.args.counts.now pre.1 in
-    let below : k < c.args.regions = omega (arith, c.loop-k-test.true, size) in
-    let mark : get_or c.loop-k.marks k 0 ≡ get_or c.args.marks.now k 0 = inv.2.rest k (omega arith) in
-    let count : get_or (take c.args.regions c.args.counts.now) k 0 ≡ get_or c.args.counts.now k 0 = get_or-take c.args.regions c.args.counts.now k 0 below in (
-      omega (arith, below),
-      beyond-then inv.1 (beyond-set _ _ _ _ below),
-      stored_more inv.2 (omega (arith, below, inv.1.long, pre.0)) (c.flags.ensures ∙ ap₂ (λ m n. flags_of (eqb (m % 2) 1) (eqb n 1) false) mark count),
-    )
-
-pub returns : goal.returns
-returns c =
-    let inv = c.loop-k.invariant in
-    let pre = c.requires in
-    let size : length (take c.args.regions c.args.counts.now) ≡ c.args.regions = length-take-le c.args.regions c.args.counts.now pre.1 in record {
-      prepared = λ C e A I. prepared C inv.2 (subst (λ n. Forest n (λ c. c) c.alone.new.parents) (sym e) c.alone.ensures.forest) (omega (arith, e, size, c.loop-k-test.false)) (omega (arith, e, pre.0, inv.1.long)) A I;
-      beyond = (inv.1, c.alone.ensures.beyond);
-    }
+    let size : length (take c.args.regions c.args.counts.now) ≡ c.args.regions = length-take-le c.args.regions c.args.counts.now pre.1 in λ C e A I. prepared C inv.2 (subst (λ n. Forest n (λ c. c) c.alone.new.parents) (sym e) c.alone.ensures.forest) (omega (arith, e, size, c.loop-k-test.false)) (omega (arith, e, pre.0, inv.1.long)) A I

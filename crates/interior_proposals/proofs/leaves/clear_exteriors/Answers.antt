@@ -18,8 +18,6 @@ loop-k-preserved c = (
       clearing_more C _ _ _ _ w c.loop-k.k c.loop-k.invariant.0 c.loop-k-test.true (row_low c.args.pairs.now c.loop-k.k c.row_at-pair.ensures) (row_high c.args.pairs.now c.loop-k.k c.row_at-pair.ensures) (c.loop-k.invariant.3 C rs w M) c.clear_exterior.ensures.marks c.clear_exterior-in-loop-k.ensures.marks,
 )
 
-pub returns : goal.returns
-returns c = record {
-  cleared = λ C rs w M. clearing-end C rs _ _ _ w (c.loop-k.invariant.3 C rs w M) c.loop-k.invariant.1 c.loop-k-test.false;
-  marks_length = c.loop-k.invariant.2;
-}
+pub returns-clause-cleared : goal.returns-clause-cleared
+returns-clause-cleared c =
+    λ C rs w M. clearing-end C rs _ _ _ w (c.loop-k.invariant.3 C rs w M) c.loop-k.invariant.1 c.loop-k-test.false

@@ -23,8 +23,6 @@ loop-k-preserved c =
           (c.expand_row-fit.ensures.expanded C i s.regions es s.valid (row_of C i c.args.r rs es v _ _ _ P k u c.loop-k-test.true (row_low c.args.pairs.now c.loop-k.k c.row_at.ensures) (row_high c.args.pairs.now c.loop-k.k c.row_at.ensures)) H.inside M),
     )
 
-pub returns : goal.returns
-returns c = record {
-  expanded = λ C i rs es v P I M. held-end C i _ rs es v _ _ _ P (c.loop-k.invariant.3 C i rs es v P I M) c.loop-k.invariant.1 c.loop-k-test.false;
-  names_length = c.loop-k.invariant.2;
-}
+pub returns-clause-expanded : goal.returns-clause-expanded
+returns-clause-expanded c =
+    λ C i rs es v P I M. held-end C i _ rs es v _ _ _ P (c.loop-k.invariant.3 C i rs es v P I M) c.loop-k.invariant.1 c.loop-k-test.false

@@ -31,8 +31,6 @@ loop-k-preserved c =
           | in-false-false v ↦ marking-by C rs _ _ _ _ _ I w c.loop-k.k up in_rows low high c.parent_of.ensures c.parent_of-in-loop-k.ensures E false false (ne_eqb _ _ v.in-false-false.is-0) (ne_eqb _ _ v.in-false-false.is-1) v.marks-is (v.fit-is ∙ sym (and-true _)) ],
     )
 
-pub returns : goal.returns
-returns c = record {
-  marked = λ C rs w I M. marking-end C rs _ _ _ _ _ I w (c.loop-k.invariant.3 C rs w I M) c.loop-k.invariant.1 c.loop-k-test.false;
-  marks_length = c.loop-k.invariant.2;
-}
+pub returns-clause-marked : goal.returns-clause-marked
+returns-clause-marked c =
+    λ C rs w I M. marking-end C rs _ _ _ _ _ I w (c.loop-k.invariant.3 C rs w I M) c.loop-k.invariant.1 c.loop-k-test.false

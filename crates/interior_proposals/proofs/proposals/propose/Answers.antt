@@ -3,19 +3,15 @@ use Rattle.std.proofs.Common.{refl, sym}
 use Rattle.interior_proposals.proofs.ProposalLaws.{no_candidate, no_ports, component-inside, ports-below, unfit, ports-proposed, facing-listed, facing-reachable}
 use Rattle.interior_proposals.proofs.proposals.propose.Goals as goal
 
-pub returns-then-not-is_candidate : goal.returns-then-not-is_candidate
-returns-then-not-is_candidate c = record {
-  proposed = λ C F. no_candidate F (c.if-not-is_candidate.ensures C F.mapped F.counted F.owned);
-  lengths = (refl, refl);
-}
+pub returns-then-not-is_candidate-clause-proposed : goal.returns-then-not-is_candidate-clause-proposed
+returns-then-not-is_candidate-clause-proposed c =
+    λ C F. no_candidate F (c.if-not-is_candidate.ensures C F.mapped F.counted F.owned)
 
-pub returns-in_err-ports : goal.returns-in_err-ports
-returns-in_err-ports c = record {
-  proposed = λ C F.
+pub returns-in_err-ports-clause-proposed : goal.returns-in_err-ports-clause-proposed
+returns-in_err-ports-clause-proposed c =
+    λ C F.
       let h = sym (c.if-not-is_candidate.ensures C F.mapped F.counted F.owned) in
-      rw c.from_residual.ensures (no_ports F h (c.in_err-ports.ensures C F.mapped F.counted F.owned h));
-  lengths = (refl, refl);
-}
+      rw c.from_residual.ensures (no_ports F h (c.in_err-ports.ensures C F.mapped F.counted F.owned h))
 
 pub ports_fit-requires : goal.ports_fit-requires
 ports_fit-requires c =
@@ -24,15 +20,13 @@ ports_fit-requires c =
     let l = ports-below F h (c.in_ok-ports.ensures c.requires.0 F.mapped F.counted F.owned h) in
     record { first_listed = facing-listed F _ l.0; second_listed = facing-listed F _ l.1 }
 
-pub returns-then-not-ports_fit : goal.returns-then-not-ports_fit
-returns-then-not-ports_fit c = record {
-  proposed = λ C F.
+pub returns-then-not-ports_fit-clause-proposed : goal.returns-then-not-ports_fit-clause-proposed
+returns-then-not-ports_fit-clause-proposed c =
+    λ C F.
       let h = sym (c.if-not-is_candidate.ensures C F.mapped F.counted F.owned) in
       let e = c.in_ok-ports.ensures C F.mapped F.counted F.owned h in
       let l = ports-below F h e in
-      unfit F h e (c.if-not-ports_fit.ensures C F.given.bounds F.given.tallied l.0 l.1);
-  lengths = (refl, refl);
-}
+      unfit F h e (c.if-not-ports_fit.ensures C F.given.bounds F.given.tallied l.0 l.1)
 
 pub expand_ports-requires : goal.expand_ports-requires
 expand_ports-requires c =
@@ -41,12 +35,10 @@ expand_ports-requires c =
     let l = ports-below F h (c.in_ok-ports.ensures c.requires.0 F.mapped F.counted F.owned h) in
     record { first_reachable = facing-reachable F _ l.0; second_reachable = facing-reachable F _ l.1 }
 
-pub returns : goal.returns
-returns c = record {
-  proposed = λ C F.
+pub returns-clause-proposed : goal.returns-clause-proposed
+returns-clause-proposed c =
+    λ C F.
       let h = sym (c.if-not-is_candidate.ensures C F.mapped F.counted F.owned) in
       let e = c.in_ok-ports.ensures C F.mapped F.counted F.owned h in
       let l = ports-below F h e in
-      rw c.then_some.ensures (ports-proposed F h e (c.if-not-ports_fit.ensures C F.given.bounds F.given.tallied l.0 l.1) (c.expand_ports.ensures.expanded C _ F.given.paired l.0 l.1 (component-inside F h) F.mapped.marked) _ refl);
-  lengths = c.expand_ports.ensures.lengths;
-}
+      rw c.then_some.ensures (ports-proposed F h e (c.if-not-ports_fit.ensures C F.given.bounds F.given.tallied l.0 l.1) (c.expand_ports.ensures.expanded C _ F.given.paired l.0 l.1 (component-inside F h) F.mapped.marked) _ refl)

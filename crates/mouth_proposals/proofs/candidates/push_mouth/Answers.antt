@@ -17,37 +17,25 @@ bits_of-requires c =
     separation-number L.context c.args.m c.args.ramp.boundary
     (c.separation_of-separation.ensures L.context L.shows.bounds (below L.shows.counted c.requires.places.1.0) (below L.shows.counted c.requires.places.1.1))
 
-pub returns-in-None : goal.returns-in-None
-returns-in-None c =
-    let L = c.requires.shown in record {
-      bound = (omega arith, omega arith);
-      still_roomy = c.requires.roomy;
-      filled = λ C l S T ramp cut E F.
-          filled_none F (none_found C c.args.ramp.boundary c.args.m (sym (ap (candidate_form C c.args.m c.args.ramp.boundary) c.in-None.is) ∙ c.mouth_candidate.ensures C S T ramp cut E));
-    }
+pub returns-in-None-clause-filled : goal.returns-in-None-clause-filled
+returns-in-None-clause-filled c =
+    let L = c.requires.shown in λ C l S T ramp cut E F.
+          filled_none F (none_found C c.args.ramp.boundary c.args.m (sym (ap (candidate_form C c.args.m c.args.ramp.boundary) c.in-None.is) ∙ c.mouth_candidate.ensures C S T ramp cut E))
 
-pub returns-then-is_close : goal.returns-then-is_close
-returns-then-is_close c =
-    let L = c.requires.shown in record {
-      bound = (omega arith, omega arith);
-      still_roomy = roomy-put _ _ c.requires.roomy;
-      filled = λ C l S T ramp cut E F.
+pub returns-then-is_close-clause-filled : goal.returns-then-is_close-clause-filled
+returns-then-is_close-clause-filled c =
+    let L = c.requires.shown in λ C l S T ramp cut E F.
           let lm = below S.counted c.requires.places.1.0 in
           let la = below S.counted c.requires.places.1.1 in
           let e = sym (ap (candidate_form C c.args.m c.args.ramp.boundary) c.in-Some.is) ∙ c.mouth_candidate.ensures C S T ramp cut E in
           let d = c.separation_of-separation.ensures C S.bounds lm la in
           rw c.of.ensures (filled_more C (candidate c.args.m c.args.ramp.boundary c.in-Some.found.outer c.in-Some.found.kind c.bits_of.result) F c.requires.roomy c.requires.places.0 lm la (outer-inside C c.args.ramp.boundary c.args.m (S.rows.named c.args.m lm) _ _ e)
-          (c.bits_of.ensures ∙ ap (to_bits binary64) d) (near-found C c.args.ramp.boundary c.args.m _ _ e (sym (ap (λ x. not (lt max_mouth_distance x)) d) ∙ sym c.is_close.ensures ∙ c.if-is_close.true)));
-    }
+          (c.bits_of.ensures ∙ ap (to_bits binary64) d) (near-found C c.args.ramp.boundary c.args.m _ _ e (sym (ap (λ x. not (lt max_mouth_distance x)) d) ∙ sym c.is_close.ensures ∙ c.if-is_close.true)))
 
-pub returns-else-is_close : goal.returns-else-is_close
-returns-else-is_close c =
-    let L = c.requires.shown in record {
-      bound = (omega arith, omega arith);
-      still_roomy = c.requires.roomy;
-      filled = λ C l S T ramp cut E F.
+pub returns-else-is_close-clause-filled : goal.returns-else-is_close-clause-filled
+returns-else-is_close-clause-filled c =
+    let L = c.requires.shown in λ C l S T ramp cut E F.
           let lm = below S.counted c.requires.places.1.0 in
           let la = below S.counted c.requires.places.1.1 in
           let e = sym (ap (candidate_form C c.args.m c.args.ramp.boundary) c.in-Some.is) ∙ c.mouth_candidate.ensures C S T ramp cut E in
-          filled_none F (far-found C c.args.ramp.boundary c.args.m _ _ e (sym (ap (λ x. not (lt max_mouth_distance x)) (c.separation_of-separation.ensures C S.bounds lm la)) ∙ sym c.is_close.ensures ∙ c.if-is_close.false));
-    }
+          filled_none F (far-found C c.args.ramp.boundary c.args.m _ _ e (sym (ap (λ x. not (lt max_mouth_distance x)) (c.separation_of-separation.ensures C S.bounds lm la)) ∙ sym c.is_close.ensures ∙ c.if-is_close.false))

@@ -25,12 +25,3 @@ loop-m-preserved c =
         ),
       ),
     )
-
-pub returns : goal.returns
-returns c =
-    let at = c.loop-m in
-    let same = le_antisymm at.invariant.0 c.loop-m-test.false in record {
-      bound = omega (arith, at.invariant.1.0, at.invariant.0, c.requires.shown.shows.bounds.few, c.requires.shown.shows.counted);
-      still_roomy = at.invariant.1.1.0;
-      filled = λ C S T ramp cut E. filled_as (at.invariant.1.1.1 C S T ramp cut E) (ap (λ m. collect m (mouth_candidate C c.args.ramp.boundary)) same);
-    }

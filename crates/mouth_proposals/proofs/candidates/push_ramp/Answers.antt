@@ -7,36 +7,14 @@ use Rattle.mouth_proposals.proofs.SafeLists.{below, stretch_at, tallies_at, rows
 use Rattle.mouth_proposals.proofs.CandidateRoom.{filled-empty, no_ramp_none, no_cut_none}
 use Rattle.mouth_proposals.proofs.candidates.push_ramp.Goals as goal
 
-pub returns-then-not-has_ramp : goal.returns-then-not-has_ramp
-returns-then-not-has_ramp c =
-    record {
-      bound = omega arith;
-      still_roomy = c.requires.roomy;
-      filled = λ C S T. filled-empty (mouth_candidate C c.args.a) c.args.context.count (λ m. no_ramp_none C c.args.a m (kind-shown S.bounds c.args.a (below S.counted c.requires.place) ∙ not-false _ (sym c.has_ramp.ensures ∙ c.if-not-has_ramp.true)));
-    }
+pub returns-then-not-has_ramp-clause-filled : goal.returns-then-not-has_ramp-clause-filled
+returns-then-not-has_ramp-clause-filled c =
+    λ C S T. filled-empty (mouth_candidate C c.args.a) c.args.context.count (λ m. no_ramp_none C c.args.a m (kind-shown S.bounds c.args.a (below S.counted c.requires.place) ∙ not-false _ (sym c.has_ramp.ensures ∙ c.if-not-has_ramp.true)))
 
-pub returns-then-not-full_cut : goal.returns-then-not-full_cut
-returns-then-not-full_cut c =
-    record {
-      bound = omega arith;
-      still_roomy = c.requires.roomy;
-      filled = λ C S T. filled-empty (mouth_candidate C c.args.a) c.args.context.count (λ m. no_cut_none C c.args.a m (sym (c.full_cut.ensures C T (below S.counted c.requires.place)) ∙ c.if-not-full_cut.true));
-    }
+pub returns-then-not-full_cut-clause-filled : goal.returns-then-not-full_cut-clause-filled
+returns-then-not-full_cut-clause-filled c =
+    λ C S T. filled-empty (mouth_candidate C c.args.a) c.args.context.count (λ m. no_cut_none C c.args.a m (sym (c.full_cut.ensures C T (below S.counted c.requires.place)) ∙ c.if-not-full_cut.true))
 
-pub find_other_ends-ends-requires : goal.find_other_ends-ends-requires
-find_other_ends-ends-requires c =
-    record {
-      sizes = (rows-counted c.requires.shown, c.requires.place);
-      tallies_room = tallies_at c.requires.shown c.requires.place;
-      stretches = λ i l. stretch_at c.requires.shown l;
-    }
-
-pub returns : goal.returns
-returns c =
-    record {
-      bound = c.push_mouths.ensures.bound;
-      still_roomy = c.push_mouths.ensures.still_roomy;
-      filled = λ C S T.
-          let la = below S.counted c.requires.place in
-          c.push_mouths.ensures.filled C S T (kind-shown S.bounds c.args.a la ∙ not-true _ (sym c.has_ramp.ensures ∙ c.if-not-has_ramp.false)) (sym (c.full_cut.ensures C T la) ∙ c.if-not-full_cut.false) (c.find_other_ends-ends.ensures C S.counted S.bounds T S.rows);
-    }
+pub find_other_ends-ends-requires-clause-stretches : goal.find_other_ends-ends-requires-clause-stretches
+find_other_ends-ends-requires-clause-stretches c =
+    λ i l. stretch_at c.requires.shown l

@@ -5,10 +5,6 @@ use Rattle.definitions.specs.RampMouths.{nearby_representative}
 use Rattle.mouth_proposals.proofs.Measured.{pixels_at, endpoints-shown}
 use Rattle.mouth_proposals.proofs.measures.nearby_representative.Goals as goal
 
-pub is_nearby_parallel_representative-requires : goal.is_nearby_parallel_representative-requires
-is_nearby_parallel_representative-requires c =
-    (pixels_at c.segment_of.ensures c.requires.0.pixels, pixels_at c.segment_of-2.ensures c.requires.1.pixels)
-
 pub returns : goal.returns
 unfolding nearby_representative
 returns c =

@@ -4,10 +4,6 @@ use Rattle.definitions.specs.RampGeometry.{overlapping_ramp_representative}
 use Rattle.mouth_proposals.proofs.Measured.{pixels_at, endpoints-shown, width-shown, overlay_by, overlay-not}
 use Rattle.mouth_proposals.proofs.measures.overlay_representative.Goals as goal
 
-pub overlapping_ramp_representative-requires : goal.overlapping_ramp_representative-requires
-overlapping_ramp_representative-requires c =
-    (pixels_at c.segment_of.ensures c.requires.0.pixels, pixels_at c.segment_of-then-fmax-fmin.ensures c.requires.1.pixels)
-
 pub returns-then-fmax-fmin : goal.returns-then-fmax-fmin
 returns-then-fmax-fmin c =
     λ C S hm ha.

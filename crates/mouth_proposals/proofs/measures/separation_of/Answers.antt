@@ -5,10 +5,6 @@ use Rattle.definitions.specs.RampMouths.{separation_of}
 use Rattle.mouth_proposals.proofs.Measured.{pixels_at, endpoints-shown}
 use Rattle.mouth_proposals.proofs.measures.separation_of.Goals as goal
 
-pub segment_distance-requires : goal.segment_distance-requires
-segment_distance-requires c =
-    (pixels_at c.segment_of.ensures c.requires.0.pixels, pixels_at c.segment_of-2.ensures c.requires.1.pixels)
-
 pub returns : goal.returns
 unfolding separation_of
 returns c =

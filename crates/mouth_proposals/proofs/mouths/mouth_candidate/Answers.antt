@@ -31,12 +31,9 @@ pub triangle_representative-triangle-requires : goal.triangle_representative-tri
 triangle_representative-triangle-requires c =
     (stretch_at c.requires.shown c.requires.places.0, stretch_at c.requires.shown c.requires.places.1)
 
-pub approach_of-approach-requires : goal.approach_of-approach-requires
-approach_of-approach-requires c =
-    record {
-      tallies_room = tallies_at c.requires.shown c.requires.places.1;
-      stretch = (stretch_at c.requires.shown c.requires.places.0, stretch_at c.requires.shown c.requires.places.1);
-    }
+pub approach_of-approach-requires-clause-stretch : goal.approach_of-approach-requires-clause-stretch
+approach_of-approach-requires-clause-stretch c =
+    (stretch_at c.requires.shown c.requires.places.0, stretch_at c.requires.shown c.requires.places.1)
 
 pub returns-then-triangle-is_none : goal.returns-then-triangle-is_none
 returns-then-triangle-is_none c =

@@ -11,7 +11,3 @@ returns-in_default c = no_mouth-triangle _ (rows_of c.args.context.pairs.now c.a
 
 pub returns-in_default-of : goal.returns-in_default-of
 returns-in_default-of c = no_ramp-triangle (rows_of c.args.context.pairs.now c.args.context.starts.now c.args.m) _ c.in_default-of.ensures
-
-pub returns : goal.returns
-returns c =
-    ap₂ triangle_representative c.in-Some.ensures c.in-Some-of.ensures ∙ c.is_triangle.ensures ∙ ap (only_if c.is_triangle.result) (ap distinct_regions (sym c.in-Some.ensures))
