@@ -6,9 +6,8 @@ ghost use Rattle.areas.specs.Lists.{of_lists, SameLists};
 ghost use Rattle.game_lists.specs.Kept.{Source, lent_of, Divides, DividedKept};
 
 use areas::lists::PartitionLists;
-use areas::scratch::clear_assessed;
 use boundary_blocks::blocks::{copy_block, keep_blocks};
-use call_partition::{Ready, divide};
+use call_partition::{Ready, redivide};
 use definitions::limits::{MAX_ENTRIES, NUMBERS_PER_PAIR, NUMBERS_PER_SPAN, TALLIES_PER_SPAN};
 use grid_steps::grid::TerrainGrid;
 
@@ -48,6 +47,5 @@ pub fn divide_kept(
     let end = NUMBERS_PER_SPAN * count;
     let filled = TALLIES_PER_SPAN * (spans.len() / NUMBERS_PER_SPAN);
     let paired = NUMBERS_PER_PAIR * rows;
-    clear_assessed(lists.tallies, lists.pairs, filled, paired);
-    divide(grid, &kept[..end], room, lists).unwrap()
+    redivide(grid, &kept[..end], filled, paired, room, lists).unwrap()
 }

@@ -122,6 +122,13 @@ module _ {w h : ℕ} {cells anchors : List ℕ} {O : Origin} {s : List Region} {
       let n = length (pair_rows_of (context_of (start_map M))) in
       omega (arith, leb-true n (length O.pairs / 3 * 3) (no_fault_lem (leb n (length O.pairs / 3 * 3)) 0 D.accepted.pairs), D.firsts.rows, D.pairs)
 
+  -- cleared so far they are as long as they were
+  pub tallies-cleared : length (zeroed (2 * first.kept) t) ≡ length t
+  tallies-cleared = zeroed-length _ _ tallies-fit
+
+  pub pairs-cleared : length (zeroed (3 * first.rows) p) ≡ length p
+  pairs-cleared = zeroed-length _ _ pairs-fit
+
   pub spans_fit : 4 * kept ≤ length spans
   spans_fit = omega (arith, begins-long (ends_block M) 4 (λ x. refl) D.ended, D.count)
 
