@@ -11,9 +11,6 @@ use call_partition::{Ready, redivide};
 use definitions::limits::{MAX_ENTRIES, NUMBERS_PER_PAIR, NUMBERS_PER_SPAN, TALLIES_PER_SPAN};
 use grid_steps::grid::TerrainGrid;
 
-// As many numbers as the spans of a call at most are.
-const SPANS_LONG: usize = NUMBERS_PER_SPAN * MAX_ENTRIES;
-
 // The spans that are not removed, in list order, and how many there are.
 fn kept_spans(spans: &[u64], removed: &[bool; 256], kept: &mut [u64]) -> usize
     requires { (length spans.now ≤ length kept.old) × (length spans.now / numbers_per_span ≤ max_entries) }
@@ -42,7 +39,7 @@ pub fn divide_kept(
         → of_lists (of_lists (DividedKept (lent_of grid.entry.width grid.entry.height grid.entry.cells.now spans.now S)) lists.old result) lists.new }
     ensures same { SameLists lists.old lists.new }
 {
-    let mut kept = [0u64; SPANS_LONG];
+    let mut kept = [0u64; NUMBERS_PER_SPAN * MAX_ENTRIES];
     let count = kept_spans(spans, removed, &mut kept);
     let end = NUMBERS_PER_SPAN * count;
     let filled = TALLIES_PER_SPAN * (spans.len() / NUMBERS_PER_SPAN);

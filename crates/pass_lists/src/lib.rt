@@ -59,7 +59,9 @@ pub fn view(
     context.count_incidents(partition.regions, queue);
 }
 
-// Clears masks and queue, writes the rows of the `count` boundaries that are not removed, and gives how many there are.
+// Clears masks and queue, writes the rows of the `count` boundaries that are not removed, and gives how many there are. Never put into its caller: the rows that are
+// sorted here, 10 KiB, would stand on the stack beside the lists of the pass.
+#[inline(never)]
 pub fn finish(
     needed: usize,
     count: usize,

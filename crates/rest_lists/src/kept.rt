@@ -43,20 +43,20 @@ impl KeptLists {
     {
         &self.boundaries[..NUMBERS_PER_BOUNDARY * count]
     }
-}
 
-// Moves what is not marked to the front of the three lists, and gives how many are left.
-pub fn keep_left(kept: &mut KeptLists, removed: &[bool; 256], count: usize) -> usize
-    requires { count ≤ max_entries }
-    ensures numbers { kept.new.numbers ≡ overwrite (left_blocks removed.now 1 kept.old.numbers count) kept.old.numbers }
-    ensures spans { kept.new.spans ≡ overwrite (left_blocks removed.now 4 kept.old.spans count) kept.old.spans }
-    ensures boundaries { kept.new.boundaries
-        ≡ overwrite (left_blocks removed.now 9 kept.old.boundaries count) kept.old.boundaries }
-    ensures answer { result ≡ left_count removed.now count }
-{
-    keep_blocks(&mut kept.numbers, 1, removed, count);
-    keep_blocks(&mut kept.spans, NUMBERS_PER_SPAN, removed, count);
-    keep_blocks(&mut kept.boundaries, NUMBERS_PER_BOUNDARY, removed, count)
+    // Moves what is not marked to the front of the three lists, and gives how many are left.
+    pub fn keep_left(&mut self, removed: &[bool; MAX_ENTRIES], count: usize) -> usize
+        requires { count ≤ max_entries }
+        ensures numbers { self.new.numbers ≡ overwrite (left_blocks removed.now 1 self.old.numbers count) self.old.numbers }
+        ensures spans { self.new.spans ≡ overwrite (left_blocks removed.now 4 self.old.spans count) self.old.spans }
+        ensures boundaries { self.new.boundaries
+            ≡ overwrite (left_blocks removed.now 9 self.old.boundaries count) self.old.boundaries }
+        ensures answer { result ≡ left_count removed.now count }
+    {
+        keep_blocks(&mut self.numbers, 1, removed, count);
+        keep_blocks(&mut self.spans, NUMBERS_PER_SPAN, removed, count);
+        keep_blocks(&mut self.boundaries, NUMBERS_PER_BOUNDARY, removed, count)
+    }
 }
 
 // Labels, tallies and pairs of what is kept; beyond them, as far as the first partition filled, zero. It is not refused: no later partition has more regions or
