@@ -146,8 +146,5 @@ pub rests-on : {g : TerrainGrid} (x : TerrainGrid) {anchors : List ℕ} {O : Ori
     → RanToRest g.width g.height g.cells.now anchors O s first a R → RanToRest x.width x.height x.cells.now anchors O s first a R
 rests-on x {anchors} {O} {s} {first} {a} {R} e K = subst (λ (g : TerrainGrid). RanToRest g.width g.height g.cells.now anchors O s first a R) e K
 
-pub fills-on : {g : TerrainGrid} (x : TerrainGrid) {M : Map} {room regions : ℕ} {cells l q : List ℕ} → g ≡ x → Fills M room regions x.width cells l q → Fills M room regions g.width cells l q
-fills-on x {M} {room} {regions} {cells} {l} {q} e F = subst (λ (g : TerrainGrid). Fills M room regions g.width cells l q) (sym e) F
-
 pub zeroed-on : {g : TerrainGrid} (x : TerrainGrid) (a : List ℕ) {b : List ℕ} → g ≡ x → b ≡ zeroed (g.height * g.width) a → b ≡ zeroed (x.height * x.width) a
 zeroed-on x a {b} e z = subst (λ (g : TerrainGrid). b ≡ zeroed (g.height * g.width) a) e z

@@ -58,9 +58,9 @@ pub record Terrain (G : Ground) (w h : ℕ) (spans : List ℕ) (regions rows : �
   pub cleared : m ≡ zeroed (h * w) G.masks
   pub emptied : q ≡ zeroed (h * w) G.queue
 
--- the same of a struct of what is only read
-abbrev pub TerrainIn : Ground → SharedTerrain → List ℕ → List ℕ → Type 0
-TerrainIn G x m q = Terrain G x.width x.height x.spans.now x.regions x.rows x.labels.now m q x.tallies.now x.pairs.now x.records.now
+-- the same of a struct of what is told of it, its records and the lists, in this order
+abbrev pub TerrainIn : Ground → SharedTerrain → List Region → (l m q t p : List ℕ) → Type 0
+TerrainIn G x s l m q t p = Terrain G x.width x.height x.spans.now x.ready.regions x.ready.rows l m q t p s
 
 -- a desk was served; masks and queue are as they were
 pub record DeskRan (G : Ground) (w h : ℕ) (spans : List ℕ) (D : Desk) (m q : List ℕ) (a : verdict.Answer) (m' q' o' : List ℕ) : Type 0 where

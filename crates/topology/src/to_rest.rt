@@ -20,12 +20,12 @@ use areas::lists::PartitionLists;
 use call_partition::asked::Asked;
 use checks::passes::Pass;
 use context::Region;
-use definitions::limits::NUMBERS_PER_BOUNDARY;
+use definitions::limits::{MAX_ENTRIES, NUMBERS_PER_BOUNDARY, NUMBERS_PER_SPAN};
 use grid_steps::grid::TerrainGrid;
 use pass_lists::SpanPartition;
 use refusals::Refusal;
 use rest_lists::begin::begin_rest;
-use rest_lists::kept::{KeptLists, Standing, divide_again, finish_rest, keep_left};
+use rest_lists::kept::{KeptLists, Standing, divide_again, finish_rest};
 use rest_lists::turns::{first_turn, next_turn, rounds_of};
 
 // How many rows are kept, and how many rounds were run.
@@ -65,6 +65,7 @@ impl From<Result<RestKept, Refusal>> for RestAnswer {
 }
 
 // Marks which of the kept boundaries the pass removes. What is lent is the partition of what is kept.
+// Kept: the lists one by one, as in `mark_lent` of `marks`.
 fn mark_kept(
     pass: Pass,
     records: &[Region],
@@ -77,7 +78,7 @@ fn mark_kept(
     pairs: &[u32],
     masks: &mut [u16],
     queue: &mut [u32],
-) -> [bool; 256]
+) -> [bool; MAX_ENTRIES]
     requires few { (standing.kept ≤ max_entries) × (grid.height * grid.width ≤ max_cells) }
     requires map_shown { (M : Map) × Lent M records.now grid.width (grid.height * grid.width) labels.now anchors.now
         standing.regions standing.rows standing.kept (take (9 * standing.kept) kept.now.boundaries)
@@ -133,22 +134,12 @@ pub fn turn_once(
     let removed = mark_kept(
         pass, records, grid, anchors, standing, kept, &*labels, &*tallies, &*pairs, masks, queue,
     );
-    let left = keep_left(kept, &removed, standing.kept);
+    let left = kept.keep_left(&removed, standing.kept);
     if left == standing.kept {
         return standing;
     }
     let next = divide_again(grid, &kept.spans, left, first, records.len(), lists);
-    let labels = &mut *lists.labels;
-    let queue = &mut *lists.queue;
-    renew(
-        records,
-        first.regions,
-        next.regions,
-        grid.width,
-        grid.cells,
-        &*labels,
-        &*queue,
-    );
+    renew(records, first.regions, next.regions, grid, &*lists);
     next
 }
 
@@ -200,9 +191,9 @@ pub fn topology_run_to_rest(
     ensures same { SameLists lists.old lists.new }
 {
     let mut kept = KeptLists {
-        numbers: [0u64; 256],
-        spans: [0u64; 1024],
-        boundaries: [0u64; 2304],
+        numbers: [0u64; MAX_ENTRIES],
+        spans: [0u64; NUMBERS_PER_SPAN * MAX_ENTRIES],
+        boundaries: [0u64; NUMBERS_PER_BOUNDARY * MAX_ENTRIES],
     };
     let ready = begin_rest(asked, records.len(), output.len(), lists, &mut kept)?;
     let grid = asked.grid();
@@ -211,16 +202,7 @@ pub fn topology_run_to_rest(
         regions: ready.regions,
         rows: ready.rows,
     };
-    let labels = &mut *lists.labels;
-    let queue = &mut *lists.queue;
-    fill(
-        records,
-        ready.regions,
-        grid.width,
-        asked.cells,
-        &*labels,
-        &*queue,
-    );
+    fill(records, ready.regions, grid, &*lists);
     let rest = run_turns(grid, asked.anchors, first, lists, records, &mut kept);
     finish_rest(
         grid.height * grid.width,

@@ -2,8 +2,8 @@
 use Rattle.std.proofs.Common.{rules, refl, arith, ◌≡◌}
 use Rattle.std.specs.Prelude.{Err}
 use Rattle.call_partition.specs.Asking.{grid_in}
-use Rattle.topology.proofs.Calling.{needed-few}
-use Rattle.topology.proofs.RestCall.{begun_when, refused_over, begun_fills, stands_first, rest-scratch, rest-room, rest_over, stands-on, rests-on, fills-on, zeroed-on}
+use Rattle.topology.proofs.Calling.{needed-few, fills-on}
+use Rattle.topology.proofs.RestCall.{begun_when, refused_over, begun_fills, stands_first, rest-scratch, rest-room, rest_over, stands-on, rests-on, zeroed-on}
 use Rattle.topology.proofs.to_rest.topology_run_to_rest.Goals as goal
 
 pub returns-in_err-ready-clause-rests : goal.returns-in_err-ready-clause-rests
