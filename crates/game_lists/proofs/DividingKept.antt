@@ -1,5 +1,5 @@
--- The second partition, once the first one's lists are cleared: it is not refused (`not-refused`), since there are no more regions and pairs than in the first, and so
--- its lists are those of the kept graph (`kept-ready`). Assumes what `divide_kept` asks (`Divides`).
+-- The second partition, once the first one's lists are cleared: it is not refused (`not-refused`), since there are no more regions and pairs than in the
+-- first, and so its lists are those of the kept graph (`kept-ready`). Assumes what `divide_kept` asks (`Divides`).
 use Prim.Native.Nat.{ℕ, ◌*◌, ◌/◌, ◌≤◌}
 use native.Mathlib.Omega.{arith}
 use mathlib.Core.Path.{◌≡◌, sym, ap, ap₂, subst, ◌∙◌}

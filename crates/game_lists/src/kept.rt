@@ -12,7 +12,7 @@ use definitions::limits::{MAX_ENTRIES, NUMBERS_PER_PAIR, NUMBERS_PER_SPAN, TALLI
 use grid_steps::grid::TerrainGrid;
 
 // The spans that are not removed, in list order, and how many there are.
-fn kept_spans(spans: &[u64], removed: &[bool; 256], kept: &mut [u64]) -> usize
+fn kept_spans(spans: &[u64], removed: &[bool; MAX_ENTRIES], kept: &mut [u64]) -> usize
     requires { (length spans.now ≤ length kept.old) × (length spans.now / numbers_per_span ≤ max_entries) }
     ensures answer { result ≡ left_count removed.now (length spans.now / numbers_per_span) }
     ensures kept { take (numbers_per_span * result) kept.new
@@ -28,7 +28,7 @@ fn kept_spans(spans: &[u64], removed: &[bool; 256], kept: &mut [u64]) -> usize
 pub fn divide_kept(
     grid: TerrainGrid,
     spans: &[u64],
-    removed: &[bool; 256],
+    removed: &[bool; MAX_ENTRIES],
     rows: usize,
     room: usize,
     lists: &mut PartitionLists,

@@ -1,5 +1,5 @@
--- The parts of `run_kept`: what each asks, once the first partition is ready, and what they leave together (`ran-kept_graph`). Beyond what either partition fills each
--- list is as it was lent, so that clearing as far as the first filled, and then filling anew, gives the lists of the contract. Assumes nothing.
+-- The parts of `run_kept`: what each asks, once the first partition is ready, and what they leave together (`ran-kept_graph`). Beyond what either partition
+-- fills each list is as it was lent, so that clearing as far as the first filled, and then filling anew, gives the lists of the contract. Assumes nothing.
 use Prim.Native.Nat.{ℕ, ◌*◌, ◌/◌, ◌≤◌}
 use native.Mathlib.Omega.{arith}
 use native.Mathlib.Nat.{le_refl}

@@ -1,5 +1,6 @@
--- The ends of the call that runs to rest: a refusal of its beginning is the call's (`refused_over`); where its first partition is ready and the records are filled, the run stands at all places
--- (`stands_first`); and where it has come to rest, with masks and queue cleared and the rows written, the contract holds (`rest_over`). Assumes nothing.
+-- The ends of the call that runs to rest: a refusal of its beginning is the call's (`refused_over`); where its first partition is ready and the records are
+-- filled, the run stands at all places (`stands_first`); and where it has come to rest, with masks and queue cleared and the rows written, the contract holds
+-- (`rest_over`). Assumes nothing.
 use Prim.Native.Nat.{ℕ, ◌*◌, ◌/◌, ◌≤◌}
 use native.Mathlib.Omega.{arith}
 use mathlib.Core.Path.{◌≡◌, refl, sym, ap, subst, ◌∙◌}

@@ -1,5 +1,6 @@
--- The parts of the call that runs to rest: what each asks, where a run stands (`Stands`), and what it leaves. Of a pass: what it is lent (`stands-lent`), and that the blocks it leaves are those of
--- the places left (`pass-done`). Of a turn: where the pass removed none (`stands-still`), and where what is left was divided again and the records renewed (`stands-again`). Assumes nothing.
+-- The parts of the call that runs to rest: what each asks, where a run stands (`Stands`), and what it leaves. Of a pass: what it is lent (`stands-lent`), and
+-- that the blocks it leaves are those of the places left (`pass-done`). Of a turn: where the pass removed none (`stands-still`), and where what is left was
+-- divided again and the records renewed (`stands-again`). Assumes nothing.
 use Prim.Native.Nat.{ℕ, ◌*◌, ◌/◌, ◌≤◌, ◌<◌}
 use native.Mathlib.Omega.{arith}
 use mathlib.Core.Path.{◌≡◌, refl, sym, ap, subst, ◌∙◌}

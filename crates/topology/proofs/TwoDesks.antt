@@ -1,5 +1,6 @@
--- The parts of the call for two desks: what each asks, and what it leaves. A desk over the terrain is the call with its lists alone, prepared by the same lists (DeskReady), so that
--- what is asked of its pass and what follows from it is that call's (Calling); masks and queue are the terrain's again when it is done. Assumes nothing.
+-- The parts of the call for two desks: what each asks, and what it leaves. A desk over the terrain is the call with its lists alone, prepared by the same
+-- lists (DeskReady), so that what is asked of its pass and what follows from it is that call's (Calling); masks and queue are the terrain's again when it is
+-- done. Assumes nothing.
 use Prim.Native.Nat.{ℕ, ◌*◌, ◌/◌, ◌≤◌}
 use native.Mathlib.Omega.{arith}
 use mathlib.Core.Path.{◌≡◌, refl, sym, ap, ap₂, ◌∙◌, subst}

@@ -1,4 +1,5 @@
--- The contract of the call for two desks, over the lent records as they are declared, and the words of the contracts of its parts. Definitions only; assumes nothing.
+-- The contract of the call for two desks, over the lent records as they are declared, and the words of the contracts of its parts. Definitions only; assumes
+-- nothing.
 use Rattle.std.specs.Prelude.{ℕ, ◌*◌, ◌≡◌, List, [], map, length, drop}
 use Rattle.definitions.specs.Grid.{map_of}
 use Rattle.definitions.specs.Lists.{zeroed}
@@ -49,7 +50,8 @@ pub record Partitioned (G : Ground) (w h : ℕ) (spans : List ℕ) (regions rows
   pub masks_long : length m ≡ length G.masks
   pub queue_long_lem : length q ≡ length G.queue
 
--- The records are filled, and masks and queue are zero over the needed length: all shared lists are as on success. (`masks` and `queue` are what the partition left in them.)
+-- The records are filled, and masks and queue are zero over the needed length: all shared lists are as on success. (`masks` and `queue` are what the partition
+-- left in them.)
 pub record Terrain (G : Ground) (w h : ℕ) (spans : List ℕ) (regions rows : ℕ) (l m q t p : List ℕ) (s : List Region) : Type 0 where
   pub masks : List ℕ
   pub queue : List ℕ

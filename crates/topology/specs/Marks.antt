@@ -72,8 +72,8 @@ pub record SameFilled (x y : PartitionLists) : Type 0 where
   pub tallies : y.tallies.now ≡ x.tallies.now
   pub pairs : y.pairs.now ≡ x.pairs.now
 
--- Where there are as many boundaries as spans, the marks are the pass's; otherwise they are as they were. Masks m and queue q have become m' and q', over the needed
--- length alone.
+-- Where there are as many boundaries as spans, the marks are the pass's; otherwise they are as they were. Masks m and queue q have become m' and q', over the
+-- needed length alone.
 pub record MarkedFor (pass : ℕ) (M : Map) (needed count : ℕ) (boundaries m q m' q' : List ℕ) (was removed : List Bool) : Type 0 where
   pub equal : length boundaries / numbers_per_boundary ≡ count → MarkedBy pass (context_of M) removed
   pub differ : (length boundaries / numbers_per_boundary ≡ count → ⊥) → removed ≡ was

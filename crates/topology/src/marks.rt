@@ -110,7 +110,9 @@ pub fn mark_removed(
 }
 
 // The marks of the boundaries that the pass removes of what a call is asked: labels, tallies and pairs are those of its partition.
-// Kept: the lists one by one. Where a struct that a function makes holds a list of its `PartitionLists`, its proof does not know behind the loan that the list is as it was.
+// Kept: the lists one by one. With `PartitionLists` this function would lend them to `SpanPartition`, and a proof does not know behind such a loan, by a
+// struct,
+// that a list is as it was.
 fn mark_lent(
     pass: Pass,
     asked: Asked,

@@ -57,8 +57,8 @@ pub struct SharedTerrain<'a> {
     pub ready: Ready,
 }
 
-// One desk: its checks, then its pass over the lists of the partition. Gives how many rows are kept. Masks and queue are zero over the needed length, before and
-// after.
+// One desk: its checks, then its pass over the lists of the partition. Gives how many rows are kept. Masks and queue are zero over the needed length, before
+// and after.
 pub fn run_desk(
     desk: Desk,
     terrain: SharedTerrain,

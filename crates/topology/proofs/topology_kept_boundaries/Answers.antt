@@ -1,5 +1,5 @@
--- What a part of the call asks is what the parts before it leave (Calling): a refused call has left the lists as `prepare` says; of a call that is ready the records are filled, the
--- marks are the pass's, and the rows are written.
+-- What a part of the call asks is what the parts before it leave (Calling): a refused call has left the lists as `prepare` says; of a call that is ready the
+-- records are filled, the marks are the pass's, and the rows are written.
 use Rattle.std.proofs.Common.{rules, refl, ◌≡◌, ◌∙◌, arith}
 use Rattle.std.specs.Prelude.{Err}
 use Rattle.call_partition.specs.Asking.{grid_in}

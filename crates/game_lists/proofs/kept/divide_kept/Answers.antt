@@ -1,5 +1,5 @@
--- `game_lists::kept::divide_kept` meets its contract: the spans that are kept, the lists of the first partition cleared, and divided again, which is not refused
--- (DividingKept). Assumes nothing.
+-- `game_lists::kept::divide_kept` meets its contract: the spans that are kept, the lists of the first partition cleared, and divided again, which is not
+-- refused (DividingKept). Assumes nothing.
 use Prim.Native.Nat.{ℕ, ◌*◌, ◌/◌}
 use native.Mathlib.Omega.{arith}
 use mathlib.Core.Path.{sym, refl, ◌≡◌}

@@ -1,5 +1,5 @@
--- `rest_lists::kept::divide_again` meets its contract: the spans' front is that of what is kept, and `redivide`, which clears tallies and pairs as far as the first
--- partition filled them, does not refuse it (Inner). Assumes nothing.
+-- `rest_lists::kept::divide_again` meets its contract: the spans' front is that of what is kept, and `redivide`, which clears tallies and pairs as far as the
+-- first partition filled them, does not refuse it (Inner). Assumes nothing.
 use mathlib.Core.Path.{sym, refl}
 use native.Mathlib.Omega.{arith}
 use lib.Seq.{length-take-le}

@@ -1,4 +1,5 @@
--- A refusal of the beginning is the call's; where the first partition is ready and the records are filled the run stands at all places; at rest the rows are written (RestCall).
+-- A refusal of the beginning is the call's; where the first partition is ready and the records are filled the run stands at all places; at rest the rows are
+-- written (RestCall).
 use Rattle.std.proofs.Common.{rules, refl, arith, ◌≡◌}
 use Rattle.std.specs.Prelude.{Err}
 use Rattle.call_partition.specs.Asking.{grid_in}

@@ -1,5 +1,5 @@
--- A pass is lent what is kept, and the blocks that it leaves are those of the places left. Where it removed none the run stands still, else what is left was divided again and the records
--- renewed (Resting).
+-- A pass is lent what is kept, and the blocks that it leaves are those of the places left. Where it removed none the run stands still, else what is left was
+-- divided again and the records renewed (Resting).
 use Rattle.topology.proofs.Calling.{needed-few}
 use Rattle.topology.proofs.Resting.{kept-few, stands-lent, pass-done, stands-still, asks_again, first_fits, again_fills, stands-again}
 use Rattle.topology.proofs.to_rest.turn_once.Goals as goal
