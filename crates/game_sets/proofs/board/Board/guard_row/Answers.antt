@@ -17,7 +17,7 @@ pub loop-d-preserved : goal.loop-d-preserved
 loop-d-preserved c =
     let set = get_or (take c.args.self.now.regions c.args.sets.now) c.loop-d.d 0 in
     let put : (j : ℕ) → has_bit c.if-has.row j ≡ (has_bit c.loop-d.row j && (not c.has.result || has_bit set j)) = λ j.
-        elim c.if-has.branch [ then-has w ↦ with-set _ _ _ j _ w.if-has.true w.row-is | else-has w ↦ without-set _ _ _ j _ w.if-has.false w.row-is ] in
+    elim c.if-has.branch [ then-has w ↦ with-set _ _ _ j _ w.if-has.true w.row-is | else-has w ↦ without-set _ _ _ j _ w.if-has.false w.row-is ] in
     guard_more _ _ _ _ _ _ _ _ c.loop-d.invariant (search rules) c.has.ensures
     (λ j. rw (get_or-take c.args.self.now.regions c.args.sets.now c.loop-d.d 0 (search rules)) at (put j))
 
