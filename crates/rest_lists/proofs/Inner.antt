@@ -1,6 +1,6 @@
 -- The partitions of a run, in flat lists: no check before 11 refuses them (`inner-early`), so that `divide` can be called; those behind the first are not
 -- refused at all, and are ready (`redivided`). Assumes that the run is accepted.
-use Prim.Native.Nat.{ℕ, ◌*◌, ◌/◌, ◌^◌, ◌≤◌, ◌<◌}
+use Prim.Native.Nat.{ℕ, ◌*◌, ◌/◌, ◌≤◌}
 use native.Mathlib.Omega.{arith}
 use mathlib.Core.Path.{◌≡◌, refl, sym, ap, subst, ◌∙◌}
 use mathlib.Core.Bool.{◌&&◌}

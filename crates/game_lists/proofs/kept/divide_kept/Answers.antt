@@ -1,11 +1,10 @@
 -- `game_lists::kept::divide_kept` meets its contract: the spans that are kept, the lists of the first partition cleared, and divided again, which is not
 -- refused (DividingKept). Assumes nothing.
-use Prim.Native.Nat.{ℕ, ◌*◌, ◌/◌}
+use Prim.Native.Nat.{ℕ}
 use native.Mathlib.Omega.{arith}
-use mathlib.Core.Path.{sym, refl, ◌≡◌}
-use lib.ListN.{length, take, drop, replicate, length-replicate}
+use mathlib.Core.Path.{sym, refl}
+use lib.ListN.{length-replicate}
 use lib.Seq.{length-take-le}
-use borrow.Author.Rules.{rules}
 use Rattle.game_lists.proofs.KeptSpans.{few-kept}
 use Rattle.game_lists.proofs.DividingKept.{tallies-room, pairs-room, tallies-cleared, pairs-cleared, spans-room, kept-are, kept-fit, is-ready, kept-ready}
 use Rattle.game_lists.proofs.kept.divide_kept.Goals as goal

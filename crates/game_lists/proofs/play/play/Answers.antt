@@ -1,6 +1,6 @@
 -- `game_lists::play::play` meets its contract: a graph that neither check refuses is solved, and otherwise the verdicts are as they were. Assumes nothing.
 use native.Mathlib.Omega.{arith}
-use mathlib.Core.Path.{◌≡◌, sym, ap, refl, ◌∙◌}
+use mathlib.Core.Path.{◌≡◌, sym, ap, refl}
 use Rattle.std.proofs.Common.{rules}
 use Rattle.std.specs.Prelude.{Err}
 use Rattle.refusals.proofs.Steps.{positive}
