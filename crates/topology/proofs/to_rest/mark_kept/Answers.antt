@@ -1,5 +1,5 @@
 -- The kept spans are as many as the kept boundaries, so that what is lent is what a call with these lists is asked.
-use Rattle.std.proofs.Common.{◌≡◌, ◌≤◌, ◌*◌, ◌/◌, ℕ, List, length, sym, arith}
+use Rattle.std.proofs.Common.{◌≡◌, ◌≤◌, ◌*◌, ◌/◌, ℕ, List, length, arith}
 use lib.ListN.{take}
 use lib.Seq.{length-take-le}
 use Rattle.topology.proofs.Resting.{counted-lent, counted-marks}
