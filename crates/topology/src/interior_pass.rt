@@ -69,7 +69,8 @@ pub fn judge_interiors(
     }
 }
 
-// Pass 2: marks the boundaries that it removes. No boundary is marked before.
+// Pass 2: marks the boundaries that it removes. No boundary is marked before. Never put into its caller, as pass 1.
+#[inline(never)]
 pub fn collapse_ramp_interiors(
     records: &[Region],
     regions: usize,

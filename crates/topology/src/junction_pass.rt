@@ -85,7 +85,8 @@ pub fn select_junctions(
     n
 }
 
-// Pass 3: marks the boundaries that it removes. No boundary is marked before.
+// Pass 3: marks the boundaries that it removes. No boundary is marked before. Never put into its caller, as pass 1.
+#[inline(never)]
 pub fn remove_junction_boundaries(
     records: &[Region],
     lists: &JunctionLists,

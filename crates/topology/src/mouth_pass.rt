@@ -152,6 +152,8 @@ fn find_bests(
 
 // Pass 1: marks the boundaries that it removes. No boundary is marked before, and marks say no more than that a region is anchored. The best of each ramp is
 // found once, and again where it conflicts with one taken and is the least of the bests.
+// Never put into its caller, as the other two passes: of their lists only those of the pass that runs are on the stack.
+#[inline(never)]
 pub fn replace_ramp_mouths(
     records: &[Region],
     context: PartitionContext,
