@@ -1,5 +1,5 @@
--- The contract of the call from what its parts leave: where a check before it refuses, where there are more regions than records or more pairs than rows, and where
--- all is filled. The answer follows the chain of checks, and each list at exit is what the table says for that number. Assumes nothing.
+-- The contract of the call from what its parts leave: where a check before it refuses, where there are more regions than records or more pairs than rows, and
+-- where all is filled. The answer follows the chain of checks, and each list at exit is what the table says for that number. Assumes nothing.
 use Prim.Native.Nat.{ℕ, ◌*◌, ◌/◌, ◌≤◌, ◌<◌}
 use mathlib.Core.Path.{◌≡◌, refl, sym, ap, ◌∙◌}
 use mathlib.Core.Bool.{not, ◌&&◌}

@@ -1,5 +1,5 @@
--- What the first part of the call leaves, before its records are filled: the whole contract where it refuses, and otherwise what the rest of the call goes on from.
--- Definitions only; assumes nothing.
+-- What the first part of the call leaves, before its records are filled: the whole contract where it refuses, and otherwise what the rest of the call goes on
+-- from. Definitions only; assumes nothing.
 use Rattle.std.specs.Prelude.{ℕ, ◌*◌, ◌/◌, ◌≤◌, ◌≡◌, List, length, drop, None, Result, Ok, Err}
 use Rattle.definitions.specs.Limits.{numbers_per_pair}
 use Rattle.definitions.specs.Grid.{map_of}

@@ -15,18 +15,18 @@ use checks::anchors::anchors_fault;
 use checks::boundaries::boundaries_fault;
 use checks::cells::elevations_fault;
 use checks::passes::Pass;
-use checks::sizes::{cells_fit, is_whole, output_has_room, partition_has_room, sides_fit};
+use checks::sizes::{
+    are_whole, cells_fit, is_whole, output_has_room, partition_has_room, sides_fit,
+};
 use checks::spans::spans_fault;
-use definitions::limits::{NUMBERS_PER_ANCHOR, NUMBERS_PER_BOUNDARY, NUMBERS_PER_SPAN};
+use definitions::limits::{NUMBERS_PER_BOUNDARY, NUMBERS_PER_SPAN};
 use refusals::{Cause, Refusal, ensure, no_fault};
 
 // Check 3, of all three lists.
 fn all_whole(spans: usize, boundaries: usize, anchors: usize) -> bool
     ensures { result ≡ (is_whole_of numbers_per_span spans && is_whole_of numbers_per_boundary boundaries && is_whole_of numbers_per_anchor anchors) }
 {
-    is_whole(NUMBERS_PER_SPAN, spans)
-        & is_whole(NUMBERS_PER_BOUNDARY, boundaries)
-        & is_whole(NUMBERS_PER_ANCHOR, anchors)
+    is_whole(NUMBERS_PER_SPAN, spans) & are_whole(boundaries, anchors)
 }
 
 // Checks 1 to 3.

@@ -6,7 +6,8 @@
 pub mod asked;
 pub mod checked;
 
-ghost use Rattle.std.specs.Prelude.{ℕ};
+ghost use Rattle.std.specs.Prelude.{ℕ, ◌≤◌, length};
+ghost use Rattle.definitions.specs.Lists.{zeroed};
 ghost use Rattle.areas.specs.Fit.{Fit};
 ghost use Rattle.areas.specs.Lists.{of_lists, of_lengths, SameLists};
 ghost use Rattle.call_partition.specs.Asking.{of_asked};
@@ -15,7 +16,7 @@ ghost use Rattle.call_partition.specs.Prepared.{PreparedAs, PassPreparedAs, Divi
 
 use areas::labels::label_regions;
 use areas::lists::PartitionLists;
-use areas::scratch::clear_scratch;
+use areas::scratch::{clear_assessed, clear_scratch};
 use asked::Asked;
 use assessments::assess_spans;
 use checked::{check_lists, check_sizes, checks_before};
@@ -47,6 +48,7 @@ pub fn divide(
     let labels = &mut *lists.labels;
     let masks = &mut *lists.masks;
     let regions = label_regions(grid, spans, labels, masks, lists.queue);
+    // Kept: what a refusal leaves is cleared in its branch, here and below; `ensure` behind the branch would ask the same test again.
     if room < regions {
         clear_scratch(masks, lists.queue, needed);
         let filled = TALLIES_PER_SPAN * (spans.len() / NUMBERS_PER_SPAN);
@@ -69,6 +71,26 @@ pub fn divide(
             })
         }
     }
+}
+
+// The same in lists that an earlier partition filled with so many tallies and numbers of pairs: these are cleared before.
+pub fn redivide(
+    grid: TerrainGrid,
+    spans: &[u64],
+    counted: usize,
+    paired: usize,
+    room: usize,
+    lists: &mut PartitionLists,
+) -> Result<Ready, Refusal>
+    requires filled { (counted ≤ length lists.old.tallies.now) × (paired ≤ length lists.old.pairs.now) }
+    requires fit { of_lengths (Fit grid.width grid.height grid.cells.now spans.now) lists.old }
+    ensures divided { of_lists (DividedAs grid.entry.width grid.entry.height grid.entry.cells.now spans.now room
+        lists.old.labels.now lists.old.masks.now lists.old.queue.now
+        (zeroed counted lists.old.tallies.now) (zeroed paired lists.old.pairs.now) result) lists.new }
+    ensures same { SameLists lists.old lists.new }
+{
+    clear_assessed(lists.tallies, lists.pairs, counted, paired);
+    divide(grid, spans, room, lists)
 }
 
 // All that comes before the records, of a call that asks for its pass by number: `room` records and an output of length `output` are lent.

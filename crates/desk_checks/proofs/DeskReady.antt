@@ -1,5 +1,5 @@
--- From the terrain to a desk: where the terrain is prepared and the desk's own checks pass, the call with its lists alone is prepared as well, by the same lists. The partition
--- reads neither boundaries nor anchors. Assumes nothing.
+-- From the terrain to a desk: where the terrain is prepared and the desk's own checks pass, the call with its lists alone is prepared as well, by the same
+-- lists. The partition reads neither boundaries nor anchors. Assumes nothing.
 use Prim.Native.Nat.{ℕ, ◌*◌, ◌/◌, ◌≤◌}
 use mathlib.Core.Path.{◌≡◌, sym, ap, ap₂, ◌∙◌, subst}
 use mathlib.Core.Bool.{true, ◌&&◌}

@@ -1,7 +1,7 @@
 -- What `prepare_lists` answers with no boundaries and no anchors is the shared refusal, whose number is not 0. Assumes nothing.
 use Prim.Native.Nat.{ℕ}
 use native.Mathlib.Omega.{arith}
-use mathlib.Core.Path.{◌≡◌, refl, ◌∙◌}
+use mathlib.Core.Path.{refl, ◌∙◌}
 use Rattle.std.specs.Prelude.{Result, Ok, Err}
 use mathlib.Core.List.{List, []}
 use Rattle.definitions.specs.RegionRecord.{Region}

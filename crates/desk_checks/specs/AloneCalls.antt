@@ -1,5 +1,5 @@
--- "Whichever desk goes first, each one accepted gets the rows of a run with its lists alone": what such a desk is answered, its output and the shared lists meet the contract of
--- the call that runs its pass with its lists alone. Assumes nothing.
+-- "Whichever desk goes first, each one accepted gets the rows of a run with its lists alone": what such a desk is answered, its output and the shared lists
+-- meet the contract of the call that runs its pass with its lists alone. Assumes nothing.
 use Rattle.std.specs.Prelude.{ℕ, ◌≡◌, List}
 use Rattle.std.proofs.Common.{sym, ap, ◌∙◌}
 use Rattle.definitions.specs.RegionRecord.{Region}

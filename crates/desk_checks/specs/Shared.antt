@@ -17,8 +17,8 @@ pub record RefusedBoth (S : Shared) (number place : ℕ) (l m q t p : List ℕ) 
   pub refused : shared_refusal S ≡ Some (record { number = number; place = place })
   pub left : LeftShared S l m q t p s
 
--- A refusal is the shared one, for whatever records of this number, which are as they were. Otherwise the terrain is prepared: the call with no boundaries, no anchors and no
--- output is ready.
+-- A refusal is the shared one, for whatever records of this number, which are as they were. Otherwise the terrain is prepared: the call with no boundaries, no
+-- anchors and no output is ready.
 abbrev pub SharedAs : (w h : ℕ) (cells spans : List ℕ) (room : ℕ) (l m q t p : List ℕ) → Result Ready Refusal → (l' m' q' t' p' : List ℕ) → Type 0
 SharedAs w h cells spans room l m q t p (Err r) l' m' q' t' p' =
     (s : List Region) → length s ≡ room → RefusedBoth (lent_both w h cells spans l m q t p s) (number_of r.cause) r.place l' m' q' t' p' s

@@ -1,6 +1,6 @@
--- The contract of the call (`Played`) from what its parts leave: where a check before the first partition refuses (`played-refused`), where this partition is refused
--- 11 or 12 (`played-late`), and where all is filled (`played_complete`). The answer follows the chain of checks, and each list at exit is what the request says for
--- that number. Assumes nothing.
+-- The contract of the call (`Played`) from what its parts leave: where a check before the first partition refuses (`played-refused`), where this partition is
+-- refused 11 or 12 (`played-late`), and where all is filled (`played_complete`). The answer follows the chain of checks, and each list at exit is what the
+-- request says for that number. Assumes nothing.
 use Prim.Native.Nat.{ℕ, zero, suc, ◌*◌, ◌/◌, ◌≤◌}
 use native.Mathlib.Omega.{arith}
 use mathlib.Core.Path.{◌≡◌, refl, sym, ap, ap₂, subst, ◌∙◌}

@@ -1,5 +1,5 @@
--- The second partition, once the first one's lists are cleared: it is not refused (`not-refused`), since there are no more regions and pairs than in the first, and so
--- its lists are those of the kept graph (`kept-ready`). Assumes what `divide_kept` asks (`Divides`).
+-- The second partition, once the first one's lists are cleared: it is not refused (`not-refused`), since there are no more regions and pairs than in the
+-- first, and so its lists are those of the kept graph (`kept-ready`). Assumes what `divide_kept` asks (`Divides`).
 use Prim.Native.Nat.{ℕ, ◌*◌, ◌/◌, ◌≤◌}
 use native.Mathlib.Omega.{arith}
 use mathlib.Core.Path.{◌≡◌, sym, ap, ap₂, subst, ◌∙◌}
@@ -31,6 +31,7 @@ use Rattle.call_partition.specs.Prepared.{PreparedAs, DividedAs}
 use Rattle.call_partition.proofs.EarlyFits.{early-fits}
 use Rattle.call_partition.proofs.Exits.{verdict-kept}
 use Rattle.rest.specs.FlatLists.{flat_spans, flat_boundaries}
+use Rattle.rest_lists.proofs.Inner.{zeroed-length}
 use Rattle.boundary_blocks.specs.Blocks.{left_blocks}
 use Rattle.game_calls.specs.KeptGraph.{graph_map}
 use Rattle.game_calls.specs.SecondPartition.{second-records, second-pairs}
@@ -63,6 +64,13 @@ module _ (L : Lent) {removed : List Bool} {rows room : ℕ} {l m q t p : List �
   pairs-room =
       let lent = length L.pairs / 3 * 3 in
       omega (arith, leb-true (length (pair_rows_of (context_of M))) lent (no_fault_lem (leb (length (pair_rows_of (context_of M))) lent) 0 D.accepted.pairs), D.row_count_lem, D.pairs_long)
+
+  -- cleared so far they are as long as they were
+  pub tallies-cleared : length (zeroed (2 * spans) t) ≡ length t
+  tallies-cleared = zeroed-length _ _ tallies-room
+
+  pub pairs-cleared : length (zeroed (3 * rows) p) ≡ length p
+  pairs-cleared = zeroed-length _ _ pairs-room
 
   pub spans-room : (length L.spans ≤ 1024) × (spans ≤ 256)
   spans-room = (spans-long L D.accepted D.lists, spans-few L D.accepted D.lists)

@@ -1,5 +1,6 @@
--- The spans that the marks leave, in a flat list, are those of the kept graph (`left-spans`), as many as its numbers (`left_count_lem`); and a call with these lists passes
--- every check before 11 (`second-early`). Assumes that a call of a pass is accepted, that 16 does not refuse it, and that the marks say what its pass removes.
+-- The spans that the marks leave, in a flat list, are those of the kept graph (`left-spans`), as many as its numbers (`left_count_lem`); and a call with these
+-- lists passes every check before 11 (`second-early`). Assumes that a call of a pass is accepted, that 16 does not refuse it, and that the marks say what its
+-- pass removes.
 use Prim.Native.Nat.{ℕ, zero, suc, ◌+◌, ◌*◌, ◌/◌, ◌%◌, ◌≤◌, ◌<◌}
 use native.Mathlib.Omega.{arith}
 use mathlib.Core.Path.{◌≡◌, refl, sym, ap, ap₂, ◌∙◌}

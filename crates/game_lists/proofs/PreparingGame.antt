@@ -1,7 +1,7 @@
 -- The contract of the first part of the call (`GamePreparedAs`), from what its checks and its partition answer. Assumes nothing.
 use Prim.Native.Nat.{ℕ}
 use mathlib.Core.Path.{◌≡◌, sym, ap₂, ◌∙◌}
-use Rattle.std.specs.Prelude.{None, Some, Result, Ok, Err}
+use Rattle.std.specs.Prelude.{None, Some, Ok, Err}
 use mathlib.Core.List.{List}
 use lib.ListN.{length}
 use Rattle.areas.specs.Fit.{Fit}

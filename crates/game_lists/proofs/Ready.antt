@@ -1,5 +1,5 @@
--- What a call that is ready (`GameReady`) and the second partition's rows of pairs say, as the end of the call asks it: no check before the first partition refuses
--- (`ready-early`), and the graph of the rows is the kept graph (`kept-edges`). Assumes nothing.
+-- What a call that is ready (`GameReady`) and the second partition's rows of pairs say, as the end of the call asks it: no check before the first partition
+-- refuses (`ready-early`), and the graph of the rows is the kept graph (`kept-edges`). Assumes nothing.
 use Prim.Native.Nat.{ℕ, ◌+◌, ◌*◌, ◌/◌, ◌≤◌}
 use native.Mathlib.Omega.{arith}
 use mathlib.Core.Path.{◌≡◌, sym, ap, ◌∙◌}

@@ -34,8 +34,8 @@ abbrev pub lent_of : ℕ → ℕ → List ℕ → List ℕ → Source → Lent
 lent_of w h cells spans S =
     given S.pass w h cells spans S.boundaries S.anchors S.labels S.masks S.queue S.tallies S.pairs S.records S.output
 
--- The call L is accepted, 16 does not refuse it, and the marks say what its pass removes; its map has so many rows of pairs. The lists to fill are as long as those
--- lent to it, and there is as much room for records.
+-- The call L is accepted, 16 does not refuse it, and the marks say what its pass removes; its map has so many rows of pairs. The lists to fill are as long as
+-- those lent to it, and there is as much room for records.
 pub record Divides (L : Lent) (removed : List Bool) (rows room : ℕ) (l m q t p : List ℕ) : Type 0 where
   pub accepted : Accepted L
   pub lists : lists_fault L.spans L.boundaries ≡ None
@@ -48,8 +48,8 @@ pub record Divides (L : Lent) (removed : List Bool) (rows room : ℕ) (l m q t p
   pub tallies_long : length t ≡ length L.tallies
   pub pairs_long : length p ≡ length L.pairs
 
--- Labels, tallies and pairs are those of the kept graph; beyond them, as far as the first partition filled, zero. The queue has the stretches, from the first cell on;
--- masks and queue are written over the needed length alone.
+-- Labels, tallies and pairs are those of the kept graph; beyond them, as far as the first partition filled, zero. The queue has the stretches, from the first
+-- cell on; masks and queue are written over the needed length alone.
 pub record DividedKept (L : Lent) (l m q t p : List ℕ) (r : Ready) (l' m' q' t' p' : List ℕ) : Type 0 where
   pub count : r.regions ≡ region_count (graph_map L.pass (map_in L))
   pub row_count_lem : numbers_per_pair * r.rows ≡ length (pair_rows_of (context_of (graph_map L.pass (map_in L))))

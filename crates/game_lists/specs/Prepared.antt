@@ -1,5 +1,5 @@
--- What the first part of the call leaves, before its records are filled: the whole contract where it refuses, and otherwise what the rest goes on from. Definitions
--- only; assumes nothing.
+-- What the first part of the call leaves, before its records are filled: the whole contract where it refuses, and otherwise what the rest goes on from.
+-- Definitions only; assumes nothing.
 use Rattle.std.specs.Prelude.{ℕ, ◌≤◌, ◌≡◌, List, length, None, Result, Ok, Err}
 use Rattle.definitions.specs.RegionRecord.{Region}
 use Rattle.refusals.specs.declared.Refusal.{Refusal}

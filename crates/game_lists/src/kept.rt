@@ -6,17 +6,13 @@ ghost use Rattle.areas.specs.Lists.{of_lists, SameLists};
 ghost use Rattle.game_lists.specs.Kept.{Source, lent_of, Divides, DividedKept};
 
 use areas::lists::PartitionLists;
-use areas::scratch::clear_assessed;
 use boundary_blocks::blocks::{copy_block, keep_blocks};
-use call_partition::{Ready, divide};
+use call_partition::{Ready, redivide};
 use definitions::limits::{MAX_ENTRIES, NUMBERS_PER_PAIR, NUMBERS_PER_SPAN, TALLIES_PER_SPAN};
 use grid_steps::grid::TerrainGrid;
 
-// As many numbers as the spans of a call at most are.
-const SPANS_LONG: usize = NUMBERS_PER_SPAN * MAX_ENTRIES;
-
 // The spans that are not removed, in list order, and how many there are.
-fn kept_spans(spans: &[u64], removed: &[bool; 256], kept: &mut [u64]) -> usize
+fn kept_spans(spans: &[u64], removed: &[bool; MAX_ENTRIES], kept: &mut [u64]) -> usize
     requires { (length spans.now ≤ length kept.old) × (length spans.now / numbers_per_span ≤ max_entries) }
     ensures answer { result ≡ left_count removed.now (length spans.now / numbers_per_span) }
     ensures kept { take (numbers_per_span * result) kept.new
@@ -32,7 +28,7 @@ fn kept_spans(spans: &[u64], removed: &[bool; 256], kept: &mut [u64]) -> usize
 pub fn divide_kept(
     grid: TerrainGrid,
     spans: &[u64],
-    removed: &[bool; 256],
+    removed: &[bool; MAX_ENTRIES],
     rows: usize,
     room: usize,
     lists: &mut PartitionLists,
@@ -43,11 +39,10 @@ pub fn divide_kept(
         → of_lists (of_lists (DividedKept (lent_of grid.entry.width grid.entry.height grid.entry.cells.now spans.now S)) lists.old result) lists.new }
     ensures same { SameLists lists.old lists.new }
 {
-    let mut kept = [0u64; SPANS_LONG];
+    let mut kept = [0u64; NUMBERS_PER_SPAN * MAX_ENTRIES];
     let count = kept_spans(spans, removed, &mut kept);
     let end = NUMBERS_PER_SPAN * count;
     let filled = TALLIES_PER_SPAN * (spans.len() / NUMBERS_PER_SPAN);
     let paired = NUMBERS_PER_PAIR * rows;
-    clear_assessed(lists.tallies, lists.pairs, filled, paired);
-    divide(grid, &kept[..end], room, lists).unwrap()
+    redivide(grid, &kept[..end], filled, paired, room, lists).unwrap()
 }

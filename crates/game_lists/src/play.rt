@@ -1,15 +1,11 @@
 // The game on the kept graph: refusals 23 and 24, and the verdicts.
 ghost use Rattle.std.specs.Prelude.{◌≡◌, ◌*◌, ◌≤◌, length};
 ghost use Rattle.definitions.specs.Limits.{numbers_per_pair};
-ghost use Rattle.definitions.specs.Refusals.{or_else};
-ghost use Rattle.definitions.specs.Verdict.{refusal};
-ghost use Rattle.refusals.specs.Refusals.{refusal_in};
-ghost use Rattle.game.specs.Graph.{graph_of, edges_in, verdicts_room, graph_fault, goal_fault, verdicts_at_exit};
+ghost use Rattle.game.specs.Graph.{graph_of, edges_in, verdicts_room, verdicts_at_exit};
 ghost use Rattle.game_lists.specs.Forms.{answer_in, game_answer_of, late_answer};
 
-use game_sets::board::MAX_REGIONS;
-use game_solver::solve_rows;
-use refusals::{Cause, Refusal, ensure};
+use game_solver::{check_graph, solve_rows};
+use refusals::Refusal;
 
 // How many rows are kept, and the regions of the kept graph.
 #[derive(Clone, Copy)]
@@ -47,14 +43,6 @@ impl From<Result<GameKept, Refusal>> for GameAnswer {
     }
 }
 
-// 23 and 24.
-fn check_game(regions: usize, goal: u64) -> Result<(), Refusal>
-    ensures { refusal_in result ≡ or_else (refusal 23 (graph_fault regions)) (refusal 24 (goal_fault regions goal)) }
-{
-    ensure(regions <= MAX_REGIONS, Cause::Graph)?;
-    ensure((1 <= goal) & (goal <= regions as u64), Cause::Goal)
-}
-
 // Plays on the graph of `count` rows of pairs.
 pub fn play(
     kept: usize,
@@ -69,7 +57,7 @@ pub fn play(
     ensures verdicts { verdicts.new
         ≡ verdicts_at_exit (graph_of regions (edges_in rows.now count) goal) verdicts.old (game_answer_of result).number }
 {
-    check_game(regions, goal)?;
+    check_graph(regions as u64, goal)?;
     solve_rows(regions, rows, count, goal as usize, verdicts);
     Ok(GameKept { kept, regions })
 }

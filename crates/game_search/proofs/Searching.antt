@@ -1,6 +1,6 @@
--- The loop of the search. Its invariant (`Searched`): after k sweeps the sets have just the places found so far, which are won within k - 1 moves, and each of these has one more
--- than its fewest moves as its rank. Where a sweep changes no set, nothing is found ever after; and after as many sweeps as the search has, nothing either.
--- Assumes nothing.
+-- The loop of the search. Its invariant (`Searched`): after k sweeps the sets have just the places found so far, which are won within k - 1 moves, and each of
+-- these has one more than its fewest moves as its rank. Where a sweep changes no set, nothing is found ever after; and after as many sweeps as the search has,
+-- nothing either. Assumes nothing.
 use Prim.Native.Nat.{ℕ, zero, suc, ◌+◌, ◌-◌, ◌*◌, ◌/◌, ◌%◌, ◌≤◌, ◌<◌}
 use native.Mathlib.Omega.{arith}
 use native.Mathlib.Nat.{mul-le-mul}

@@ -1,5 +1,5 @@
--- A sweep over sets is a sweep of the search: where the sets have just the places that pass f, the new ones have just those that pass after one move more. Regions
--- of the game are 1 to R, bits are from 0: a scan over the regions is the scan over the bits moved by one. Assumes nothing.
+-- A sweep over sets is a sweep of the search: where the sets have just the places that pass f, the new ones have just those that pass after one move more.
+-- Regions of the game are 1 to R, bits are from 0: a scan over the regions is the scan over the bits moved by one. Assumes nothing.
 use Prim.Native.Nat.{ℕ, zero, suc, ◌+◌, ◌-◌, ◌≤◌, ◌<◌}
 use native.Mathlib.Omega.{arith}
 use mathlib.Core.Path.{◌≡◌, refl, sym, ap, ap₂, ◌∙◌}

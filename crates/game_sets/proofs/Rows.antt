@@ -1,14 +1,16 @@
 -- The loops of a row: one of the runner's, and one of the guard's. Each invariant says what is done so far. Assumes nothing.
 use Prim.Native.Nat.{ℕ, suc, ◌+◌, ◌≤◌, ◌<◌}
 use native.Mathlib.Omega.{arith}
-use mathlib.Core.Path.{◌≡◌, refl, ap, ◌∙◌}
+use mathlib.Core.Path.{◌≡◌, refl, sym, ap, ◌∙◌}
 use mathlib.Core.Bool.{Bool, true, false, not, ◌&&◌, ◌||◌}
 use mathlib.Core.List.{List}
+use lib.Bits.{bit_and}
 use lib.Dec.{eqb, ltb}
-use borrow.Author.Tests.{not-true}
+use borrow.Author.Tests.{not-true, eq-eqb, ne_eqb}
 use Rattle.definitions.specs.Scan.{all_below}
 use Rattle.definitions.specs.RegionRecord.{has_bit}
 use Rattle.laws.specs.ListLaws.Below.{all_below_at}
+use Rattle.game_sets.proofs.Bits.{and_bit, and_none}
 use Rattle.game_sets.specs.Words.{bit_at, runner_bit, guard_bit}
 
 pub zero_bit : (j : ℕ) → j < 32 → has_bit 0 j ≡ false
@@ -48,6 +50,24 @@ guard_more near regions sets g d row row' on R l e h =
   where
     next : suc d ≡ d + 1
     next = omega arith
+
+-- what a turn puts, where a step leads there and where none does
+pub with-set : (row row' set j : ℕ) (on : Bool) → on ≡ true → row' ≡ bit_and row set → has_bit row' j ≡ (has_bit row j && (not on || has_bit set j))
+with-set row row' set j on t e = ap (λ r. has_bit r j) e ∙ and_bit row set j ∙ ap (λ b. has_bit row j && (not b || has_bit set j)) (sym t)
+
+pub without-set : (row row' set j : ℕ) (on : Bool) → on ≡ false → row' ≡ row → has_bit row' j ≡ (has_bit row j && (not on || has_bit set j))
+without-set row row' set j on f e = ap (λ r. has_bit r j) e ∙ and_none (has_bit row j) ∙ ap (λ b. has_bit row j && (not b || has_bit set j)) (sym f)
+
+-- the goal is put where the guard is not
+pub goal-held : (row g goal j : ℕ) → g ≡ goal → has_bit row j ≡ (has_bit row j || (not (eqb g goal) && eqb j goal))
+goal-held row g goal j e = or_none (has_bit row j) ∙ ap (λ b. has_bit row j || (not b && eqb j goal)) (sym (eq-eqb g goal e))
+  where
+    or_none : (b : Bool) → b ≡ (b || false)
+    or_none true = refl
+    or_none false = refl
+
+pub goal-free : (row row' g goal j : ℕ) → (g ≡ goal → ⊥) → has_bit row' j ≡ (has_bit row j || eqb j goal) → has_bit row' j ≡ (has_bit row j || (not (eqb g goal) && eqb j goal))
+goal-free row row' g goal j f e = e ∙ ap (λ b. has_bit row j || (not b && eqb j goal)) (sym (ne_eqb g goal f))
 
 pub guard-ends : (near : List ℕ) (regions goal : ℕ) (sets : List ℕ) (g d row row' : ℕ) → GuardRow near regions sets g d row → regions ≤ d
     → ((j : ℕ) → j < 32 → has_bit row' j ≡ (has_bit row j || (not (eqb g goal) && eqb j goal))) → (j : ℕ) → j < 32 → has_bit row' j ≡ guard_bit near regions goal sets g j

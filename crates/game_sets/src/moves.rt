@@ -4,7 +4,7 @@ ghost use Rattle.definitions.specs.RegionRecord.{has_bit};
 ghost use Rattle.game_sets.specs.Words.{runner_bit, guard_bit};
 
 use crate::board::{Board, MAX_REGIONS};
-use crate::sets::{common_if, has, meet, with_if};
+use crate::sets::{has, meet, with};
 
 impl Board {
     // Whether the runner on r + 1, himself to move and the guard on g + 1, has won or gets into the set.
@@ -22,7 +22,9 @@ impl Board {
     {
         let mut row = 0;
         for r in 0..self.regions {
-            row = with_if(row, r, self.runner_wins(set, g, r));
+            if self.runner_wins(set, g, r) {
+                row = with(row, r);
+            }
         }
         row
     }
@@ -34,8 +36,13 @@ impl Board {
     {
         let mut row = u32::MAX;
         for (d, &set) in sets[..self.regions].iter().enumerate() {
-            row = common_if(row, set, has(self.near[g], d));
+            if has(self.near[g], d) {
+                row &= set;
+            }
         }
-        with_if(row, self.goal, g != self.goal)
+        if g == self.goal {
+            return row;
+        }
+        with(row, self.goal)
     }
 }

@@ -1,4 +1,5 @@
--- Verdicts from the ranks: which region serves, the least of them, the verdict of a place, and the verdicts of all places one behind the other. Assumes nothing.
+-- Verdicts from the ranks: which region serves, the least of them, the verdict of a place, and the verdicts of all places one behind the other. Assumes
+-- nothing.
 use Prim.Native.Nat.{ℕ, zero, suc, ◌+◌, ◌-◌, ◌*◌, ◌/◌, ◌%◌, ◌≤◌, ◌<◌}
 use native.Mathlib.Omega.{arith}
 use native.Mathlib.Nat.{le_refl, mul-le-mul, div-lt_iff_lt-mul, mod-lt}

@@ -188,6 +188,7 @@ pub fn put_verdicts(board: &Board, ranks: &[u32; RANKS], verdicts: &mut [u32])
     let ranked = RankedBoard { board, ranks };
     let regions = board.regions;
     let count = 2 * (regions * regions);
+    // Kept: a place is told by its number c, and of a list that `chunks_exact_mut` lends in parts a proof knows no element behind the loop.
     for c in 0..count {
         put_verdict(verdicts, 3 * c, ranked.verdict_at(place_at(regions, c)));
     }

@@ -5,7 +5,7 @@ ghost use Rattle.refusals.specs.Answers.{answer_in};
 
 use refusals::answers::Answer;
 
-// For other languages too: include/jenwyllt.h declares it as jenwyllt_solve_game.
+// Runner and guard on a graph whose edges are pairs of regions.
 #[unsafe(no_mangle)]
 pub extern "C" fn jenwyllt_solve_game(
     regions: u64,

@@ -1,4 +1,5 @@
-// The library as C sees it: each function that C calls, with the contract of the function that it calls. Nothing is decided here; include/jenwyllt.h declares them.
+// The library as C sees it: each function that C calls, with the contract of the function that it calls. Nothing is decided here. include/jenwyllt.h declares
+// them under the same names.
 
 #![tactic(auto)]
 

@@ -4,7 +4,7 @@ ghost use Rattle.result_reader.specs.Contract.{Reads};
 
 use result_reader::ResultAnswer;
 
-// Reads a sheet of kind 2 into the lists. For other languages too: include/jenwyllt.h declares it as jenwyllt_read_result.
+// Reads a sheet of kind 2 into the lists.
 #[unsafe(no_mangle)]
 pub extern "C" fn jenwyllt_read_result(
     bytes: &[u8],

@@ -6,7 +6,7 @@ ghost use Rattle.result_writer.specs.Contract.{result_in};
 
 use refusals::answers::Answer;
 
-// Writes what a run found as a sheet of kind 2. For other languages too: include/jenwyllt.h declares it as jenwyllt_write_result.
+// Writes what a run found as a sheet of kind 2.
 #[unsafe(no_mangle)]
 pub extern "C" fn jenwyllt_write_result(
     regions: u64,

@@ -5,7 +5,7 @@ ghost use Rattle.refusals.specs.Answers.{answer_in};
 
 use refusals::answers::Answer;
 
-// The separations of each two of these boundaries, on a map of these sides. For other languages too: include/jenwyllt.h declares it as jenwyllt_separations.
+// The separations of each two of these boundaries, on a map of these sides.
 #[unsafe(no_mangle)]
 pub extern "C" fn jenwyllt_separations(
     width: u64,

@@ -5,7 +5,7 @@ ghost use Rattle.map_sheets.specs.Converting.{Converts};
 
 use refusals::answers::Answer;
 
-// Converts a sheet of kind 1 to kind 3. For other languages too: include/jenwyllt.h declares it as jenwyllt_convert_sheet.
+// Converts a sheet of kind 1 to kind 3.
 #[unsafe(no_mangle)]
 pub extern "C" fn jenwyllt_convert_sheet(bytes: &[u8], out: &mut [u8]) -> Answer
     ensures { Converts bytes.now out.old (answer_in result) out.new }

@@ -5,7 +5,7 @@ ghost use Rattle.refusals.specs.Answers.{answer_in};
 
 use refusals::answers::Answer;
 
-// Writes a map as a sheet of kind 3. For other languages too: include/jenwyllt.h declares it as jenwyllt_write_sheet.
+// Writes a map as a sheet of kind 3.
 #[unsafe(no_mangle)]
 pub extern "C" fn jenwyllt_write_sheet(
     pass: u64,

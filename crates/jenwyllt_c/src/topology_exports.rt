@@ -23,7 +23,8 @@ use report_figures::{Report, Reported};
 use topology::to_rest::RestAnswer;
 use topology::two_desks::DesksAnswer;
 
-// For callers in any language.
+// A pass, the partition by what it keeps, and the game on the kept graph.
+// Kept: C lends its lists one by one, here and below. A function that put them into `Asked` and `PartitionLists` would be lent the same nine lists.
 #[unsafe(no_mangle)]
 pub extern "C" fn jenwyllt_runner_and_guard(
     pass: u64,
@@ -70,7 +71,7 @@ pub extern "C" fn jenwyllt_runner_and_guard(
     ))
 }
 
-// The call that runs a pass (SPECIFICATION 3), for callers in any language.
+// The call that runs a pass (SPECIFICATION 3).
 #[unsafe(no_mangle)]
 pub extern "C" fn jenwyllt_kept_boundaries(
     pass: u64,
@@ -201,7 +202,7 @@ pub extern "C" fn jenwyllt_report_run(
     topology::runs::topology_report_run(report, pass, asked, &mut lists, records, output)
 }
 
-// The call, for callers in any language.
+// The call that runs the passes to rest.
 #[unsafe(no_mangle)]
 pub extern "C" fn jenwyllt_run_to_rest(
     width: u64,
@@ -242,7 +243,7 @@ pub extern "C" fn jenwyllt_run_to_rest(
     RestAnswer::from(topology::to_rest::topology_run_to_rest(asked, &mut lists, records, output))
 }
 
-// The call for two desks, for callers in any language. The records are filled from the queue before the desks work in it.
+// The call for two desks. The records are filled from the queue before the desks work in it.
 #[unsafe(no_mangle)]
 pub extern "C" fn jenwyllt_two_desks(
     order: u64,

@@ -1,5 +1,5 @@
--- What the checks that let a call pass say of its map, once it is prepared (`ReadyAs`): all that the table of refusals tells of an accepted call (AcceptedCalls, Accepted), since
--- no check refuses it, neither 11 nor 12, with records and output of the lengths lent. Assumes nothing.
+-- What the checks that let a call pass say of its map, once it is prepared (`ReadyAs`): all that the table of refusals tells of an accepted call
+-- (AcceptedCalls, Accepted), since no check refuses it, neither 11 nor 12, with records and output of the lengths lent. Assumes nothing.
 use Prim.Native.Nat.{ℕ, ◌+◌, ◌*◌, ◌/◌, ◌%◌, ◌≤◌, ◌<◌}
 use native.Mathlib.Omega.{arith}
 use mathlib.Core.Path.{◌≡◌, sym, ap, ◌∙◌}

@@ -1,5 +1,5 @@
--- The contract of the call once its pass has marked what it removes: the rows of the boundaries without a mark are the pass's, and with the records filled every list is as the table
--- says of success. Where spans and boundaries differ in number no mark is set. Assumes nothing.
+-- The contract of the call once its pass has marked what it removes: the rows of the boundaries without a mark are the pass's, and with the records filled
+-- every list is as the table says of success. Where spans and boundaries differ in number no mark is set. Assumes nothing.
 use Prim.Native.Nat.{ℕ, ◌*◌, ◌/◌, ◌<◌}
 use native.Mathlib.Omega.{arith}
 use mathlib.Core.Path.{◌≡◌, sym, ap, ap₂, ◌∙◌}
@@ -72,8 +72,8 @@ module _ (pass w h : ℕ) (cells spans boundaries anchors : List ℕ) where
 
 module _ {pass w h : ℕ} {cells spans boundaries anchors : List ℕ} {room output : ℕ} {l m q t p : List ℕ} {regions rows : ℕ} {l' m' q' t' p' : List ℕ}
     (R : ReadyAs pass w h cells spans boundaries anchors room output l m q t p regions rows l' m' q' t' p') where
-  -- Records s and output o were lent. Masks and queue have become m₂ and q₂ since they were prepared, over the needed length alone, and `finish` has marks that say what the
-  -- pass removes.
+  -- Records s and output o were lent. Masks and queue have become m₂ and q₂ since they were prepared, over the needed length alone, and `finish` has marks
+  -- that say what the pass removes.
   pub ran-kept : (s : List Region) (o : List ℕ) {removed : List Bool} {m₂ q₂ m₃ q₃ o₃ : List ℕ} {s' : List Region} {n : ℕ} → length s ≡ room → length o ≡ output
       → s' ≡ overwrite (records_of (context_of (map_of w h cells spans boundaries anchors))) s → drop (h * w) m₂ ≡ drop (h * w) m' → drop (h * w) q₂ ≡ drop (h * w) q'
       → Marked pass (map_of w h cells spans boundaries anchors) removed → Finished (h * w) (length boundaries / numbers_per_boundary) boundaries removed m₂ q₂ o m₃ q₃ o₃ n

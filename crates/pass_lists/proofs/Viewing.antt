@@ -1,5 +1,5 @@
--- What the parts of `view` ask holds of the partitioned lists, and what they leave shows the context: marks and counts are made from zeros, by ones alone in the marks. Both,
--- and the zeros, reach no further than there are regions, of which a map has no more than cells. Assumes nothing.
+-- What the parts of `view` ask holds of the partitioned lists, and what they leave shows the context: marks and counts are made from zeros, by ones alone in
+-- the marks. Both, and the zeros, reach no further than there are regions, of which a map has no more than cells. Assumes nothing.
 use Prim.Native.Nat.{ℕ, zero, suc, ◌+◌, ◌-◌, ◌*◌, ◌/◌, ◌≤◌, ◌<◌}
 use native.Mathlib.Omega.{arith}
 use mathlib.Core.Path.{◌≡◌, refl, sym, ap, ◌∙◌, subst}

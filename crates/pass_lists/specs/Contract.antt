@@ -12,8 +12,8 @@ use Rattle.context.specs.Anchors.{anchor_cell, anchor_cells}
 use Rattle.context.specs.Rows.{PairRows}
 use Rattle.context.specs.Shown.{ShownTallies, ShownPairs, ShownFullPairs, ShownAnchored, ShownIncidents}
 
--- The lists are those of map M as the partition left them: its labels, tallies and rows of pairs, and its anchors as lent. Masks and queue, of these lengths, have room
--- for each cell.
+-- The lists are those of map M as the partition left them: its labels, tallies and rows of pairs, and its anchors as lent. Masks and queue, of these lengths,
+-- have room for each cell.
 pub record Partitioned (M : Map) (w needed : ℕ) (labels anchors : List ℕ) (regions rows count : ℕ) (tallies pairs : List ℕ) (masks queue : ℕ) : Type 0 where
   pub narrow : w ≤ max_side
   pub cells : needed ≡ cell_count M

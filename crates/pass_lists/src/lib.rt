@@ -12,6 +12,7 @@ use areas::scratch::clear_scratch;
 use context::PartitionContext;
 use context::anchored::mark_anchored;
 use context::pairs::{Pair, pair_starts};
+use definitions::limits::MAX_ENTRIES;
 use rows::canonical_output;
 
 // A partitioned map as a pass is given it. The boundaries and anchors are as lent: `needed` cells in rows of `width`, `count` spans, and of these `rows` rows
@@ -36,8 +37,8 @@ pub fn view(
     partition: SpanPartition,
     masks: &mut [u16],
     queue: &mut [u32],
-    starts: &mut [usize; 257],
-    full: &mut [Option<Pair>; 256],
+    starts: &mut [usize; MAX_ENTRIES + 1],
+    full: &mut [Option<Pair>; MAX_ENTRIES],
 )
     requires partitioned { (M : Map) × ShowsMap M partition (length masks.old) (length queue.old) }
     requires room { (length starts.old ≡ max_entries + 1) × (length full.old ≡ max_entries) }
@@ -60,11 +61,13 @@ pub fn view(
 }
 
 // Clears masks and queue, writes the rows of the `count` boundaries that are not removed, and gives how many there are.
+// Never put into its caller: the rows that are sorted here, 10 KiB, would stand on the stack beside the lists of the pass.
+#[inline(never)]
 pub fn finish(
     needed: usize,
     count: usize,
     boundaries: &[u64],
-    removed: &[bool; 256],
+    removed: &[bool; MAX_ENTRIES],
     masks: &mut [u16],
     queue: &mut [u32],
     output: &mut [u64],

@@ -1,5 +1,6 @@
--- A run before its first pass. Where a check before 11 refuses, the answer is the run's and every list is as it was (`refused-early`). Where none does, the first partition is that of the
--- starting map: its refusals 11 and 12 are the run's (`refused-late`), and where it is ready the run is accepted (`begun-ready`). Assumes nothing.
+-- A run before its first pass. Where a check before 11 refuses, the answer is the run's and every list is as it was (`refused-early`). Where none does, the
+-- first partition is that of the starting map: its refusals 11 and 12 are the run's (`refused-late`), and where it is ready the run is accepted
+-- (`begun-ready`). Assumes nothing.
 use Prim.Native.Nat.{ℕ, ◌*◌, ◌/◌, ◌%◌, ◌≤◌}
 use native.Mathlib.Omega.{arith}
 use mathlib.Core.Path.{◌≡◌, refl, sym, ap, subst, ◌∙◌}

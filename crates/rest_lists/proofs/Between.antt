@@ -1,6 +1,6 @@
--- What stands between the passes (`KeptLists`), through a turn: before the first pass (`kept-starts`), behind a pass that removes none (`kept-still`), and behind one that removes some, once what is
--- left is divided again (`kept_again`; `kept_divides` has what that asks). Each list is then the partition's data over the list as lent, since clearing forgets what earlier passes wrote and
--- beyond what is cleared no pass writes. Assumes nothing.
+-- What stands between the passes (`KeptLists`), through a turn: before the first pass (`kept-starts`), behind a pass that removes none (`kept-still`), and
+-- behind one that removes some, once what is left is divided again (`kept_again`; `kept_divides` has what that asks). Each list is then the partition's data
+-- over the list as lent, since clearing forgets what earlier passes wrote and beyond what is cleared no pass writes. Assumes nothing.
 use Prim.Native.Nat.{ℕ, ◌*◌, ◌/◌, ◌≤◌}
 use native.Mathlib.Omega.{arith}
 use mathlib.Core.Path.{◌≡◌, refl, sym, ap, subst, ◌∙◌}

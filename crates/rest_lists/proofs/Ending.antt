@@ -1,4 +1,5 @@
--- The end of a run: from what stands once the passes have come to rest, with masks and queue cleared and the rows written, its contract (`rest-ran`). Assumes nothing.
+-- The end of a run: from what stands once the passes have come to rest, with masks and queue cleared and the rows written, its contract (`rest-ran`). Assumes
+-- nothing.
 use Prim.Native.Nat.{ℕ, ◌*◌, ◌/◌, ◌≤◌}
 use native.Mathlib.Omega.{arith}
 use mathlib.Core.Path.{◌≡◌, refl, sym, ap, ap₂, ◌∙◌}

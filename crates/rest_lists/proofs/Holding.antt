@@ -1,5 +1,5 @@
--- What is kept, through a pass: the blocks that a pass leaves are those of the places that it leaves (`kept-left`), and there are as many (`left_count_lem`). The starting list has the blocks
--- of all places (`start-held`), and at the end the rows read from the lists are the run's (`rows-kept`). Assumes nothing.
+-- What is kept, through a pass: the blocks that a pass leaves are those of the places that it leaves (`kept-left`), and there are as many (`left_count_lem`).
+-- The starting list has the blocks of all places (`start-held`), and at the end the rows read from the lists are the run's (`rows-kept`). Assumes nothing.
 use Prim.Native.Nat.{ℕ, zero, suc, ◌+◌, ◌*◌, ◌/◌, ◌≤◌, ◌<◌}
 use native.Mathlib.Omega.{arith}
 use native.Mathlib.Nat.{mul-suc, mul-zero}

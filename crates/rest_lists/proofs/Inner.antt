@@ -1,6 +1,6 @@
--- The partitions of a run, in flat lists: no check before 11 refuses them (`inner-early`), so that `divide` can be called; those behind the first are not refused at all, and are ready
--- (`redivided`). Assumes that the run is accepted.
-use Prim.Native.Nat.{ℕ, ◌*◌, ◌/◌, ◌^◌, ◌≤◌, ◌<◌}
+-- The partitions of a run, in flat lists: no check before 11 refuses them (`inner-early`), so that `divide` can be called; those behind the first are not
+-- refused at all, and are ready (`redivided`). Assumes that the run is accepted.
+use Prim.Native.Nat.{ℕ, ◌*◌, ◌/◌, ◌≤◌}
 use native.Mathlib.Omega.{arith}
 use mathlib.Core.Path.{◌≡◌, refl, sym, ap, subst, ◌∙◌}
 use mathlib.Core.Bool.{◌&&◌}
@@ -121,6 +121,13 @@ module _ {w h : ℕ} {cells anchors : List ℕ} {O : Origin} {s : List Region} {
   pairs-fit =
       let n = length (pair_rows_of (context_of (start_map M))) in
       omega (arith, leb-true n (length O.pairs / 3 * 3) (no_fault_lem (leb n (length O.pairs / 3 * 3)) 0 D.accepted.pairs), D.firsts.rows, D.pairs)
+
+  -- cleared so far they are as long as they were
+  pub tallies-cleared : length (zeroed (2 * first.kept) t) ≡ length t
+  tallies-cleared = zeroed-length _ _ tallies-fit
+
+  pub pairs-cleared : length (zeroed (3 * first.rows) p) ≡ length p
+  pairs-cleared = zeroed-length _ _ pairs-fit
 
   pub spans_fit : 4 * kept ≤ length spans
   spans_fit = omega (arith, begins-long (ends_block M) 4 (λ x. refl) D.ended, D.count)

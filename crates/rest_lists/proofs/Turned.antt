@@ -1,5 +1,6 @@
--- The turns of a run: before each the passes stand as `Turning` says, and behind the third quiet pass in a row the run has come to rest (`TurnsAt`). A turn keeps this (`turns_next`), by the
--- laws of `Turning`: a pass that removes some begins the count of quiet ones anew, and behind pass 3 the next round begins. Assumes at most 256 boundaries.
+-- The turns of a run: before each the passes stand as `Turning` says, and behind the third quiet pass in a row the run has come to rest (`TurnsAt`). A turn
+-- keeps this (`turns_next`), by the laws of `Turning`: a pass that removes some begins the count of quiet ones anew, and behind pass 3 the next round begins.
+-- Assumes at most 256 boundaries.
 use Prim.Native.Nat.{ℕ, zero, suc, ◌+◌, ◌≤◌, ◌<◌}
 use native.Mathlib.Omega.{arith}
 use lib.Arith.{lt_of_le-ne}

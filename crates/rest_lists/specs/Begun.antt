@@ -11,7 +11,8 @@ use Rattle.rest.specs.InnerCalls.{RestAccepted}
 use Rattle.rest.specs.RestCalls.{RestRan}
 use Rattle.rest_lists.specs.Kept.{Holds, ReadyOf, all_places}
 
--- The run is accepted, with whatever records and output of these lengths; the partition of its starting map is ready, and numbers n, spans b and boundaries d hold all its places.
+-- The run is accepted, with whatever records and output of these lengths; the partition of its starting map is ready, and numbers n, spans b and boundaries d
+-- hold all its places.
 pub record Begun (w h : ℕ) (cells spans boundaries anchors : List ℕ) (room output : ℕ) (l m q t p : List ℕ) (regions rows : ℕ) (l' m' q' t' p' n b d : List ℕ) : Type 0 where
   pub accepted : (s : List Region) (o : List ℕ) → length s ≡ room → length o ≡ output → RestAccepted (given 1 w h cells spans boundaries anchors l m q t p s o)
   pub ready : ReadyOf w h cells anchors (start_map (map_of w h cells spans boundaries anchors)) room l m q t p regions rows l' m' q' t' p'

@@ -1,4 +1,5 @@
--- What a run to rest keeps between its passes, over plain lists: the boundaries still kept, and the counts of their partition. Definitions only; assumes nothing.
+-- What a run to rest keeps between its passes, over plain lists: the boundaries still kept, and the counts of their partition. Definitions only; assumes
+-- nothing.
 use Rattle.std.specs.Prelude.{ℕ, ◌*◌, ◌≡◌, List, [], ◌∷◌, ◌++◌, length, get_or, drop}
 use Rattle.definitions.specs.Limits.{numbers_per_pair}
 use Rattle.definitions.specs.Scan.{concat_map, run}
@@ -83,8 +84,8 @@ ReadyOf w h cells anchors K room = ReadyAs 1 w h cells (flat_spans K.spans) (fla
 
 -- ---- dividing again
 
--- The run is accepted, its passes have come to these places, of which there are `kept`, and the spans begin with their endpoints. There are as many records, and the lists are as long, as
--- were lent; `first` has the counts of the first partition.
+-- The run is accepted, its passes have come to these places, of which there are `kept`, and the spans begin with their endpoints. There are as many records,
+-- and the lists are as long, as were lent; `first` has the counts of the first partition.
 pub record Divides (w h : ℕ) (cells anchors : List ℕ) (O : Origin) (s : List Region) (places spans : List ℕ) (kept : ℕ) (first : Standing) (room : ℕ) (l m q t p : List ℕ) : Type 0 where
   pub accepted : RestAccepted (lent_to w h cells anchors O s)
   pub reached : Reached (start_map (map_lent w h cells anchors O)) (all_places (map_lent w h cells anchors O)) places
@@ -112,9 +113,9 @@ pub record SameFrom (n : ℕ) (was l : List ℕ) : Type 0 where
   pub long : length l ≡ length was
   pub rest : drop n l ≡ drop n was
 
--- Between the passes of an accepted run these places are kept, and numbers n, spans b and boundaries d hold them. Labels, tallies and pairs are those of their partition, over lists as they
--- were lent but for tallies and pairs, which are zero as far as the first partition filled them. Masks and queue, which the partition left as `scratch` and `order`, are as they were lent beyond
--- the needed length.
+-- Between the passes of an accepted run these places are kept, and numbers n, spans b and boundaries d hold them. Labels, tallies and pairs are those of their
+-- partition, over lists as they were lent but for tallies and pairs, which are zero as far as the first partition filled them. Masks and queue, which the
+-- partition left as `scratch` and `order`, are as they were lent beyond the needed length.
 pub record KeptLists (w h : ℕ) (cells anchors : List ℕ) (O : Origin) (s : List Region) (places : List ℕ) (first standing : Standing) (l m q t p n b d : List ℕ) : Type 0 where
   pub accepted : RestAccepted (lent_to w h cells anchors O s)
   pub reached : Reached (start_map (map_lent w h cells anchors O)) (all_places (map_lent w h cells anchors O)) places

@@ -13,6 +13,8 @@ use definitions::limits::{NUMBERS_PER_BOUNDARY, NUMBERS_PER_SPAN};
 use refusals::Refusal;
 
 // The checks of the lists as lent, the starting list in row order, and its partition: a refusal, or how many regions and rows of pairs there are.
+// Never put into its caller: the rows that are sorted here, 20 KiB in two lists, would stand on the stack beside the lists of each pass.
+#[inline(never)]
 pub fn begin_rest(
     asked: Asked,
     room: usize,

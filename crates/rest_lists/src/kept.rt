@@ -10,12 +10,12 @@ ghost use Rattle.rest_lists.specs.Kept.{Origin, Divides, Redivided};
 ghost use Rattle.boundary_blocks.specs.Start.{rows_at};
 
 use areas::lists::PartitionLists;
-use areas::scratch::{clear_assessed, clear_scratch};
+use areas::scratch::clear_scratch;
 use boundary_blocks::blocks::keep_blocks;
 use boundary_blocks::start::put_rows;
-use call_partition::divide;
+use call_partition::redivide;
 use definitions::limits::{
-    NUMBERS_PER_BOUNDARY, NUMBERS_PER_PAIR, NUMBERS_PER_SPAN, TALLIES_PER_SPAN,
+    MAX_ENTRIES, NUMBERS_PER_BOUNDARY, NUMBERS_PER_PAIR, NUMBERS_PER_SPAN, TALLIES_PER_SPAN,
 };
 use grid_steps::grid::TerrainGrid;
 
@@ -30,9 +30,9 @@ pub struct Standing {
 // The lists of a run. In front of each stands what is kept: the numbers of boundaries, their endpoints as spans, and the boundaries.
 #[derive(Drop)]
 pub struct KeptLists {
-    pub numbers: [u64; 256],
-    pub spans: [u64; 1024],
-    pub boundaries: [u64; 2304],
+    pub numbers: [u64; MAX_ENTRIES],
+    pub spans: [u64; NUMBERS_PER_SPAN * MAX_ENTRIES],
+    pub boundaries: [u64; NUMBERS_PER_BOUNDARY * MAX_ENTRIES],
 }
 
 impl KeptLists {
@@ -43,20 +43,20 @@ impl KeptLists {
     {
         &self.boundaries[..NUMBERS_PER_BOUNDARY * count]
     }
-}
 
-// Moves what is not marked to the front of the three lists, and gives how many are left.
-pub fn keep_left(kept: &mut KeptLists, removed: &[bool; 256], count: usize) -> usize
-    requires { count ≤ max_entries }
-    ensures numbers { kept.new.numbers ≡ overwrite (left_blocks removed.now 1 kept.old.numbers count) kept.old.numbers }
-    ensures spans { kept.new.spans ≡ overwrite (left_blocks removed.now 4 kept.old.spans count) kept.old.spans }
-    ensures boundaries { kept.new.boundaries
-        ≡ overwrite (left_blocks removed.now 9 kept.old.boundaries count) kept.old.boundaries }
-    ensures answer { result ≡ left_count removed.now count }
-{
-    keep_blocks(&mut kept.numbers, 1, removed, count);
-    keep_blocks(&mut kept.spans, NUMBERS_PER_SPAN, removed, count);
-    keep_blocks(&mut kept.boundaries, NUMBERS_PER_BOUNDARY, removed, count)
+    // Moves what is not marked to the front of the three lists, and gives how many are left.
+    pub fn keep_left(&mut self, removed: &[bool; MAX_ENTRIES], count: usize) -> usize
+        requires { count ≤ max_entries }
+        ensures numbers { self.new.numbers ≡ overwrite (left_blocks removed.now 1 self.old.numbers count) self.old.numbers }
+        ensures spans { self.new.spans ≡ overwrite (left_blocks removed.now 4 self.old.spans count) self.old.spans }
+        ensures boundaries { self.new.boundaries
+            ≡ overwrite (left_blocks removed.now 9 self.old.boundaries count) self.old.boundaries }
+        ensures answer { result ≡ left_count removed.now count }
+    {
+        keep_blocks(&mut self.numbers, 1, removed, count);
+        keep_blocks(&mut self.spans, NUMBERS_PER_SPAN, removed, count);
+        keep_blocks(&mut self.boundaries, NUMBERS_PER_BOUNDARY, removed, count)
+    }
 }
 
 // Labels, tallies and pairs of what is kept; beyond them, as far as the first partition filled, zero. It is not refused: no later partition has more regions or
@@ -78,9 +78,8 @@ pub fn divide_again(
 {
     let filled = TALLIES_PER_SPAN * first.kept;
     let paired = NUMBERS_PER_PAIR * first.rows;
-    clear_assessed(lists.tallies, lists.pairs, filled, paired);
     let end = NUMBERS_PER_SPAN * kept;
-    let ready = divide(grid, &spans[..end], room, lists).unwrap();
+    let ready = redivide(grid, &spans[..end], filled, paired, room, lists).unwrap();
     Standing {
         kept,
         regions: ready.regions,

@@ -1,4 +1,5 @@
--- The call with records of its own: they are all alike at entry, a part of them is lent, and what the call leaves in them is written in numbers. Assumes nothing.
+-- The call with records of its own: they are all alike at entry, a part of them is lent, and what the call leaves in them is written in numbers. Assumes
+-- nothing.
 use Prim.Native.Nat.{ℕ, zero, suc, ◌≤◌, min}
 use native.Mathlib.Omega.{arith}
 use mathlib.Core.Path.{◌≡◌, refl, sym, ap, ◌∙◌, subst}

@@ -2,7 +2,7 @@
 use Prim.Native.Nat.{ℕ, ◌*◌, ◌/◌, ◌≤◌}
 use native.Mathlib.Omega.{arith}
 use native.Mathlib.Nat.{mul-le-mul}
-use mathlib.Core.Path.{◌≡◌, refl, ap, ◌∙◌, subst}
+use mathlib.Core.Path.{◌≡◌, refl, sym, ap, ◌∙◌, subst}
 use mathlib.Core.Bool.{Bool, false}
 use mathlib.Core.Logic.{⊎_elim}
 use mathlib.Core.List.{List, map}
@@ -18,6 +18,7 @@ use Rattle.context.specs.Records.{record_of, max_cells}
 use Rattle.std.specs.Prelude.{Result, Ok, Err}
 use Rattle.refusals.specs.declared.Refusal as code
 use Rattle.refusals.specs.Refusals.{number_of}
+use Rattle.grid_steps.specs.declared.grid.TerrainGrid.{TerrainGrid}
 use Rattle.call_partition.specs.declared.Ready.{Ready}
 use Rattle.checks.specs.declared.passes.Pass.{Pass}
 use Rattle.checks.specs.Passes.{pass_number}
@@ -43,6 +44,11 @@ no_marks = record { long = length-replicate {A = Bool} max_entries false; clear 
 pub marked_as : {k pass : ℕ} (M : Map) (needed count : ℕ) (boundaries : List ℕ) {m q m' q' : List ℕ} {was removed : List Bool} → k ≡ pass
     → MarkedFor k M needed count boundaries m q m' q' was removed → MarkedFor pass M needed count boundaries m q m' q' was removed
 marked_as M needed count boundaries {m} {q} {m'} {q'} {was} {removed} e K = subst (λ n. MarkedFor n M needed count boundaries m q m' q' was removed) e K
+
+-- ---- a grid and one that is equal to it
+
+pub fills-on : {g : TerrainGrid} (x : TerrainGrid) {M : Map} {room regions : ℕ} {l q : List ℕ} → g ≡ x → Fills M room regions x.width x.cells.now l q → Fills M room regions g.width g.cells.now l q
+fills-on x {M} {room} {regions} {l} {q} e F = subst (λ (g : TerrainGrid). Fills M room regions g.width g.cells.now l q) (sym e) F
 
 -- ---- the call
 

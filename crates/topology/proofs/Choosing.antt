@@ -1,4 +1,5 @@
--- The choice of the pass in `removed_marks`: what each pass is lent, from what all are lent, and the marks of each as those of the pass of its number. Assumes nothing.
+-- The choice of the pass in `removed_marks`: what each pass is lent, from what all are lent, and the marks of each as those of the pass of its number. Assumes
+-- nothing.
 use Prim.Native.Nat.{ℕ, ◌<◌}
 use native.Mathlib.Omega.{arith}
 use mathlib.Core.Path.{◌≡◌, refl, sym, ap, ◌∙◌}

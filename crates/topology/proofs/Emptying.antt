@@ -1,5 +1,5 @@
--- Records emptied from the front: the first k are one that is empty and the others as they were (`emptied`); and the records of a map put over records that were
--- emptied (`renewed`). Assumes nothing.
+-- Records emptied from the front: the first k are one that is empty and the others as they were (`emptied`); and the records of a map put over records that
+-- were emptied (`renewed`). Assumes nothing.
 use Prim.Native.Nat.{ℕ, ◌+◌, ◌-◌, ◌≤◌}
 use native.Mathlib.Omega.{arith}
 use mathlib.Core.Path.{◌≡◌, sym, ap, ap₂, ◌∙◌}

@@ -1,5 +1,5 @@
--- The parts of `run_kept`: what each asks, once the first partition is ready, and what they leave together (`ran-kept_graph`). Beyond what either partition fills each
--- list is as it was lent, so that clearing as far as the first filled, and then filling anew, gives the lists of the contract. Assumes nothing.
+-- The parts of `run_kept`: what each asks, once the first partition is ready, and what they leave together (`ran-kept_graph`). Beyond what either partition
+-- fills each list is as it was lent, so that clearing as far as the first filled, and then filling anew, gives the lists of the contract. Assumes nothing.
 use Prim.Native.Nat.{ℕ, ◌*◌, ◌/◌, ◌≤◌}
 use native.Mathlib.Omega.{arith}
 use native.Mathlib.Nat.{le_refl}
@@ -17,6 +17,7 @@ use Rattle.definitions.specs.Partition.{labels, region_count}
 use Rattle.definitions.specs.RegionRecord.{empty_region}
 use Rattle.definitions.specs.Context.{context_of}
 use Rattle.definitions.specs.Rows.{flat_rows}
+use Rattle.definitions.specs.Verdict as verdict
 use Rattle.definitions.specs.Verdict.{map_in, pair_rows_of, records_fault}
 use Rattle.definitions.specs.AtExit.{tallies_of, records_of}
 use Rattle.laws.specs.ListLaws.Lists.{length_run}
@@ -222,3 +223,11 @@ pub kept-on : {g : TerrainGrid} (x : TerrainGrid) {spans : List ℕ} {S : Source
     → DividedKept (lent_of g.width g.height g.cells.now spans S) l m q t p r l' m' q' t' p' → DividedKept (lent_of x.width x.height x.cells.now spans S) l m q t p r l' m' q' t' p'
 kept-on x {spans} {S} {l} {m} {q} {t} {p} {r} {l'} {m'} {q'} {t'} {p'} e N =
     subst (λ (g : TerrainGrid). DividedKept (lent_of g.width g.height g.cells.now spans S) l m q t p r l' m' q' t' p') e N
+
+-- and lists of which a pass only reads labels, tallies and pairs are divided as they were before it
+module _ {L : verdict.Lent} {l m q t p l₂ t₂ p₂ : List ℕ} (el : l₂ ≡ l) (et : t₂ ≡ t) (ep : p₂ ≡ p) where
+  pub divides-still : {removed : List Bool} {rows room : ℕ} → Divides L removed rows room l m q t p → Divides L removed rows room l₂ m q t₂ p₂
+  divides-still D = rw el (rw et (rw ep D))
+
+  pub kept-still : {r : Ready} {l' m' q' t' p' : List ℕ} → DividedKept L l₂ m q t₂ p₂ r l' m' q' t' p' → DividedKept L l m q t p r l' m' q' t' p'
+  kept-still N = rw (sym el) (rw (sym et) (rw (sym ep) N))

@@ -1,5 +1,5 @@
--- The parts of `mark_removed`: of the viewed lists, as much as there are regions is what the pass is lent, and what stands beyond is as it was, since a map has no more regions
--- than cells. Assumes nothing.
+-- The parts of `mark_removed`: of the viewed lists, as much as there are regions is what the pass is lent, and what stands beyond is as it was, since a map
+-- has no more regions than cells. Assumes nothing.
 use Prim.Native.Nat.{ℕ, ◌+◌, ◌-◌, ◌/◌, ◌%◌, ◌≤◌}
 use native.Mathlib.Omega.{arith}
 use mathlib.Core.Path.{◌≡◌, refl, sym, ap, ◌∙◌}

@@ -1,5 +1,5 @@
--- The contract of the call that plays on the kept graph, by the case of what its first part answers: a refusal has left every list as it must (`refused_over`); of a call
--- that is ready the second partition's lists and the verdicts are filled (`played-over`). Assumes nothing.
+-- The contract of the call that plays on the kept graph, by the case of what its first part answers: a refusal has left every list as it must
+-- (`refused_over`); of a call that is ready the second partition's lists and the verdicts are filled (`played-over`). Assumes nothing.
 use Prim.Native.Nat.{ℕ, ◌*◌, ◌≤◌}
 use native.Mathlib.Omega.{arith}
 use mathlib.Core.Path.{◌≡◌, refl, sym, ap, ap₂, subst, ◌∙◌}

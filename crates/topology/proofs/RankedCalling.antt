@@ -1,5 +1,5 @@
--- The call that gives the ranked junction list: the contract from what its parts leave, where a check refuses, at 21, and with the list. At 21 the lists are those that pass 3 leaves
--- with whatever output. Assumes nothing.
+-- The call that gives the ranked junction list: the contract from what its parts leave, where a check refuses, at 21, and with the list. At 21 the lists are
+-- those that pass 3 leaves with whatever output. Assumes nothing.
 use Prim.Native.Nat.{ℕ, ◌*◌, ◌/◌, ◌≤◌}
 use native.Mathlib.Omega.{arith}
 use mathlib.Core.Path.{◌≡◌, refl, sym, ap, ◌∙◌, subst}

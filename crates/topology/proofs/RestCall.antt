@@ -1,5 +1,6 @@
--- The ends of the call that runs to rest: a refusal of its beginning is the call's (`refused_over`); where its first partition is ready and the records are filled, the run stands at all places
--- (`stands_first`); and where it has come to rest, with masks and queue cleared and the rows written, the contract holds (`rest_over`). Assumes nothing.
+-- The ends of the call that runs to rest: a refusal of its beginning is the call's (`refused_over`); where its first partition is ready and the records are
+-- filled, the run stands at all places (`stands_first`); and where it has come to rest, with masks and queue cleared and the rows written, the contract holds
+-- (`rest_over`). Assumes nothing.
 use Prim.Native.Nat.{ℕ, ◌*◌, ◌/◌, ◌≤◌}
 use native.Mathlib.Omega.{arith}
 use mathlib.Core.Path.{◌≡◌, refl, sym, ap, subst, ◌∙◌}
@@ -145,9 +146,6 @@ stands-on x {anchors} {O} {s} {first} {R} e T =
 pub rests-on : {g : TerrainGrid} (x : TerrainGrid) {anchors : List ℕ} {O : Origin} {s : List Region} {first : Standing} {a : RestKept} {R : RunLists} → g ≡ x
     → RanToRest g.width g.height g.cells.now anchors O s first a R → RanToRest x.width x.height x.cells.now anchors O s first a R
 rests-on x {anchors} {O} {s} {first} {a} {R} e K = subst (λ (g : TerrainGrid). RanToRest g.width g.height g.cells.now anchors O s first a R) e K
-
-pub fills-on : {g : TerrainGrid} (x : TerrainGrid) {M : Map} {room regions : ℕ} {cells l q : List ℕ} → g ≡ x → Fills M room regions x.width cells l q → Fills M room regions g.width cells l q
-fills-on x {M} {room} {regions} {cells} {l} {q} e F = subst (λ (g : TerrainGrid). Fills M room regions g.width cells l q) (sym e) F
 
 pub zeroed-on : {g : TerrainGrid} (x : TerrainGrid) (a : List ℕ) {b : List ℕ} → g ≡ x → b ≡ zeroed (g.height * g.width) a → b ≡ zeroed (x.height * x.width) a
 zeroed-on x a {b} e z = subst (λ (g : TerrainGrid). b ≡ zeroed (g.height * g.width) a) e z

@@ -1,5 +1,6 @@
--- The parts of the call that runs to rest: what each asks, where a run stands (`Stands`), and what it leaves. Of a pass: what it is lent (`stands-lent`), and that the blocks it leaves are those of
--- the places left (`pass-done`). Of a turn: where the pass removed none (`stands-still`), and where what is left was divided again and the records renewed (`stands-again`). Assumes nothing.
+-- The parts of the call that runs to rest: what each asks, where a run stands (`Stands`), and what it leaves. Of a pass: what it is lent (`stands-lent`), and
+-- that the blocks it leaves are those of the places left (`pass-done`). Of a turn: where the pass removed none (`stands-still`), and where what is left was
+-- divided again and the records renewed (`stands-again`). Assumes nothing.
 use Prim.Native.Nat.{ℕ, ◌*◌, ◌/◌, ◌≤◌, ◌<◌}
 use native.Mathlib.Omega.{arith}
 use mathlib.Core.Path.{◌≡◌, refl, sym, ap, subst, ◌∙◌}
@@ -12,6 +13,7 @@ use Rattle.definitions.specs.Limits.{max_entries, numbers_per_span}
 use Rattle.definitions.specs.Scan.{member}
 use Rattle.definitions.specs.Grid.{Map, map_of, span_count}
 use Rattle.definitions.specs.Partition.{region_count}
+use Rattle.definitions.specs.RegionRecord as record-region
 use Rattle.definitions.specs.RegionRecord.{empty_region}
 use Rattle.definitions.specs.Context.{context_of}
 use Rattle.definitions.specs.AtExit.{records_of}
@@ -192,3 +194,26 @@ module _ {w h : ℕ} {cells anchors : List ℕ} {O : Origin} {s : List Region} {
                 ∙ ap (overwrite (records_of (context_of (kept_of M after)))) emptied_same;
             beyond = N.beyond first.regions (omega arith) fewer ∙ T.beyond;
           }
+
+-- ---- lists of which a pass only reads labels, tallies and pairs
+
+module _ {w h : ℕ} {cells anchors : List ℕ} {O : Origin} {places : List ℕ} {first : Standing} {room : ℕ} {l m q t p l₂ t₂ p₂ : List ℕ} (el : l₂ ≡ l) (et : t₂ ≡ t) (ep : p₂ ≡ p) where
+  -- they are divided as they were before it
+  pub divides-still : {s : List record-region.Region} {spans : List ℕ} {kept : ℕ} → Divides w h cells anchors O s places spans kept first room l m q t p
+      → Divides w h cells anchors O s places spans kept first room l₂ m q t₂ p₂
+  divides-still D = rw el (rw et (rw ep D))
+
+  pub redivided-still : {r : Standing} {l' m' q' t' p' : List ℕ} → Redivided w h cells anchors O places first room l₂ m q t₂ p₂ r l' m' q' t' p'
+      → Redivided w h cells anchors O places first room l m q t p r l' m' q' t' p'
+  redivided-still N = rw (sym el) (rw (sym et) (rw (sym ep) N))
+
+-- ---- a count and boundaries, and those that are equal to them
+
+module _ {M : Map} {count k : ℕ} {boundaries b : List ℕ} (ek : k ≡ count) (eb : b ≡ boundaries) where
+  pub counted-lent : {records : List Region} {w needed : ℕ} {labels anchors : List ℕ} {regions rows : ℕ} {tallies pairs : List ℕ} {masks queue : ℕ}
+      → Lent M records w needed labels anchors regions rows count boundaries tallies pairs masks queue → Lent M records w needed labels anchors regions rows k b tallies pairs masks queue
+  counted-lent L = rw ek (rw eb L)
+
+  pub counted-marks : {pass needed : ℕ} {m q m' q' : List ℕ} {was removed : List Bool}
+      → MarkedFor pass M needed k b m q m' q' was removed → MarkedFor pass M needed count boundaries m q m' q' was removed
+  counted-marks K = rw (sym ek) (rw (sym eb) K)

@@ -1,5 +1,6 @@
--- The loop of `run_turns`: before each turn the run stands at some places (`RunsAt`), where the passes are as `TurnsAt` says. A turn keeps this (`run-turn`), the measure falls, since a pass removes
--- some or is one quiet pass more (`run-lower`), and where three in a row were quiet the run has come to rest (`run_ends`). Assumes nothing.
+-- The loop of `run_turns`: before each turn the run stands at some places (`RunsAt`), where the passes are as `TurnsAt` says. A turn keeps this (`run-turn`),
+-- the measure falls, since a pass removes some or is one quiet pass more (`run-lower`), and where three in a row were quiet the run has come to rest
+-- (`run_ends`). Assumes nothing.
 use Prim.Native.Nat.{ℕ, ◌+◌, ◌*◌, ◌-◌, ◌≤◌, ◌<◌}
 use native.Mathlib.Omega.{arith}
 use mathlib.Core.Path.{◌≡◌, refl, sym, ap, subst, ◌∙◌}

@@ -1,4 +1,5 @@
--- The contract of the call for two desks, over the lent records as they are declared, and the words of the contracts of its parts. Definitions only; assumes nothing.
+-- The contract of the call for two desks, over the lent records as they are declared, and the words of the contracts of its parts. Definitions only; assumes
+-- nothing.
 use Rattle.std.specs.Prelude.{ℕ, ◌*◌, ◌≡◌, List, [], map, length, drop}
 use Rattle.definitions.specs.Grid.{map_of}
 use Rattle.definitions.specs.Lists.{zeroed}
@@ -49,7 +50,8 @@ pub record Partitioned (G : Ground) (w h : ℕ) (spans : List ℕ) (regions rows
   pub masks_long : length m ≡ length G.masks
   pub queue_long_lem : length q ≡ length G.queue
 
--- The records are filled, and masks and queue are zero over the needed length: all shared lists are as on success. (`masks` and `queue` are what the partition left in them.)
+-- The records are filled, and masks and queue are zero over the needed length: all shared lists are as on success. (`masks` and `queue` are what the partition
+-- left in them.)
 pub record Terrain (G : Ground) (w h : ℕ) (spans : List ℕ) (regions rows : ℕ) (l m q t p : List ℕ) (s : List Region) : Type 0 where
   pub masks : List ℕ
   pub queue : List ℕ
@@ -58,9 +60,9 @@ pub record Terrain (G : Ground) (w h : ℕ) (spans : List ℕ) (regions rows : �
   pub cleared : m ≡ zeroed (h * w) G.masks
   pub emptied : q ≡ zeroed (h * w) G.queue
 
--- the same of a struct of what is only read
-abbrev pub TerrainIn : Ground → SharedTerrain → List ℕ → List ℕ → Type 0
-TerrainIn G x m q = Terrain G x.width x.height x.spans.now x.regions x.rows x.labels.now m q x.tallies.now x.pairs.now x.records.now
+-- the same of a struct of what is told of it, its records and the lists, in this order
+abbrev pub TerrainIn : Ground → SharedTerrain → List Region → (l m q t p : List ℕ) → Type 0
+TerrainIn G x s l m q t p = Terrain G x.width x.height x.spans.now x.ready.regions x.ready.rows l m q t p s
 
 -- a desk was served; masks and queue are as they were
 pub record DeskRan (G : Ground) (w h : ℕ) (spans : List ℕ) (D : Desk) (m q : List ℕ) (a : verdict.Answer) (m' q' o' : List ℕ) : Type 0 where

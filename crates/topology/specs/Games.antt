@@ -28,8 +28,8 @@ written_at labelled n = 0
 written_at tallied n = 0
 written_at complete n = n
 
--- What was lent, with the goal and the verdicts as they `were`; the answer; and what was left, with the verdicts as they are. Records that are not written are as they were,
--- not only as `record_of` shows them.
+-- What was lent, with the goal and the verdicts as they `were`; the answer; and what was left, with the verdicts as they are. Records that are not written are
+-- as they were, not only as `record_of` shows them.
 pub record PlayedOver (pass : ℕ) (L : LentLists) (goal : ℕ) (were : List ℕ) (a : GameAnswer) (E : LeftLists) (verdicts : List ℕ) : Type 0 where
   pub played : Played (lent_call pass L) goal were a E.labels E.masks E.queue E.tallies E.pairs (map record_of E.records) E.output verdicts
   pub beyond :

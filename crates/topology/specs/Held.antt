@@ -1,4 +1,5 @@
--- The records of a context in the lent slice, as the loops over it ask for them, and that `fill` puts them there; that a map's records are counted. Assumes nothing.
+-- The records of a context in the lent slice, as the loops over it ask for them, and that `fill` puts them there; that a map's records are counted. Assumes
+-- nothing.
 use Rattle.std.specs.Prelude.{ℕ, suc, ◌-◌, ◌≤◌, ◌<◌, ◌≡◌, List, ◌++◌, map, length, get_or}
 use Rattle.std.proofs.Common.{arith, sym, ap, ◌∙◌, length-append}
 use Rattle.std.proofs.lemmas.List.{length-map}

@@ -7,6 +7,7 @@ use Rattle.laws.specs.FloatLaws.Pixels.{PixelContext}
 use Rattle.laws.specs.RustContext.SoundContext.{Sound}
 use Rattle.laws.specs.RustContext.CheckedContext.{Checked}
 use Rattle.laws.specs.ListLaws.Beyond.{Beyond}
+use Rattle.areas.specs.declared.lists.PartitionLists.{PartitionLists}
 use Rattle.call_partition.specs.declared.Ready.{Ready}
 use Rattle.call_partition.specs.declared.asked.Asked.{Asked}
 use Rattle.context.specs.declared.Region.{Region}
@@ -65,8 +66,14 @@ abbrev pub AskedLent : Map → List Region → Asked → Ready → (labels talli
 AskedLent M records x r labels tallies pairs masks queue =
     Lent M records x.width (x.height * x.width) labels x.anchors.now r.regions r.rows (length x.spans.now / numbers_per_span) x.boundaries.now tallies pairs masks queue
 
--- Where there are as many boundaries as spans, the marks are the pass's; otherwise they are as they were. Masks m and queue q have become m' and q', over the needed
--- length alone.
+-- of the lists of a partition those that a pass only reads hold what they held
+pub record SameFilled (x y : PartitionLists) : Type 0 where
+  pub labels : y.labels.now ≡ x.labels.now
+  pub tallies : y.tallies.now ≡ x.tallies.now
+  pub pairs : y.pairs.now ≡ x.pairs.now
+
+-- Where there are as many boundaries as spans, the marks are the pass's; otherwise they are as they were. Masks m and queue q have become m' and q', over the
+-- needed length alone.
 pub record MarkedFor (pass : ℕ) (M : Map) (needed count : ℕ) (boundaries m q m' q' : List ℕ) (was removed : List Bool) : Type 0 where
   pub equal : length boundaries / numbers_per_boundary ≡ count → MarkedBy pass (context_of M) removed
   pub differ : (length boundaries / numbers_per_boundary ≡ count → ⊥) → removed ≡ was

@@ -1,5 +1,5 @@
--- The words of the contracts of `rank_junctions`, `mark_ranked` and the call that gives the ranked junction list, over the lent records as they are declared. Definitions only;
--- assumes nothing.
+-- The words of the contracts of `rank_junctions`, `mark_ranked` and the call that gives the ranked junction list, over the lent records as they are declared.
+-- Definitions only; assumes nothing.
 use Rattle.std.specs.Prelude.{ℕ, ◌/◌, ◌≤◌, ◌≡◌, Bool, cond, List, [], map, length, take, drop, eqb}
 use Rattle.definitions.specs.Limits.{numbers_per_boundary}
 use Rattle.definitions.specs.Grid.{Map}
@@ -37,8 +37,8 @@ pub record RankedFor (M : Map) (needed count : ℕ) (boundaries m q m' q' : List
 abbrev pub ranked_written : ℕ → ℕ → ℕ
 ranked_written number n = cond (eqb number 21) n (written number n)
 
--- What was lent, with the list as it `was`; the answer; and what was left, with the list as it is. Records that are not written are as they were, not only as `record_of`
--- shows them.
+-- What was lent, with the list as it `was`; the answer; and what was left, with the list as it is. Records that are not written are as they were, not only as
+-- `record_of` shows them.
 pub record RankedOver (L : LentLists) (was : List ℕ) (a : RankedAnswer) (E : LeftLists) (list : List ℕ) : Type 0 where
   pub ran : RankedRan (lent_call 3 L) was a E.labels E.masks E.queue E.tallies E.pairs (map record_of E.records) E.output list
   pub beyond : drop (ranked_written a.number (region_count (lent_map L))) E.records ≡ drop (ranked_written a.number (region_count (lent_map L))) L.records

@@ -1,4 +1,5 @@
--- The contract of the call that runs the passes to rest, over the lent records as they are declared, and the words of its parts' contracts. Definitions only; assumes nothing.
+-- The contract of the call that runs the passes to rest, over the lent records as they are declared, and the words of its parts' contracts. Definitions only;
+-- assumes nothing.
 use Rattle.std.specs.Prelude.{ℕ, zero, suc, ◌≡◌, List, map, length, drop, replicate, Result, Ok, Err}
 use Rattle.definitions.specs.Lists.{overwrite}
 use Rattle.definitions.specs.Partition.{region_count}
@@ -55,7 +56,8 @@ pub record RunLists : Type 0 where
 abbrev pub run-lists : (l m q t p : List ℕ) → List Region → (n b d : List ℕ) → RunLists
 run-lists l m q t p s n b d = record { labels = l; masks = m; queue = q; tallies = t; pairs = p; records = s; numbers = n; spans = b; boundaries = d }
 
--- The lists stand as `KeptLists` says, and the records, that were lent as s, are those of what is kept, then empty ones as far as the first partition filled them.
+-- The lists stand as `KeptLists` says, and the records, that were lent as s, are those of what is kept, then empty ones as far as the first partition filled
+-- them.
 pub record Stands (w h : ℕ) (cells anchors : List ℕ) (O : Origin) (s : List Region) (places : List ℕ) (first standing : Standing) (R : RunLists) : Type 0 where
   pub lists :
       KeptLists w h cells anchors O (map record_of s) places first standing R.labels R.masks R.queue R.tallies R.pairs R.numbers R.spans R.boundaries

@@ -38,44 +38,19 @@ pub fn run_kept(
         (of_lists leaves lists.new records.new output.new) }
     ensures same { SameLists lists.old lists.new }
 {
-    let width = asked.width as usize;
-    let needed = asked.height as usize * width;
+    let grid = asked.grid();
     let room = records.len();
-    let labels = &mut *lists.labels;
-    let masks = &mut *lists.masks;
-    let queue = &mut *lists.queue;
-    let tallies = &mut *lists.tallies;
-    let pairs = &mut *lists.pairs;
-    fill(
-        records,
-        ready.regions,
-        width,
-        asked.cells,
-        &*labels,
-        &*queue,
-    );
-    let removed = mark_asked(
-        pass, asked, ready, records, &*labels, &*tallies, &*pairs, masks, queue,
-    );
-    let graph = divide_kept(asked.grid(), asked.spans, &removed, ready.rows, room, lists);
-    let labels = &mut *lists.labels;
-    let queue = &mut *lists.queue;
-    renew(
-        records,
-        ready.regions,
-        graph.regions,
-        width,
-        asked.cells,
-        &*labels,
-        &*queue,
-    );
+    fill(records, ready.regions, grid, &*lists);
+    let removed = mark_asked(pass, asked, ready, records, lists);
+    let graph = divide_kept(grid, asked.spans, &removed, ready.rows, room, lists);
+    renew(records, ready.regions, graph.regions, grid, &*lists);
     let kept = finish(
-        needed,
+        asked.height as usize * asked.width as usize,
         asked.boundaries.len() / NUMBERS_PER_BOUNDARY,
         asked.boundaries,
         &removed,
         lists.masks,
-        queue,
+        lists.queue,
         output,
     );
     Standing {

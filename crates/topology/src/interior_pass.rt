@@ -8,6 +8,7 @@ ghost use Rattle.topology.specs.Proposals.{Unmarked};
 
 use context::found_regions::FoundRegions;
 use context::{PartitionContext, Region};
+use definitions::limits::MAX_ENTRIES;
 use interior_proposals::fits::{reach_of, region_fits};
 use interior_proposals::ports::Ports;
 use interior_regions::{
@@ -47,9 +48,9 @@ pub fn judge_interiors(
     records: &[Region],
     context: PartitionContext,
     names: &[u32],
-    owners: &[FoundRegions; 256],
-    found: &[Option<Ports>; 256],
-    removed: &mut [bool; 256],
+    owners: &[FoundRegions; MAX_ENTRIES],
+    found: &[Option<Ports>; MAX_ENTRIES],
+    removed: &mut [bool; MAX_ENTRIES],
 )
     requires interiors_found { (C : Context) × Judges C records.now context.boundaries.now context.pairs.now context.starts.now
         names.now owners.now found.now context.count }
@@ -68,14 +69,15 @@ pub fn judge_interiors(
     }
 }
 
-// Pass 2: marks the boundaries that it removes. No boundary is marked before.
+// Pass 2: marks the boundaries that it removes. No boundary is marked before. Never put into its caller, as pass 1.
+#[inline(never)]
 pub fn collapse_ramp_interiors(
     records: &[Region],
     regions: usize,
     context: PartitionContext,
     marks: &mut [u16],
     counts: &mut [u32],
-    removed: &mut [bool; 256],
+    removed: &mut [bool; MAX_ENTRIES],
 )
     requires lists_show { (C : Context) × Collapses C records.now context.boundaries.now context.tallies.now context.pairs.now context.starts.now
         context.count regions marks.old counts.old }
@@ -85,8 +87,8 @@ pub fn collapse_ramp_interiors(
         context.entry.count regions marks.old counts.old →
         Collapsed C context.entry.count removed.new }
 {
-    let mut owners = [FoundRegions::None; 256];
-    let mut found = [None; 256];
+    let mut owners = [FoundRegions::None; MAX_ENTRIES];
+    let mut found = [None; MAX_ENTRIES];
     find_interiors(context, regions, marks, counts, &mut owners, &mut found);
     judge_interiors(records, context, counts, &owners, &found, removed);
 }

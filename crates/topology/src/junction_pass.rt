@@ -5,6 +5,7 @@ ghost use Rattle.junction_proposals.specs.Rows.{max_proposals};
 ghost use Rattle.topology.specs.Proposals.{Allows, Allowed, PassesIn, Proposed, Unmarked, Removes};
 
 use context::Region;
+use definitions::limits::MAX_ENTRIES;
 use junction_proposals::lists::JunctionLists;
 use junction_proposals::proposals::{Candidate, Kind, MAX_PROPOSALS, find_proposals};
 use junction_regions::{first_place, is_allowed, second_place};
@@ -34,6 +35,7 @@ pub fn allow_proposals(
         Allows C records.now boundaries.now marks.now rows.now n →
         Allowed C rows.now n allowed.new }
 {
+    // Kept: with `zip` over `allowed.iter_mut()` no index would be named, but of what an adapter of `iter_mut` lends a proof knows nothing behind the loop.
     for (k, &row) in rows[..n].iter().enumerate() {
         let first = records[first_place(row)];
         let second = records[second_place(row)];
@@ -63,7 +65,7 @@ pub fn select_junctions(
     lists: &JunctionLists,
     rows: &mut [Candidate],
     allowed: &mut [bool; MAX_PROPOSALS],
-    removed: &mut [bool; 256],
+    removed: &mut [bool; MAX_ENTRIES],
 ) -> usize
     requires lists_show { (C : Context) × PassesIn C records.now lists.now }
     requires room { (max_proposals ≤ length rows.old) × (length allowed.old ≡ max_proposals) }
@@ -80,11 +82,12 @@ pub fn select_junctions(
     n
 }
 
-// Pass 3: marks the boundaries that it removes. No boundary is marked before.
+// Pass 3: marks the boundaries that it removes. No boundary is marked before. Never put into its caller, as pass 1.
+#[inline(never)]
 pub fn remove_junction_boundaries(
     records: &[Region],
     lists: &JunctionLists,
-    removed: &mut [bool; 256],
+    removed: &mut [bool; MAX_ENTRIES],
 )
     requires lists_show { (C : Context) × PassesIn C records.now lists.now }
     requires none_marked { Unmarked removed.old lists.now.count }

@@ -44,31 +44,15 @@ pub fn topology_kept_boundaries(
     ensures same { SameLists lists.old lists.new }
 {
     let (pass, ready) = prepare(pass, asked, records.len(), output.len(), lists)?;
-    let columns = asked.width as usize;
-    let needed = asked.height as usize * columns;
-    let labels = &mut *lists.labels;
-    let masks = &mut *lists.masks;
-    let queue = &mut *lists.queue;
-    let tallies = &mut *lists.tallies;
-    let pairs = &mut *lists.pairs;
-    fill(
-        records,
-        ready.regions,
-        columns,
-        asked.cells,
-        &*labels,
-        &*queue,
-    );
-    let removed = mark_asked(
-        pass, asked, ready, records, &*labels, &*tallies, &*pairs, masks, queue,
-    );
+    fill(records, ready.regions, asked.grid(), &*lists);
+    let removed = mark_asked(pass, asked, ready, records, lists);
     let kept = finish(
-        needed,
+        asked.height as usize * asked.width as usize,
         asked.boundaries.len() / NUMBERS_PER_BOUNDARY,
         asked.boundaries,
         &removed,
-        masks,
-        queue,
+        lists.masks,
+        lists.queue,
         output,
     );
     Ok(kept)

@@ -5,18 +5,20 @@ ghost use Rattle.context.specs.Records.{max_cells};
 ghost use Rattle.definitions.specs.Grid.{Map};
 ghost use Rattle.definitions.specs.Context.{Context};
 ghost use Rattle.checks.specs.Passes.{pass_number};
+ghost use Rattle.areas.specs.Lists.{SameLists};
 ghost use Rattle.topology.specs.Mouths.{NoMarks};
-ghost use Rattle.topology.specs.Marks.{Shows, Removed, LentAs, AskedLent, MarkedFor};
+ghost use Rattle.topology.specs.Marks.{Shows, Removed, LentAs, AskedLent, MarkedFor, SameFilled};
 
 use crate::interior_pass::collapse_ramp_interiors;
 use crate::junction_pass::remove_junction_boundaries;
 use crate::mouth_pass::replace_ramp_mouths;
+use areas::lists::PartitionLists;
 use call_partition::Ready;
 use call_partition::asked::Asked;
 use checks::passes::Pass;
 use context::pairs::Pair;
 use context::{PartitionContext, Region};
-use definitions::limits::{NUMBERS_PER_BOUNDARY, NUMBERS_PER_SPAN};
+use definitions::limits::{MAX_ENTRIES, NUMBERS_PER_BOUNDARY, NUMBERS_PER_SPAN};
 use junction_proposals::lists::JunctionLists;
 use pass_lists::{SpanPartition, view};
 
@@ -26,10 +28,10 @@ pub fn removed_marks(
     records: &[Region],
     regions: usize,
     context: PartitionContext,
-    full: &[Option<Pair>; 256],
+    full: &[Option<Pair>; MAX_ENTRIES],
     marks: &mut [u16],
     counts: &mut [u32],
-    removed: &mut [bool; 256],
+    removed: &mut [bool; MAX_ENTRIES],
 )
     requires lists_show { (C : Context) × Shows C records.now regions context.count context.boundaries.now context.tallies.now
         context.pairs.now context.starts.now full.now marks.old counts.old }
@@ -66,7 +68,7 @@ pub fn mark_removed(
     partition: SpanPartition,
     masks: &mut [u16],
     queue: &mut [u32],
-) -> [bool; 256]
+) -> [bool; MAX_ENTRIES]
     requires { (M : Map) × LentAs M records.now partition (length masks.old) (length queue.old) }
     ensures { (M : Map) → LentAs M records.now partition.entry (length masks.old) (length queue.old)
         → MarkedFor (pass_number pass) M partition.entry.needed partition.entry.count partition.entry.boundaries.now
@@ -80,12 +82,12 @@ pub fn mark_removed(
         pairs,
         ..
     } = partition;
-    let mut removed = [false; 256];
+    let mut removed = [false; MAX_ENTRIES];
     if boundaries.len() / NUMBERS_PER_BOUNDARY != count {
         return removed;
     }
-    let mut starts = [0usize; 257];
-    let mut full: [Option<Pair>; 256] = [None; 256];
+    let mut starts = [0usize; MAX_ENTRIES + 1];
+    let mut full: [Option<Pair>; MAX_ENTRIES] = [None; MAX_ENTRIES];
     view(partition, masks, queue, &mut starts, &mut full);
     let context = PartitionContext {
         boundaries,
@@ -108,7 +110,10 @@ pub fn mark_removed(
 }
 
 // The marks of the boundaries that the pass removes of what a call is asked: labels, tallies and pairs are those of its partition.
-pub(crate) fn mark_asked(
+// Kept: the lists one by one. With `PartitionLists` this function would lend them to `SpanPartition`, and a proof does not know behind such a loan, by a
+// struct,
+// that a list is as it was.
+fn mark_lent(
     pass: Pass,
     asked: Asked,
     ready: Ready,
@@ -118,7 +123,7 @@ pub(crate) fn mark_asked(
     pairs: &[u32],
     masks: &mut [u16],
     queue: &mut [u32],
-) -> [bool; 256]
+) -> [bool; MAX_ENTRIES]
     requires few { asked.height * asked.width ≤ max_cells }
     requires map_shown { (M : Map) × AskedLent M records.now asked ready labels.now tallies.now pairs.now (length masks.old) (length queue.old) }
     ensures { (M : Map) → AskedLent M records.now asked.entry ready labels.now tallies.now pairs.now (length masks.old) (length queue.old)
@@ -139,4 +144,33 @@ pub(crate) fn mark_asked(
         pairs,
     };
     mark_removed(pass, records, partition, masks, queue)
+}
+
+// The same of the lists that the partition filled.
+pub(crate) fn mark_asked(
+    pass: Pass,
+    asked: Asked,
+    ready: Ready,
+    records: &[Region],
+    lists: &mut PartitionLists,
+) -> [bool; MAX_ENTRIES]
+    requires few { asked.height * asked.width ≤ max_cells }
+    requires map_shown { (M : Map) × AskedLent M records.now asked ready lists.old.labels.now lists.old.tallies.now lists.old.pairs.now
+        (length lists.old.masks.now) (length lists.old.queue.now) }
+    ensures marked { (M : Map) → AskedLent M records.now asked.entry ready lists.old.labels.now lists.old.tallies.now lists.old.pairs.now
+        (length lists.old.masks.now) (length lists.old.queue.now)
+        → MarkedFor (pass_number pass) M (asked.entry.height * asked.entry.width) (length asked.entry.spans.now / numbers_per_span)
+        asked.entry.boundaries.now lists.old.masks.now lists.old.queue.now
+        lists.new.masks.now lists.new.queue.now (replicate max_entries false) result }
+    ensures read { SameFilled lists.old lists.new }
+    ensures same { SameLists lists.old lists.new }
+{
+    let labels = &mut *lists.labels;
+    let masks = &mut *lists.masks;
+    let queue = &mut *lists.queue;
+    let tallies = &mut *lists.tallies;
+    let pairs = &mut *lists.pairs;
+    mark_lent(
+        pass, asked, ready, records, &*labels, &*tallies, &*pairs, masks, queue,
+    )
 }

@@ -9,9 +9,11 @@ ghost use Rattle.mouth_regions.specs.Inner.{places_of};
 ghost use Rattle.mouth_selection.specs.Entries.{Known};
 ghost use Rattle.mouth_selection.specs.Held.{TakenState};
 ghost use Rattle.mouth_selection.specs.Selecting.{BestOf, Progress, is_stale};
-ghost use Rattle.topology.specs.Mouths.{near_at, BetterNear, NearBest, NoMarks, Replaced, PassLocates, PassEntryAsked, PassNearAsked, PassRampAsked, PassReplaces};
+ghost use Rattle.topology.specs.Mouths.{near_at, BetterNear, NearBest, NoMarks, Replaced};
+ghost use Rattle.topology.specs.Mouths.{PassLocates, PassEntryAsked, PassNearAsked, PassRampAsked, PassReplaces};
 
 use context::{PartitionContext, Region};
+use definitions::limits::MAX_ENTRIES;
 use mouth_proposals::candidates::{Candidate, MouthProposal, push_ramp};
 use mouth_proposals::regions::RegionMarks;
 use mouth_regions::inner::{inner_region, places};
@@ -88,7 +90,8 @@ fn best_near(
     taken: &Taken,
     entries: &[Candidate],
 ) -> Option<Candidate>
-    requires { (C : Context) × ((chosen : List definition.MouthProposal) × (PassNearAsked C records.now context taken.now.marks.now entries.now (length entries.now)
+    requires asked { (C : Context) × ((chosen : List definition.MouthProposal)
+        × (PassNearAsked C records.now context taken.now.marks.now entries.now (length entries.now)
         × TakenState C chosen taken.now.removed taken.now.ramp_ends taken.now.marks.now)) }
     ensures least { (C : Context) (chosen : List definition.MouthProposal) →
         PassNearAsked C records.now context.entry taken.now.marks.now entries.now (length entries.now) →
@@ -117,7 +120,7 @@ fn best_of_ramp(
         BestOf C chosen a result }
     ensures left { is_stale context.entry.pairs.now context.entry.starts.now taken.now.marks.now taken.now.removed taken.now.ramp_ends result ≡ false }
 {
-    let mut entries = [Candidate::blank(); 256];
+    let mut entries = [Candidate::blank(); MAX_ENTRIES];
     let regions = RegionMarks {
         counts,
         marks: &*taken.marks,
@@ -132,7 +135,7 @@ fn find_bests(
     context: PartitionContext,
     counts: &[u32],
     taken: &Taken,
-    bests: &mut [Option<Candidate>; 256],
+    bests: &mut [Option<Candidate>; MAX_ENTRIES],
 )
     requires { (C : Context) × ((marks₀ : List ℕ) × (PassReplaces C records.now context marks₀ counts.now
         × Progress C taken.now.marks.now taken.now.removed taken.now.ramp_ends bests.old 0)) }
@@ -141,6 +144,7 @@ fn find_bests(
         Progress C taken.now.marks.now taken.now.removed taken.now.ramp_ends bests.old 0 →
         Progress C taken.now.marks.now taken.now.removed taken.now.ramp_ends bests.new context.entry.count }
 {
+    // Kept: a is also the boundary whose best is found, and with `iter_mut().enumerate()` it stands beside each best all the same.
     for a in 0..context.count {
         bests[a] = best_of_ramp(records, context, counts, taken, a);
     }
@@ -148,12 +152,14 @@ fn find_bests(
 
 // Pass 1: marks the boundaries that it removes. No boundary is marked before, and marks say no more than that a region is anchored. The best of each ramp is
 // found once, and again where it conflicts with one taken and is the least of the bests.
+// Never put into its caller, as the other two passes: of their lists only those of the pass that runs are on the stack.
+#[inline(never)]
 pub fn replace_ramp_mouths(
     records: &[Region],
     context: PartitionContext,
     marks: &mut [u16],
     counts: &[u32],
-    removed: &mut [bool; 256],
+    removed: &mut [bool; MAX_ENTRIES],
 )
     requires lists_show { (C : Context) × PassReplaces C records.now context marks.old counts.now }
     requires none_marked { NoMarks removed.old }
@@ -164,9 +170,9 @@ pub fn replace_ramp_mouths(
     let mut taken = Taken {
         marks,
         removed: *removed,
-        ramp_ends: [false; 256],
+        ramp_ends: [false; MAX_ENTRIES],
     };
-    let mut bests = [None; 256];
+    let mut bests = [None; MAX_ENTRIES];
     find_bests(records, context, counts, &taken, &mut bests);
     while let Some(a) = advance(context, &mut taken, &mut bests) {
         bests[a] = best_of_ramp(records, context, counts, &taken, a);

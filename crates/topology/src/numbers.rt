@@ -61,9 +61,7 @@ pub fn put_records(records: &[Region], first: usize, numbers: &mut [u64])
 {
     let lent = first.min(records.len());
     let count = lent.min(numbers.len() / NUMBERS_PER_RECORD);
-    // Kept: of a list that `chunks_exact_mut` lends in parts a proof knows no element behind the loop.
-    for i in 0..count {
-        let r = records[i];
+    for (i, &r) in records[..count].iter().enumerate() {
         put_numbers(numbers, NUMBERS_PER_RECORD * i, r);
     }
 }

@@ -20,7 +20,7 @@ use areas::lists::PartitionLists;
 use call_partition::asked::Asked;
 use call_partition::{Ready, prepare_lists};
 use context::Region;
-use definitions::limits::{NUMBERS_PER_BOUNDARY, NUMBERS_PER_SPAN};
+use definitions::limits::{MAX_ENTRIES, NUMBERS_PER_BOUNDARY, NUMBERS_PER_SPAN};
 use junction_proposals::lists::JunctionLists;
 use junction_proposals::proposals::MAX_PROPOSALS;
 use junction_selection::found::FoundRows;
@@ -40,7 +40,7 @@ const NO_RANKED: RankedRow = RankedRow {
 pub fn rank_junctions(
     records: &[Region],
     lists: &JunctionLists,
-    removed: &mut [bool; 256],
+    removed: &mut [bool; MAX_ENTRIES],
     listed: &mut [RankedRow],
 ) -> usize
     requires lists_show { (C : Context) × PassesIn C records.now lists.now }
@@ -59,6 +59,7 @@ pub fn rank_junctions(
 
 // Views the partitioned map, marks what pass 3 removes and lists its proposals, where there are as many boundaries as spans; gives how many proposals there
 // are. Labels, tallies and pairs are those of the partition of what a call is asked.
+// Kept: the lists one by one, as in `mark_lent` of `marks`.
 pub fn mark_ranked(
     asked: Asked,
     ready: Ready,
@@ -68,7 +69,7 @@ pub fn mark_ranked(
     pairs: &[u32],
     masks: &mut [u16],
     queue: &mut [u32],
-    removed: &mut [bool; 256],
+    removed: &mut [bool; MAX_ENTRIES],
     listed: &mut [RankedRow],
 ) -> usize
     requires few { asked.height * asked.width ≤ max_cells }
@@ -97,8 +98,8 @@ pub fn mark_ranked(
         tallies,
         pairs,
     };
-    let mut starts = [0usize; 257];
-    let mut full = [None; 256];
+    let mut starts = [0usize; MAX_ENTRIES + 1];
+    let mut full = [None; MAX_ENTRIES];
     view(partition, masks, queue, &mut starts, &mut full);
     let lists = JunctionLists {
         boundaries,
@@ -125,23 +126,14 @@ pub fn topology_ranked_junctions(
     ensures same { SameLists lists.old lists.new }
 {
     let ready = prepare_lists(asked, records.len(), output.len(), lists)?;
-    let columns = asked.width as usize;
-    let needed = asked.height as usize * columns;
-    let mut removed = [false; 256];
+    fill(records, ready.regions, asked.grid(), &*lists);
+    let mut removed = [false; MAX_ENTRIES];
     let mut listed = [NO_RANKED; MAX_PROPOSALS];
     let labels = &mut *lists.labels;
     let masks = &mut *lists.masks;
     let queue = &mut *lists.queue;
     let tallies = &mut *lists.tallies;
     let pairs = &mut *lists.pairs;
-    fill(
-        records,
-        ready.regions,
-        columns,
-        asked.cells,
-        &*labels,
-        &*queue,
-    );
     let n = mark_ranked(
         asked,
         ready,
@@ -155,7 +147,7 @@ pub fn topology_ranked_junctions(
         &mut listed,
     );
     finish_ranked(
-        needed,
+        asked.height as usize * asked.width as usize,
         asked.boundaries.len() / NUMBERS_PER_BOUNDARY,
         asked.boundaries,
         &removed,

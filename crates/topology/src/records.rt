@@ -3,7 +3,9 @@ ghost use Rattle.std.specs.Prelude.{◌≤◌, length};
 ghost use Rattle.definitions.specs.Grid.{Map};
 ghost use Rattle.topology.specs.Filled.{Fills, Filled, Adds, Added, Emptied, Renewed};
 
+use areas::lists::PartitionLists;
 use context::Region;
+use grid_steps::grid::TerrainGrid;
 use stretches::{stretch_at, with_stretch};
 
 // Adds the cells of a stretch, those from `from` to before `end`, to the record of its region. Label 0 is of no region.
@@ -29,25 +31,19 @@ pub fn add_stretch(
 }
 
 // One record a region, along the chain of stretches: region r's stands at r - 1.
-pub fn fill(
-    records: &mut [Region],
-    regions: usize,
-    width: usize,
-    cells: &[u8],
-    labels: &[u32],
-    queue: &[u32],
-)
-    requires { (M : Map) × Fills M (length records.old) regions width cells.now labels.now queue.now }
+pub fn fill(records: &mut [Region], regions: usize, grid: TerrainGrid, lists: &PartitionLists)
+    requires { (M : Map) × Fills M (length records.old) regions grid.width grid.cells.now lists.now.labels.now lists.now.queue.now }
     ensures { (M : Map) →
-        Fills M (length records.old) regions width cells.now labels.now queue.now →
+        Fills M (length records.old) regions grid.entry.width grid.entry.cells.now lists.now.labels.now lists.now.queue.now →
         Filled M records.old records.new }
 {
     clear_records(records, regions);
+    let TerrainGrid { width, cells, .. } = grid;
     let end = cells.len();
     let mut c = 0;
     // Kept: each stretch says where the next begins; `iter::from_fn` would hold c in a closure and end by the same test.
     while c < end {
-        let s = stretch_at(labels, queue, c);
+        let s = stretch_at(lists.labels, lists.queue, c);
         add_stretch(records, width, cells, c, s.end, s.label);
         c = s.end;
     }
@@ -66,17 +62,15 @@ pub fn renew(
     records: &mut [Region],
     first: usize,
     regions: usize,
-    width: usize,
-    cells: &[u8],
-    labels: &[u32],
-    queue: &[u32],
+    grid: TerrainGrid,
+    lists: &PartitionLists,
 )
     requires first_in { first ≤ length records.old }
-    requires map_shown { (M : Map) × Fills M (length records.old) regions width cells.now labels.now queue.now }
-    ensures { (M : Map) → Fills M (length records.old) regions width
-        cells.now labels.now queue.now
+    requires map_shown { (M : Map) × Fills M (length records.old) regions grid.width grid.cells.now lists.now.labels.now lists.now.queue.now }
+    ensures { (M : Map) → Fills M (length records.old) regions grid.entry.width
+        grid.entry.cells.now lists.now.labels.now lists.now.queue.now
         → Renewed M first records.old records.new }
 {
     clear_records(records, first);
-    fill(records, regions, width, cells, labels, queue);
+    fill(records, regions, grid, lists);
 }

@@ -3,7 +3,7 @@ ghost use Rattle.std.specs.Prelude.{◌≡◌, ◌≤◌, ◌*◌, List, ℕ, fa
 ghost use Rattle.definitions.specs.Limits.{max_entries};
 ghost use Rattle.definitions.specs.Grid.{Map};
 ghost use Rattle.context.specs.Records.{max_cells};
-ghost use Rattle.topology.specs.Marks.{Lent, MarkedFor};
+ghost use Rattle.topology.specs.Marks.{Lent, MarkedFor, SameFilled};
 ghost use Rattle.checks.specs.Passes.{pass_number};
 ghost use Rattle.rest_definitions.specs.RowOrder.{start_map};
 ghost use Rattle.rest_definitions.specs.Rest.{passed};
@@ -14,18 +14,18 @@ ghost use Rattle.call_partition.specs.Asking.{of_asked};
 ghost use Rattle.topology.specs.Lent.{lends, leaves};
 ghost use Rattle.topology.specs.Rest.{rest_answer, rest_answer_of, run-lists, RestRanOver, Stands, RanToRest};
 
-use crate::marks::mark_removed;
+use crate::marks::mark_asked;
 use crate::records::{fill, renew};
 use areas::lists::PartitionLists;
+use call_partition::Ready;
 use call_partition::asked::Asked;
 use checks::passes::Pass;
 use context::Region;
-use definitions::limits::NUMBERS_PER_BOUNDARY;
+use definitions::limits::{MAX_ENTRIES, NUMBERS_PER_BOUNDARY, NUMBERS_PER_SPAN};
 use grid_steps::grid::TerrainGrid;
-use pass_lists::SpanPartition;
 use refusals::Refusal;
 use rest_lists::begin::begin_rest;
-use rest_lists::kept::{KeptLists, Standing, divide_again, finish_rest, keep_left};
+use rest_lists::kept::{KeptLists, Standing, divide_again, finish_rest};
 use rest_lists::turns::{first_turn, next_turn, rounds_of};
 
 // How many rows are kept, and how many rounds were run.
@@ -64,43 +64,41 @@ impl From<Result<RestKept, Refusal>> for RestAnswer {
     }
 }
 
-// Marks which of the kept boundaries the pass removes. What is lent is the partition of what is kept.
-fn mark_kept(
+// Marks which of the kept boundaries the pass removes. The lists are the partition of what is kept.
+fn mark_kept<'x>(
     pass: Pass,
     records: &[Region],
-    grid: TerrainGrid,
-    anchors: &[u64],
+    grid: TerrainGrid<'x>,
+    anchors: &'x [u64],
     standing: Standing,
-    kept: &KeptLists,
-    labels: &[u32],
-    tallies: &[u32],
-    pairs: &[u32],
-    masks: &mut [u16],
-    queue: &mut [u32],
-) -> [bool; 256]
+    kept: &'x KeptLists,
+    lists: &mut PartitionLists,
+) -> [bool; MAX_ENTRIES]
     requires few { (standing.kept ≤ max_entries) × (grid.height * grid.width ≤ max_cells) }
-    requires map_shown { (M : Map) × Lent M records.now grid.width (grid.height * grid.width) labels.now anchors.now
+    requires map_shown { (M : Map) × Lent M records.now grid.width (grid.height * grid.width) lists.old.labels.now anchors.now
         standing.regions standing.rows standing.kept (take (9 * standing.kept) kept.now.boundaries)
-        tallies.now pairs.now (length masks.old) (length queue.old) }
-    ensures { (M : Map) → Lent M records.now grid.entry.width (grid.entry.height * grid.entry.width) labels.now anchors.now
+        lists.old.tallies.now lists.old.pairs.now (length lists.old.masks.now) (length lists.old.queue.now) }
+    ensures marked { (M : Map) → Lent M records.now grid.entry.width (grid.entry.height * grid.entry.width) lists.old.labels.now anchors.now
         standing.regions standing.rows standing.kept (take (9 * standing.kept) kept.now.boundaries)
-        tallies.now pairs.now (length masks.old) (length queue.old)
+        lists.old.tallies.now lists.old.pairs.now (length lists.old.masks.now) (length lists.old.queue.now)
         → MarkedFor (pass_number pass) M (grid.entry.height * grid.entry.width) standing.kept (take (9 * standing.kept) kept.now.boundaries)
-        masks.old queue.old masks.new queue.new (replicate max_entries false) result }
+        lists.old.masks.now lists.old.queue.now lists.new.masks.now lists.new.queue.now (replicate max_entries false) result }
+    ensures read { SameFilled lists.old lists.new }
+    ensures same { SameLists lists.old lists.new }
 {
-    let partition = SpanPartition {
-        width: grid.width,
-        needed: grid.height * grid.width,
-        labels,
+    let asked = Asked {
+        width: grid.width as u64,
+        height: grid.height as u64,
+        cells: grid.cells,
+        spans: &kept.spans[..NUMBERS_PER_SPAN * standing.kept],
+        boundaries: kept.front(standing.kept),
         anchors,
+    };
+    let ready = Ready {
         regions: standing.regions,
         rows: standing.rows,
-        count: standing.kept,
-        boundaries: kept.front(standing.kept),
-        tallies,
-        pairs,
     };
-    mark_removed(pass, records, partition, masks, queue)
+    mark_asked(pass, asked, ready, records, lists)
 }
 
 // One pass over what is kept: what it does not mark moves to the front. Where it removes some, the partition and the records of what is left.
@@ -125,30 +123,13 @@ pub fn turn_once(
         (of_lists run-lists lists.new records.new kept.new.numbers kept.new.spans kept.new.boundaries) }
     ensures same { SameLists lists.old lists.new }
 {
-    let labels = &mut *lists.labels;
-    let masks = &mut *lists.masks;
-    let queue = &mut *lists.queue;
-    let tallies = &mut *lists.tallies;
-    let pairs = &mut *lists.pairs;
-    let removed = mark_kept(
-        pass, records, grid, anchors, standing, kept, &*labels, &*tallies, &*pairs, masks, queue,
-    );
-    let left = keep_left(kept, &removed, standing.kept);
+    let removed = mark_kept(pass, records, grid, anchors, standing, kept, lists);
+    let left = kept.keep_left(&removed, standing.kept);
     if left == standing.kept {
         return standing;
     }
     let next = divide_again(grid, &kept.spans, left, first, records.len(), lists);
-    let labels = &mut *lists.labels;
-    let queue = &mut *lists.queue;
-    renew(
-        records,
-        first.regions,
-        next.regions,
-        grid.width,
-        grid.cells,
-        &*labels,
-        &*queue,
-    );
+    renew(records, first.regions, next.regions, grid, &*lists);
     next
 }
 
@@ -200,9 +181,9 @@ pub fn topology_run_to_rest(
     ensures same { SameLists lists.old lists.new }
 {
     let mut kept = KeptLists {
-        numbers: [0u64; 256],
-        spans: [0u64; 1024],
-        boundaries: [0u64; 2304],
+        numbers: [0u64; MAX_ENTRIES],
+        spans: [0u64; NUMBERS_PER_SPAN * MAX_ENTRIES],
+        boundaries: [0u64; NUMBERS_PER_BOUNDARY * MAX_ENTRIES],
     };
     let ready = begin_rest(asked, records.len(), output.len(), lists, &mut kept)?;
     let grid = asked.grid();
@@ -211,16 +192,7 @@ pub fn topology_run_to_rest(
         regions: ready.regions,
         rows: ready.rows,
     };
-    let labels = &mut *lists.labels;
-    let queue = &mut *lists.queue;
-    fill(
-        records,
-        ready.regions,
-        grid.width,
-        asked.cells,
-        &*labels,
-        &*queue,
-    );
+    fill(records, ready.regions, grid, &*lists);
     let rest = run_turns(grid, asked.anchors, first, lists, records, &mut kept);
     finish_rest(
         grid.height * grid.width,

@@ -3,18 +3,21 @@
 ghost use Rattle.std.specs.Prelude.{◌≡◌};
 ghost use Rattle.refusals.specs.Answers.{answer_of};
 ghost use Rattle.areas.specs.Lists.{of_lists, SameLists};
-ghost use Rattle.topology.specs.Desks.{desk_of, desks_answer, Ground, Terrain, TerrainIn, DeskRan, DesksRan, lends_both, leaves-both, RanBothOver};
+ghost use Rattle.topology.specs.Marks.{SameFilled};
+ghost use Rattle.topology.specs.Desks.{desk_of, desks_answer, Ground, TerrainIn, DeskRan, DesksRan, lends_both, leaves-both, RanBothOver};
 
-use crate::marks::mark_removed;
+use crate::marks::mark_asked;
 use crate::records::fill;
 use areas::lists::PartitionLists;
 use areas::scratch::clear_scratch;
 use call_partition::Ready;
+use call_partition::asked::Asked;
 use context::Region;
-use definitions::limits::{NUMBERS_PER_BOUNDARY, NUMBERS_PER_SPAN};
+use definitions::limits::NUMBERS_PER_BOUNDARY;
 use desk_checks::own::{Desk, check_desk};
 use desk_checks::shared::prepare_shared;
-use pass_lists::{SpanPartition, finish};
+use grid_steps::grid::TerrainGrid;
+use pass_lists::finish;
 use refusals::Refusal;
 use refusals::answers::Answer;
 
@@ -44,33 +47,32 @@ impl From<DesksKept> for DesksAnswer {
     }
 }
 
-// The partitioned terrain that both desks read, with its records.
+// The terrain of both desks, whose partition is ready.
 #[derive(Clone, Copy)]
 pub struct SharedTerrain<'a> {
     pub width: u64,
     pub height: u64,
+    pub cells: &'a [u8],
     pub spans: &'a [u64],
-    pub regions: usize,
-    pub rows: usize,
-    pub labels: &'a [u32],
-    pub tallies: &'a [u32],
-    pub pairs: &'a [u32],
-    pub records: &'a [Region],
+    pub ready: Ready,
 }
 
-// One desk: its checks, then its pass. Gives how many rows are kept. Masks and queue are zero over the needed length, before and after.
+// One desk: its checks, then its pass over the lists of the partition. Gives how many rows are kept. Masks and queue are zero over the needed length, before
+// and after.
 pub fn run_desk(
     desk: Desk,
     terrain: SharedTerrain,
-    masks: &mut [u16],
-    queue: &mut [u32],
+    records: &[Region],
+    lists: &mut PartitionLists,
     output: &mut [u64],
 ) -> Result<usize, Refusal>
-    requires { (G : Ground) × TerrainIn G terrain masks.old queue.old }
-    ensures { (G : Ground) → TerrainIn G terrain.entry masks.old queue.old
+    requires { (G : Ground) × of_lists (TerrainIn G terrain records.now) lists.old }
+    ensures ran { (G : Ground) → of_lists (TerrainIn G terrain.entry records.now) lists.old
         → DeskRan G terrain.entry.width terrain.entry.height terrain.entry.spans.now
         (desk_of desk.entry.pass desk.entry.boundaries.now desk.entry.anchors.now output.old)
-        masks.old queue.old (answer_of result) masks.new queue.new output.new }
+        lists.old.masks.now lists.old.queue.now (answer_of result) lists.new.masks.now lists.new.queue.now output.new }
+    ensures read { SameFilled lists.old lists.new }
+    ensures same { SameLists lists.old lists.new }
 {
     let SharedTerrain {
         width,
@@ -79,28 +81,22 @@ pub fn run_desk(
         ..
     } = terrain;
     let pass = check_desk(width, height, spans, desk, output.len())?;
-    let columns = width as usize;
-    let needed = height as usize * columns;
-    let partition = SpanPartition {
-        width: columns,
-        needed,
-        labels: terrain.labels,
-        anchors: desk.anchors,
-        regions: terrain.regions,
-        rows: terrain.rows,
-        count: spans.len() / NUMBERS_PER_SPAN,
+    let asked = Asked {
+        width,
+        height,
+        cells: terrain.cells,
+        spans,
         boundaries: desk.boundaries,
-        tallies: terrain.tallies,
-        pairs: terrain.pairs,
+        anchors: desk.anchors,
     };
-    let removed = mark_removed(pass, terrain.records, partition, masks, queue);
+    let removed = mark_asked(pass, asked, terrain.ready, records, lists);
     let kept = finish(
-        needed,
+        height as usize * width as usize,
         desk.boundaries.len() / NUMBERS_PER_BOUNDARY,
         desk.boundaries,
         &removed,
-        masks,
-        queue,
+        lists.masks,
+        lists.queue,
         output,
     );
     Ok(kept)
@@ -123,54 +119,35 @@ fn order_of(number: u64) -> DeskOrder {
 }
 
 // Both desks, in the order told.
-// Kept: with a `SharedTerrain` that the caller makes, its proof no longer knew that the lists lent to the struct are as they were (`clause-same`).
 pub fn run_desks(
     order: DeskOrder,
-    width: u64,
-    height: u64,
-    spans: &[u64],
-    ready: Ready,
+    terrain: SharedTerrain,
+    records: &[Region],
     route_desk: Desk,
     coaching_desk: Desk,
-    labels: &[u32],
-    tallies: &[u32],
-    pairs: &[u32],
-    records: &[Region],
-    masks: &mut [u16],
-    queue: &mut [u32],
+    lists: &mut PartitionLists,
     route_output: &mut [u64],
     coaching_output: &mut [u64],
 ) -> DesksKept
-    requires { (G : Ground) × Terrain G width height spans.now ready.regions ready.rows
-        labels.now masks.old queue.old tallies.now pairs.now records.now }
-    ensures { (G : Ground) → Terrain G width height spans.now ready.regions ready.rows
-        labels.now masks.old queue.old tallies.now pairs.now records.now
-        → DesksRan G width height spans.now
+    requires { (G : Ground) × of_lists (TerrainIn G terrain records.now) lists.old }
+    ensures ran { (G : Ground) → of_lists (TerrainIn G terrain.entry records.now) lists.old
+        → DesksRan G terrain.entry.width terrain.entry.height terrain.entry.spans.now
         (desk_of route_desk.entry.pass route_desk.entry.boundaries.now route_desk.entry.anchors.now route_output.old)
         (desk_of coaching_desk.entry.pass coaching_desk.entry.boundaries.now coaching_desk.entry.anchors.now coaching_output.old)
-        masks.old queue.old (desks_answer result)
-        masks.new queue.new route_output.new coaching_output.new }
+        lists.old.masks.now lists.old.queue.now (desks_answer result)
+        lists.new.masks.now lists.new.queue.now route_output.new coaching_output.new }
+    ensures read { SameFilled lists.old lists.new }
+    ensures same { SameLists lists.old lists.new }
 {
-    let terrain = SharedTerrain {
-        width,
-        height,
-        spans,
-        regions: ready.regions,
-        rows: ready.rows,
-        labels,
-        tallies,
-        pairs,
-        records,
-    };
     match order {
         DeskOrder::RouteFirst => {
-            let route = run_desk(route_desk, terrain, masks, queue, route_output);
-            let coaching = run_desk(coaching_desk, terrain, masks, queue, coaching_output);
+            let route = run_desk(route_desk, terrain, records, lists, route_output);
+            let coaching = run_desk(coaching_desk, terrain, records, lists, coaching_output);
             DesksKept { route, coaching }
         }
         DeskOrder::CoachingFirst => {
-            let coaching = run_desk(coaching_desk, terrain, masks, queue, coaching_output);
-            let route = run_desk(route_desk, terrain, masks, queue, route_output);
+            let coaching = run_desk(coaching_desk, terrain, records, lists, coaching_output);
+            let route = run_desk(route_desk, terrain, records, lists, route_output);
             DesksKept { route, coaching }
         }
     }
@@ -205,28 +182,27 @@ pub fn topology_two_desks(
             coaching: Err(refusal),
         },
         Ok(ready) => {
-            let columns = width as usize;
-            let labels = &mut *lists.labels;
-            let masks = &mut *lists.masks;
-            let queue = &mut *lists.queue;
-            let tallies = &mut *lists.tallies;
-            let pairs = &mut *lists.pairs;
-            fill(records, ready.regions, columns, cells, &*labels, &*queue);
-            clear_scratch(masks, queue, height as usize * columns);
-            run_desks(
-                order_of(order),
+            let grid = TerrainGrid {
+                width: width as usize,
+                height: height as usize,
+                cells,
+            };
+            fill(records, ready.regions, grid, &*lists);
+            clear_scratch(lists.masks, lists.queue, grid.height * grid.width);
+            let terrain = SharedTerrain {
                 width,
                 height,
+                cells,
                 spans,
                 ready,
+            };
+            run_desks(
+                order_of(order),
+                terrain,
+                records,
                 route_desk,
                 coaching_desk,
-                &*labels,
-                &*tallies,
-                &*pairs,
-                records,
-                masks,
-                queue,
+                lists,
                 route_output,
                 coaching_output,
             )

@@ -1,4 +1,5 @@
--- `search::search` meets its contract. The loop's invariant (`Searched`): the sets have the places won within fewer than `moves` moves, and just these have ranks. Assumes nothing.
+-- `search::search` meets its contract. The loop's invariant (`Searched`): the sets have the places won within fewer than `moves` moves, and just these have
+-- ranks. Assumes nothing.
 use Rattle.std.proofs.Common.{sym, ◌∙◌, rules}
 use Rattle.std.proofs.lemmas.Slice.Eq.{bytes_eq-Decides}
 use Rattle.laws.specs.ListLaws.Tests.{both}

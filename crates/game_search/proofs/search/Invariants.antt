@@ -1,4 +1,5 @@
--- `search::search` meets its contract. The loop's invariant (`Searched`): the sets have the places won within fewer than `moves` moves, and just these have ranks. Assumes nothing.
+-- `search::search` meets its contract. The loop's invariant (`Searched`): the sets have the places won within fewer than `moves` moves, and just these have
+-- ranks. Assumes nothing.
 use Rattle.game_search.proofs.Searching.{Searching}
 use Rattle.game_search.proofs.search.Given as goal
 

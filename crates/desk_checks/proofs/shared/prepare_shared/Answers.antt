@@ -1,4 +1,5 @@
--- `desk_checks::shared::prepare_shared` meets its contract: it gives what the call with no boundaries, no anchors and no output is answered, of pass 1. Assumes nothing.
+-- `desk_checks::shared::prepare_shared` meets its contract: it gives what the call with no boundaries, no anchors and no output is answered, of pass 1.
+-- Assumes nothing.
 use Rattle.std.proofs.Common.{rules}
 use Rattle.desk_checks.proofs.SharedRefusals.{shared-as}
 use Rattle.desk_checks.proofs.shared.prepare_shared.Goals as goal

@@ -1,4 +1,5 @@
--- `neighbours::find_neighbours` meets its contract. The loop's invariant (`Joined`): the first edges are joined, and every region is to itself. Assumes nothing.
+-- `neighbours::find_neighbours` meets its contract. The loop's invariant (`Joined`): the first edges are joined, and every region is to itself. Assumes
+-- nothing.
 use Rattle.std.proofs.Common.{◌≡◌, suc, ◌-◌, ◌&&◌, ◌||◌, List, ℕ, [], get_or, subst, ◌∙◌, rules}
 use Rattle.std.proofs.lemmas.List.{get_or_default}
 use Rattle.game.specs.Game.{is_region}

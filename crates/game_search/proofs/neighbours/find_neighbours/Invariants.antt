@@ -1,4 +1,5 @@
--- `neighbours::find_neighbours` meets its contract. The loop's invariant (`Joined`): the first edges are joined, and every region is to itself. Assumes nothing.
+-- `neighbours::find_neighbours` meets its contract. The loop's invariant (`Joined`): the first edges are joined, and every region is to itself. Assumes
+-- nothing.
 use Rattle.std.proofs.Common.{◌-◌, length}
 use Rattle.game_search.specs.Edges.{number_in}
 use Rattle.game_search.proofs.Stepping.{Joined}

@@ -1,6 +1,6 @@
 -- `rest_lists::checked::rest_checks` meets its contract: the refusals of its parts, one after the other. Assumes nothing.
 use Rattle.std.proofs.Common.{rules, sym, ◌≡◌, ◌∙◌}
-use Rattle.std.specs.Prelude.{None, Some}
+use Rattle.std.specs.Prelude.{Some}
 use Rattle.refusals.specs.Refusals.{refusal_in, refusal_of}
 use Rattle.refusals.proofs.Steps.{here, next, searched}
 use Rattle.call_partition.proofs.SizesPassed.{sizes-of-pass, whole-fit}

@@ -1,18 +1,18 @@
 -- Once the first partition is ready each part asks what those before it leave (Gaming).
-use Rattle.std.proofs.Common.{refl, arith}
+use Rattle.std.proofs.Common.{refl, ap, ◌∙◌, length, arith}
 use Rattle.call_partition.specs.Asking.{grid_in}
-use Rattle.topology.proofs.Calling.{needed-few}
-use Rattle.topology.proofs.Gaming.{runs_fills, runs-lent, runs_divides, runs_first, runs_renews, runs_finishes, ran-kept_graph, source, divides-on, kept-on}
+use Rattle.topology.proofs.Calling.{needed-few, fills-on}
+use Rattle.topology.proofs.Gaming.{runs_fills, runs-lent, runs_divides, runs_first, runs_renews, runs_finishes, ran-kept_graph, source, divides-on, kept-on, divides-still, kept-still}
 use Rattle.topology.proofs.games.run_kept.Goals as goal
 
-pub overflow_mul-needed : goal.overflow_mul-needed
-overflow_mul-needed c = record { fits = omega (arith, needed-few c.requires.1.ready.ready) }
+pub overflow_mul-asked : goal.overflow_mul-asked
+overflow_mul-asked c = record { fits = omega (arith, needed-few c.requires.1.ready.ready) }
 
 pub fill-requires : goal.fill-requires
-fill-requires c = (_, runs_fills c.requires.1)
+fill-requires c = (_, fills-on (grid_in c.args.asked) c.grid-grid.ensures (runs_fills c.requires.1))
 
 pub mark_asked-removed-requires-clause-map_shown : goal.mark_asked-removed-requires-clause-map_shown
-mark_asked-removed-requires-clause-map_shown c = let G = c.requires.1 in (_, runs-lent G (c.fill.ensures _ (runs_fills G)))
+mark_asked-removed-requires-clause-map_shown c = let G = c.requires.1 in (_, runs-lent G (c.fill.ensures _ (fills-on (grid_in c.args.asked) c.grid-grid.ensures (runs_fills G))))
 
 pub mark_asked-removed-requires-clause-few : goal.mark_asked-removed-requires-clause-few
 mark_asked-removed-requires-clause-few c = needed-few c.requires.1.ready.ready
@@ -20,50 +20,55 @@ mark_asked-removed-requires-clause-few c = needed-few c.requires.1.ready.ready
 pub divide_kept-graph-requires : goal.divide_kept-graph-requires
 divide_kept-graph-requires c =
     let G = c.requires.1 in
-    let F = c.fill.ensures _ (runs_fills G) in
-    let D = c.mark_asked-removed.ensures _ (runs-lent G F) in
-    (source G, divides-on (grid_in c.args.asked) c.grid.ensures (runs_divides G F c.mark_asked-removed.auto.masks c.mark_asked-removed.auto.queue D))
+    let F = c.fill.ensures _ (fills-on (grid_in c.args.asked) c.grid-grid.ensures (runs_fills G)) in
+    let read = c.mark_asked-removed.ensures.read in
+    let D = c.mark_asked-removed.ensures.marked _ (runs-lent G F) in
+    (source G, divides-on (grid_in c.args.asked) c.grid-grid.ensures (divides-still read.labels read.tallies read.pairs (runs_divides G F c.mark_asked-removed.ensures.same.masks_long c.mark_asked-removed.ensures.same.queue_long_lem D)))
 
 pub renew-requires-clause-first_in : goal.renew-requires-clause-first_in
 renew-requires-clause-first_in c =
     let G = c.requires.1 in
-    let F = c.fill.ensures _ (runs_fills G) in
-    let D = c.mark_asked-removed.ensures _ (runs-lent G F) in
-    let m = c.mark_asked-removed.auto in
+    let F = c.fill.ensures _ (fills-on (grid_in c.args.asked) c.grid-grid.ensures (runs_fills G)) in
+    let read = c.mark_asked-removed.ensures.read in
+    let D = c.mark_asked-removed.ensures.marked _ (runs-lent G F) in
+    let m = c.mark_asked-removed.ensures.same in
     let d = c.divide_kept-graph.ensures.same in
-    let S = divides-on (grid_in c.args.asked) c.grid.ensures (runs_divides G F m.masks m.queue D) in
-    let N = kept-on (grid_in c.args.asked) c.grid.ensures (c.divide_kept-graph.ensures.divided (source G) S) in
-    runs_first G F m.masks m.queue D N d.labels_long d.masks_long d.queue_long_lem c.fill.auto.records
+    let S = divides-on (grid_in c.args.asked) c.grid-grid.ensures (divides-still read.labels read.tallies read.pairs (runs_divides G F m.masks_long m.queue_long_lem D)) in
+    let N = kept-still read.labels read.tallies read.pairs (kept-on (grid_in c.args.asked) c.grid-grid.ensures (c.divide_kept-graph.ensures.divided (source G) S)) in
+    runs_first G F m.masks_long m.queue_long_lem D N (d.labels_long ∙ ap length read.labels) d.masks_long d.queue_long_lem c.fill.auto.records
 
 pub renew-requires-clause-map_shown : goal.renew-requires-clause-map_shown
 renew-requires-clause-map_shown c =
     let G = c.requires.1 in
-    let F = c.fill.ensures _ (runs_fills G) in
-    let D = c.mark_asked-removed.ensures _ (runs-lent G F) in
-    let m = c.mark_asked-removed.auto in
+    let F = c.fill.ensures _ (fills-on (grid_in c.args.asked) c.grid-grid.ensures (runs_fills G)) in
+    let read = c.mark_asked-removed.ensures.read in
+    let D = c.mark_asked-removed.ensures.marked _ (runs-lent G F) in
+    let m = c.mark_asked-removed.ensures.same in
     let d = c.divide_kept-graph.ensures.same in
-    let S = divides-on (grid_in c.args.asked) c.grid.ensures (runs_divides G F m.masks m.queue D) in
-    let N = kept-on (grid_in c.args.asked) c.grid.ensures (c.divide_kept-graph.ensures.divided (source G) S) in
-    (_, runs_renews G F m.masks m.queue D N d.labels_long d.masks_long d.queue_long_lem c.fill.auto.records)
+    let S = divides-on (grid_in c.args.asked) c.grid-grid.ensures (divides-still read.labels read.tallies read.pairs (runs_divides G F m.masks_long m.queue_long_lem D)) in
+    let N = kept-still read.labels read.tallies read.pairs (kept-on (grid_in c.args.asked) c.grid-grid.ensures (c.divide_kept-graph.ensures.divided (source G) S)) in
+    (_, fills-on (grid_in c.args.asked) c.grid-grid.ensures (runs_renews G F m.masks_long m.queue_long_lem D N (d.labels_long ∙ ap length read.labels) d.masks_long d.queue_long_lem c.fill.auto.records))
 
 pub finish-kept-requires : goal.finish-kept-requires
 finish-kept-requires c =
     let G = c.requires.1 in
-    let F = c.fill.ensures _ (runs_fills G) in
-    let D = c.mark_asked-removed.ensures _ (runs-lent G F) in
-    let m = c.mark_asked-removed.auto in
+    let F = c.fill.ensures _ (fills-on (grid_in c.args.asked) c.grid-grid.ensures (runs_fills G)) in
+    let read = c.mark_asked-removed.ensures.read in
+    let D = c.mark_asked-removed.ensures.marked _ (runs-lent G F) in
+    let m = c.mark_asked-removed.ensures.same in
     let d = c.divide_kept-graph.ensures.same in
-    let S = divides-on (grid_in c.args.asked) c.grid.ensures (runs_divides G F m.masks m.queue D) in
-    let N = kept-on (grid_in c.args.asked) c.grid.ensures (c.divide_kept-graph.ensures.divided (source G) S) in
-    runs_finishes G F m.masks m.queue D N d.labels_long d.masks_long d.queue_long_lem
+    let S = divides-on (grid_in c.args.asked) c.grid-grid.ensures (divides-still read.labels read.tallies read.pairs (runs_divides G F m.masks_long m.queue_long_lem D)) in
+    let N = kept-still read.labels read.tallies read.pairs (kept-on (grid_in c.args.asked) c.grid-grid.ensures (c.divide_kept-graph.ensures.divided (source G) S)) in
+    runs_finishes G F m.masks_long m.queue_long_lem D N (d.labels_long ∙ ap length read.labels) d.masks_long d.queue_long_lem
 
 pub returns-clause-kept : goal.returns-clause-kept
 returns-clause-kept c = λ B G.
-    let F = c.fill.ensures _ (runs_fills G) in
-    let D = c.mark_asked-removed.ensures _ (runs-lent G F) in
-    let m = c.mark_asked-removed.auto in
+    let F = c.fill.ensures _ (fills-on (grid_in c.args.asked) c.grid-grid.ensures (runs_fills G)) in
+    let read = c.mark_asked-removed.ensures.read in
+    let D = c.mark_asked-removed.ensures.marked _ (runs-lent G F) in
+    let m = c.mark_asked-removed.ensures.same in
     let d = c.divide_kept-graph.ensures.same in
-    let S = divides-on (grid_in c.args.asked) c.grid.ensures (runs_divides G F m.masks m.queue D) in
-    let N = kept-on (grid_in c.args.asked) c.grid.ensures (c.divide_kept-graph.ensures.divided (source G) S) in
-    let renews = runs_renews G F m.masks m.queue D N d.labels_long d.masks_long d.queue_long_lem c.fill.auto.records in
-    ran-kept_graph G F m.masks m.queue D N d.labels_long d.masks_long d.queue_long_lem (c.renew.ensures _ renews) c.finish-kept.ensures refl refl refl
+    let S = divides-on (grid_in c.args.asked) c.grid-grid.ensures (divides-still read.labels read.tallies read.pairs (runs_divides G F m.masks_long m.queue_long_lem D)) in
+    let N = kept-still read.labels read.tallies read.pairs (kept-on (grid_in c.args.asked) c.grid-grid.ensures (c.divide_kept-graph.ensures.divided (source G) S)) in
+    let renews = fills-on (grid_in c.args.asked) c.grid-grid.ensures (runs_renews G F m.masks_long m.queue_long_lem D N (d.labels_long ∙ ap length read.labels) d.masks_long d.queue_long_lem c.fill.auto.records) in
+    ran-kept_graph G F m.masks_long m.queue_long_lem D N (d.labels_long ∙ ap length read.labels) d.masks_long d.queue_long_lem (c.renew.ensures _ renews) c.finish-kept.ensures refl refl refl

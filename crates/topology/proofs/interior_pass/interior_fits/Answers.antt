@@ -1,4 +1,5 @@
--- The record at a place is that of the context's region there, so whether it fits, and whether it has a ramp, is what the definition asks of the region (`InteriorLoops`).
+-- The record at a place is that of the context's region there, so whether it fits, and whether it has a ramp, is what the definition asks of the region
+-- (`InteriorLoops`).
 use Rattle.std.proofs.Common.{◌≡◌, ℕ, ◌+◌, ◌-◌, ◌≤◌, ◌<◌, Bool, true, false, ◌&&◌, ◌||◌, List, length, get_or, ap, arith}
 use Rattle.definitions.specs.RegionRecord.{has_ramp}
 use Rattle.definitions.specs.Context.{Context}

@@ -1,4 +1,5 @@
--- A turn reads the row's two regions from the records, which are those of the context's regions, so the function that judges a row by two records judges it by the context.
+-- A turn reads the row's two regions from the records, which are those of the context's regions, so the function that judges a row by two records judges it by
+-- the context.
 use Rattle.std.proofs.Common.{◌≡◌, ℕ, ◌+◌, ◌-◌, ◌≤◌, ◌<◌, Bool, List, length, get_or, set, refl, sym, ap, ◌∙◌, subst, length-set, arith}
 use lib.ListN.{take}
 use lib.Seq.{get_or-take, length-take-le}

@@ -1,5 +1,5 @@
--- Where the boundaries are not as many as the count says, nothing is marked, and nothing is asked to be. Else `view` leaves the anchored regions and the incidents in masks and
--- queue, of which the pass is lent as much as there are regions, as `Marking` has it.
+-- Where the boundaries are not as many as the count says, nothing is marked, and nothing is asked to be. Else `view` leaves the anchored regions and the
+-- incidents in masks and queue, of which the pass is lent as much as there are regions, as `Marking` has it.
 use Rattle.std.proofs.Common.{sym}
 use lib.Seq.{length-take-le}
 use Rattle.topology.proofs.Calling.{no_marks}

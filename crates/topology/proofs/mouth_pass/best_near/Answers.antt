@@ -1,5 +1,5 @@
--- `mouth_pass::best_near` meets its contract. What the fold keeps: of every context that is shown, `best` is the least of the entries before `k` that are left and near, and it is
--- not stale. Assumes nothing.
+-- `mouth_pass::best_near` meets its contract. What the fold keeps: of every context that is shown, `best` is the least of the entries before `k` that are left
+-- and near, and it is not stale. Assumes nothing.
 use Prim.Native.Nat.{ℕ, ◌+◌, ◌<◌}
 use mathlib.Core.Path.{◌≡◌, refl, sym, ap, ◌∙◌, subst}
 use mathlib.Core.Bool.{Bool, false}
@@ -70,10 +70,10 @@ fold-requires-clause-callable c =
     (search rules, m))
     (start s.records.now s.context t.marks.now t.removed t.ramp_ends s.entries.now)
     (λ b x k at i.
-    let C = c.requires.0 in
-    let A = c.requires.1.1.0 in
+    let C = c.requires.asked.0 in
+    let A = c.requires.asked.1.1.0 in
     let item : x.now ≡ get_or s.entries.now k blank = at.1 ∙ get_or_default s.entries.now k x.now blank at.0 in
-    let pre : (C : Context) × (PassEntryAsked C s.records.now s.context t.marks.now x.now × OnO (Known C) b) = (C, (subst (PassEntryAsked C s.records.now s.context t.marks.now) (sym item) (A.entry k at.0), (i.1 C c.requires.1.0 A c.requires.1.1.1).known)) in
+    let pre : (C : Context) × (PassEntryAsked C s.records.now s.context t.marks.now x.now × OnO (Known C) b) = (C, (subst (PassEntryAsked C s.records.now s.context t.marks.now) (sym item) (A.entry k at.0), (i.1 C c.requires.asked.1.0 A c.requires.asked.1.1.1).known)) in
     search rules)
 
 pub returns : goal.returns

@@ -11,7 +11,9 @@ pub best_near-requires : goal.best_near-requires
 best_near-requires c =
     let A = c.requires.1.1.0 in
     let few : c.push_ramp-n.result ≤ length c.push_ramp-n.new.entries = omega (arith, c.push_ramp-n.ensures.bound, c.push_ramp-n.auto.entries) in
-    (c.requires.0, (c.requires.1.0, (entries-front few (ramp-entries A (c.push_ramp-n.ensures.filled c.requires.0 A.shows A.cuts).listed), c.requires.1.1.1)))
+    record {
+      asked = (c.requires.0, (c.requires.1.0, (entries-front few (ramp-entries A (c.push_ramp-n.ensures.filled c.requires.0 A.shows A.cuts).listed), c.requires.1.1.1)));
+    }
 
 pub returns-clause-best : goal.returns-clause-best
 returns-clause-best c = λ C T A S.

@@ -1,5 +1,5 @@
--- `mouth_pass::replace_ramp_mouths` meets its contract. The invariant: what is known of every context that is shown; the measure is the weight of what is left. Assumes
--- nothing.
+-- `mouth_pass::replace_ramp_mouths` meets its contract. The invariant: what is known of every context that is shown; the measure is the weight of what is
+-- left. Assumes nothing.
 use mathlib.Core.Path.{◌≡◌}
 use lib.ListN.{length}
 use Rattle.definitions.specs.Context.{Context}

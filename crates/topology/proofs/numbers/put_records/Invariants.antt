@@ -1,5 +1,6 @@
--- `topology::numbers::put_records` meets its contract. The loop's invariant: the first i records are written, one behind the other, and nothing else. Assumes nothing.
-use Prim.Native.Nat.{◌-◌, ◌≤◌}
+-- `topology::numbers::put_records` meets its contract. The loop's invariant: the first i records are written, one behind the other, and nothing else. Assumes
+-- nothing.
+use Prim.Native.Nat.{◌≤◌}
 use mathlib.Core.Path.{◌≡◌}
 use mathlib.Core.List.{map}
 use lib.ListN.{length, take}
@@ -11,6 +12,3 @@ use Rattle.topology.proofs.numbers.put_records.Given as goal
 abbrev pub invariant-loop-i : goal.invariant-loop-i
 invariant-loop-i l =
     (l.i ≤ l.count) × (length l.numbers ≡ length l.initial.numbers) × (l.numbers ≡ overwrite (all_numbers (map record_of (take l.i l.records))) l.initial.numbers)
-
-abbrev pub decreases-loop-i : goal.decreases-loop-i
-decreases-loop-i l = l.count - l.i

@@ -1,5 +1,5 @@
--- Where the boundaries are not as many as the count says, nothing is marked or listed, and nothing is asked to be. Else `view` leaves the anchored regions and the incidents in masks
--- and queue, which pass 3 reads, as `RankedMarking` has it.
+-- Where the boundaries are not as many as the count says, nothing is marked or listed, and nothing is asked to be. Else `view` leaves the anchored regions and
+-- the incidents in masks and queue, which pass 3 reads, as `RankedMarking` has it.
 use Rattle.std.proofs.Common.{arith}
 use Rattle.topology.proofs.RankedMarking.{unranked-lent, unmarked_here, lent-passes, ranked-lent}
 use Rattle.topology.proofs.ranked.mark_ranked.Goals as goal

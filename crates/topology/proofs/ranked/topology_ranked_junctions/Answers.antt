@@ -3,8 +3,9 @@ use Rattle.std.proofs.Common.{ℕ, rules, refl, sym, ◌≡◌, ◌∙◌, arith
 use lib.Seq.{length-take-le}
 use Rattle.std.specs.Prelude.{Err}
 use Rattle.std.proofs.lemmas.List.{length-replicate}
+use Rattle.call_partition.specs.Asking.{grid_in}
 use Rattle.pass_lists.proofs.AfterPartition.{ready_finishes}
-use Rattle.topology.proofs.Calling.{no_marks, when_ready, needed-few, ready_fills, ready-lent}
+use Rattle.topology.proofs.Calling.{no_marks, when_ready, needed-few, ready_fills, fills-on, ready-lent}
 use Rattle.topology.proofs.RankedCalling.{refused_over, listed-within, ranked-over}
 use Rattle.topology.proofs.ranked.topology_ranked_junctions.Goals as goal
 
@@ -13,20 +14,20 @@ returns-in_err-ready-clause-ranked c =
     let given : c.from_residual.result ≡ Err c.in_err-ready.field-0.0 = search rules in
     rw given (refused_over _ _ _ (c.prepare_lists.ensures.prepared 3 (search rules)) c.in_err-ready.was refl refl)
 
-pub overflow_mul-needed : goal.overflow_mul-needed
-overflow_mul-needed c =
+pub overflow_mul-asked : goal.overflow_mul-asked
+overflow_mul-asked c =
     let R = when_ready (c.prepare_lists.ensures.prepared 3 (search rules)) c.in_ok-ready.was in
     record { fits = omega (arith, needed-few R) }
 
 pub fill-requires : goal.fill-requires
 fill-requires c =
     let R = when_ready (c.prepare_lists.ensures.prepared 3 (search rules)) c.in_ok-ready.was in
-    (_, ready_fills R c.prepare_lists.ensures.same.queue_long_lem)
+    (_, fills-on (grid_in c.args.asked) c.grid.ensures (ready_fills R c.prepare_lists.ensures.same.queue_long_lem))
 
 pub mark_ranked-n-requires-clause-map_shown : goal.mark_ranked-n-requires-clause-map_shown
 mark_ranked-n-requires-clause-map_shown c =
     let R = when_ready (c.prepare_lists.ensures.prepared 3 (search rules)) c.in_ok-ready.was in
-    let F = c.fill.ensures _ (ready_fills R c.prepare_lists.ensures.same.queue_long_lem) in
+    let F = c.fill.ensures _ (fills-on (grid_in c.args.asked) c.grid.ensures (ready_fills R c.prepare_lists.ensures.same.queue_long_lem)) in
     (_, ready-lent R F c.prepare_lists.ensures.same.masks_long c.prepare_lists.ensures.same.queue_long_lem)
 
 pub mark_ranked-n-requires-clause-few : goal.mark_ranked-n-requires-clause-few
@@ -43,13 +44,13 @@ finish_ranked-requires c =
 pub slice_bounds-listed-end : goal.slice_bounds-listed-end
 slice_bounds-listed-end c =
     let R = when_ready (c.prepare_lists.ensures.prepared 3 (search rules)) c.in_ok-ready.was in
-    let F = c.fill.ensures _ (ready_fills R c.prepare_lists.ensures.same.queue_long_lem) in
+    let F = c.fill.ensures _ (fills-on (grid_in c.args.asked) c.grid.ensures (ready_fills R c.prepare_lists.ensures.same.queue_long_lem)) in
     listed-within R F (c.mark_ranked-n.ensures _ (ready-lent R F c.prepare_lists.ensures.same.masks_long c.prepare_lists.ensures.same.queue_long_lem))
 
 pub slice_bounds-finish_ranked-end : goal.slice_bounds-finish_ranked-end
 slice_bounds-finish_ranked-end c =
     let R = when_ready (c.prepare_lists.ensures.prepared 3 (search rules)) c.in_ok-ready.was in
-    let F = c.fill.ensures _ (ready_fills R c.prepare_lists.ensures.same.queue_long_lem) in
+    let F = c.fill.ensures _ (fills-on (grid_in c.args.asked) c.grid.ensures (ready_fills R c.prepare_lists.ensures.same.queue_long_lem)) in
     sym
     (length-take-le c.mark_ranked-n.result c.mark_ranked-n.new.listed
     (listed-within R F (c.mark_ranked-n.ensures _ (ready-lent R F c.prepare_lists.ensures.same.masks_long c.prepare_lists.ensures.same.queue_long_lem))))
@@ -57,6 +58,6 @@ slice_bounds-finish_ranked-end c =
 pub returns-clause-ranked : goal.returns-clause-ranked
 returns-clause-ranked c =
     let R = when_ready (c.prepare_lists.ensures.prepared 3 (search rules)) c.in_ok-ready.was in
-    let F = c.fill.ensures _ (ready_fills R c.prepare_lists.ensures.same.queue_long_lem) in
+    let F = c.fill.ensures _ (fills-on (grid_in c.args.asked) c.grid.ensures (ready_fills R c.prepare_lists.ensures.same.queue_long_lem)) in
     let K = c.mark_ranked-n.ensures _ (ready-lent R F c.prepare_lists.ensures.same.masks_long c.prepare_lists.ensures.same.queue_long_lem) in
     ranked-over R F K refl refl c.finish_ranked.ensures

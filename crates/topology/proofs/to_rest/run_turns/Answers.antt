@@ -1,4 +1,5 @@
--- A turn keeps what is known of the run (`run-turn`), and the measure falls (`run-lower`); where three passes in a row were quiet the run has come to rest (`run_ends`).
+-- A turn keeps what is known of the run (`run-turn`), and the measure falls (`run-lower`); where three passes in a row were quiet the run has come to rest
+-- (`run_ends`).
 use Rattle.std.proofs.Common.{refl}
 use Rattle.topology.proofs.Lending.{same_at_entry, still_same}
 use Rattle.topology.proofs.Running.{start-few, run-starts, run_next, run-turn, run-lower, run_ends}

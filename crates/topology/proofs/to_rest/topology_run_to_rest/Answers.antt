@@ -1,9 +1,10 @@
--- A refusal of the beginning is the call's; where the first partition is ready and the records are filled the run stands at all places; at rest the rows are written (RestCall).
+-- A refusal of the beginning is the call's; where the first partition is ready and the records are filled the run stands at all places; at rest the rows are
+-- written (RestCall).
 use Rattle.std.proofs.Common.{rules, refl, arith, ◌≡◌}
 use Rattle.std.specs.Prelude.{Err}
 use Rattle.call_partition.specs.Asking.{grid_in}
-use Rattle.topology.proofs.Calling.{needed-few}
-use Rattle.topology.proofs.RestCall.{begun_when, refused_over, begun_fills, stands_first, rest-scratch, rest-room, rest_over, stands-on, rests-on, fills-on, zeroed-on}
+use Rattle.topology.proofs.Calling.{needed-few, fills-on}
+use Rattle.topology.proofs.RestCall.{begun_when, refused_over, begun_fills, stands_first, rest-scratch, rest-room, rest_over, stands-on, rests-on, zeroed-on}
 use Rattle.topology.proofs.to_rest.topology_run_to_rest.Goals as goal
 
 pub returns-in_err-ready-clause-rests : goal.returns-in_err-ready-clause-rests

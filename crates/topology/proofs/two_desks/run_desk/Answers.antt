@@ -8,19 +8,23 @@ use Rattle.topology.proofs.two_desks.run_desk.Goals as goal
 pub check_desk-requires : goal.check_desk-requires
 check_desk-requires c = sides-within c.requires.1.partitioned
 
-pub returns-in_err-pass : goal.returns-in_err-pass
-returns-in_err-pass c = λ G T.
+pub returns-in_err-pass-clause-ran : goal.returns-in_err-pass-clause-ran
+returns-in_err-pass-clause-ran c = λ G T.
     let d = c.args.desk in
     let given : c.from_residual.result ≡ Err c.in_err-pass.field-0.0 = search rules in
     rw given (desk-refused T d.pass d.boundaries.now d.anchors.now c.args.output.now c.in_err-pass.field-0.0 c.in_err-pass.ensures.refused)
 
-pub overflow_mul-needed : goal.overflow_mul-needed
-overflow_mul-needed c =
+pub overflow_mul-height : goal.overflow_mul-height
+overflow_mul-height c =
     let d = c.args.desk in
     record { fits = omega (arith, desk-few c.requires.1 d.pass d.boundaries.now d.anchors.now c.args.output.now (sym c.in_ok-pass.ensures.refused)) }
 
-pub mark_removed-removed-requires : goal.mark_removed-removed-requires
-mark_removed-removed-requires c =
+pub mark_asked-removed-requires-clause-few : goal.mark_asked-removed-requires-clause-few
+mark_asked-removed-requires-clause-few c =
+    let d = c.args.desk in desk-few c.requires.1 d.pass d.boundaries.now d.anchors.now c.args.output.now (sym c.in_ok-pass.ensures.refused)
+
+pub mark_asked-removed-requires-clause-map_shown : goal.mark_asked-removed-requires-clause-map_shown
+mark_asked-removed-requires-clause-map_shown c =
     let d = c.args.desk in
     (_, desk-lent c.requires.1 d.pass d.boundaries.now d.anchors.now c.args.output.now (sym c.in_ok-pass.ensures.refused))
 
@@ -30,11 +34,11 @@ finish-kept-requires c =
     let d = c.args.desk in
     let passed = sym c.in_ok-pass.ensures.refused in
     let lent = desk-lent T d.pass d.boundaries.now d.anchors.now c.args.output.now passed in
-    desk_finishes T d.pass d.boundaries.now d.anchors.now c.args.output.now passed (marked_as _ _ _ _ c.in_ok-pass.ensures.named (c.mark_removed-removed.ensures _ lent))
+    desk_finishes T d.pass d.boundaries.now d.anchors.now c.args.output.now passed (marked_as _ _ _ _ c.in_ok-pass.ensures.named (c.mark_asked-removed.ensures.marked _ lent))
 
-pub returns : goal.returns
-returns c = λ G T.
+pub returns-clause-ran : goal.returns-clause-ran
+returns-clause-ran c = λ G T.
     let d = c.args.desk in
     let passed = sym c.in_ok-pass.ensures.refused in
     let lent = desk-lent T d.pass d.boundaries.now d.anchors.now c.args.output.now passed in
-    desk-ran T d.pass d.boundaries.now d.anchors.now c.args.output.now passed (marked_as _ _ _ _ c.in_ok-pass.ensures.named (c.mark_removed-removed.ensures _ lent)) c.finish-kept.ensures
+    desk-ran T d.pass d.boundaries.now d.anchors.now c.args.output.now passed (marked_as _ _ _ _ c.in_ok-pass.ensures.named (c.mark_asked-removed.ensures.marked _ lent)) c.finish-kept.ensures

@@ -15,8 +15,8 @@ fill-requires c =
     let R = shared-ready c.prepare_shared.ensures.shared c.in-Ok.is in
     (_, ready_fills R c.prepare_shared.ensures.same.queue_long_lem)
 
-pub overflow_mul-height : goal.overflow_mul-height
-overflow_mul-height c =
+pub overflow_mul-grid : goal.overflow_mul-grid
+overflow_mul-grid c =
     let R = shared-ready c.prepare_shared.ensures.shared c.in-Ok.is in
     record { fits = omega (arith, needed-few R) }
 
@@ -36,4 +36,5 @@ returns-in-Ok-clause-ran c =
     let R = shared-ready c.prepare_shared.ensures.shared c.in-Ok.is in
     let F = c.fill.ensures _ (ready_fills R c.prepare_shared.ensures.same.queue_long_lem) in
     let T = terrain-filled R c.prepare_shared.ensures.same.masks_long c.prepare_shared.ensures.same.queue_long_lem F c.clear_scratch.ensures.0 c.clear_scratch.ensures.1 in
-    both-served T (c.run_desks.ensures _ T)
+    let read = c.run_desks.ensures.read in
+    rw read.labels (rw read.tallies (rw read.pairs (both-served T (c.run_desks.ensures.ran _ T))))

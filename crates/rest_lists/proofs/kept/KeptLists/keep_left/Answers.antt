@@ -1,5 +1,5 @@
--- `rest_lists::kept::keep_left` meets its contract: `keep_blocks` of each list. Assumes nothing.
-use Rattle.rest_lists.proofs.kept.keep_left.Goals as goal
+-- `rest_lists::kept::KeptLists::keep_left` meets its contract: `keep_blocks` of each list. Assumes nothing.
+use Rattle.rest_lists.proofs.kept.KeptLists.keep_left.Goals as goal
 
 pub returns : goal.returns
 returns c =
