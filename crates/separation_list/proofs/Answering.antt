@@ -2,8 +2,7 @@
 use mathlib.Core.Path.{◌≡◌, refl, sym, ap, ◌∙◌}
 use mathlib.Core.Bool.{Bool, true, cond}
 use mathlib.Core.List.{List, [], ◌∷◌}
-use Prim.Native.Nat.{ℕ, ◌-◌, ◌*◌, ◌%◌, ◌≤◌}
-use native.Mathlib.Nat.{le_trans, mul-le-mul, div-le_self}
+use Prim.Native.Nat.{ℕ, ◌*◌, ◌%◌, ◌≤◌}
 use native.Mathlib.Omega.{arith}
 use lib.Dec.{eqb, leb}
 use lib.ListN.{length}
@@ -18,7 +17,6 @@ use Rattle.laws.specs.ListLaws.NoFault.{no_fault_lem}
 use Rattle.laws.specs.ListLaws.Tests.{both}
 use Rattle.laws.specs.ListLaws.Overwritten.{sets_overwrite}
 use Rattle.separations.specs.Listing.{numbers_per_separation, boundary_count, pair_count, separation_rows, list_verdict, list_at_exit}
-use Rattle.separation_list.specs.Contract.{max_pairs}
 
 pub entries-le : (boundaries : List ℕ) {b : Bool} → b ≡ is_whole numbers_per_boundary boundaries → b ≡ true → boundary_count boundaries ≤ max_entries
 entries-le boundaries e f =
