@@ -42,7 +42,7 @@ fn replay<R: Read, W: Write>(input: &mut R, output: &mut W, sheet: &mut [u8]) ->
     Ok(true)
 }
 
-// Kept: the loop of `replay_lists` over another reading; one function of both needs a closure over reader, writer and buffer, and is no shorter.
+// Kept: the loop of `replay_cases` over another reading: one function of both takes a closure for a turn, and that of `replay_cases` needs clauses of its own.
 fn replay_all<R: Read, W: Write>(input: &mut R, output: &mut W, sheet: &mut [u8]) -> io::Result<()>
     requires { 65537 ≤ length sheet.old }
 {

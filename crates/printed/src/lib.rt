@@ -67,7 +67,7 @@ fn put_line(w: &mut Writer, first: &[u8], m: u64, second: &[u8], n: u64)
 }
 
 // Writes a row, with single spaces.
-// Kept: five calls show the line; a loop over four of them, with the fifth call behind it, is no shorter.
+// Kept: five calls show the line. For a loop over four of them the prover does not cover `[numbers @ .., last]`, and with indices it is no shorter.
 fn put_row(w: &mut Writer, row: &[u64; NUMBERS_PER_ROW])
     requires { HasRoom w.old row_room }
     ensures put { Appends w.old (row_line (row_at row.now 0)) w.new }
