@@ -210,11 +210,6 @@ module _ {C : Context} {owners : List FoundRegions} {was names wasMarks marks : 
 
 -- ---- for the calls
 
--- with nothing said of what was there before
-pub progress-now : {C : Context} {owners : List FoundRegions} {was names wasMarks marks : List ℕ} {i : ℕ} → Progress C owners was names wasMarks marks i → Progress C owners names names marks marks i
-progress-now {C} {names = names} {marks = marks} P =
-    record { long = P.long; unmet = P.unmet; settled = P.settled; beyond = beyond_same C.regions names; cleared = record { marked = P.cleared.marked; beyond = beyond_same C.regions marks } }
-
 module _ {C : Context} {boundaries tallies pairs starts names marks was wasMarks : List ℕ} {owners : List FoundRegions} {count : ℕ} (W : Owning C boundaries tallies pairs starts owners count) (i : ℕ) (l : i < C.count) (P : Progress C owners was names wasMarks marks i) where
   pub facing : {r : ℕ} → (owner_at owners i ≡ one_owner r) × (is_first owners i ≡ true) → Facing C boundaries tallies pairs starts names marks owners count r
   facing {r} (e, f) = subst (Facing C boundaries tallies pairs starts names marks owners count) {x = name_at owners i} {y = r} (ap name_of e) faced

@@ -60,29 +60,6 @@ module _ (C : Context) (taken : List MouthProposal) (m a : ℕ) (outer : Option 
 
 -- ---- ramp ends
 
-module _ (boundaries : List ℕ) (a : ℕ) where
-  pub ends_none : (used : List Bool) (i : ℕ) → get_or used i false ≡ end_mark boundaries a 0 used i
-  ends_none used i = sym (ap (λ b. get_or used i false || b && same_end_lem boundaries a i) (le-ltb i 0 zero-le) ∙ or-false (get_or used i false))
-
-  pub ends_more : (was used : List Bool) (j : ℕ) → j < length used → ((i : ℕ) → get_or used i false ≡ end_mark boundaries a j was i) → {s : Bool} → s ≡ same_end_lem boundaries a j
-      → (i : ℕ) → get_or (set used j (get_or used j false || s)) i false ≡ end_mark boundaries a (j + 1) was i
-  ends_more was used j l h {s} e i = go (eqb i j) refl
-    where
-      go : (b : Bool) → eqb i j ≡ b → get_or (set used j (get_or used j false || s)) i false ≡ end_mark boundaries a (j + 1) was i
-      go true k =
-          let same = eqb-true i j k in
-          ap (λ i. get_or (set used j (get_or used j false || s)) i false) same ∙ get_or-set_same used j (get_or used j false || s) false l
-          ∙ ap₂ ◌||◌ (h j ∙ ap (λ b. get_or was j false || b && same_end_lem boundaries a j) (le-ltb j j (omega arith)) ∙ or-false (get_or was j false)) e
-          ∙ sym (ap (λ b. get_or was j false || b && same_end_lem boundaries a j) (lt-ltb j (j + 1) (omega arith)))
-          ∙ ap (end_mark boundaries a (j + 1) was) (sym same)
-      go false k =
-          get_or-set_other used j i (get_or used j false || s) false (eqb-false i j k) ∙ h i
-          ∙ ap (λ b. get_or was i false || b && same_end_lem boundaries a i) (later (ltb i j) refl)
-        where
-          later : (b : Bool) → ltb i j ≡ b → b ≡ ltb i (j + 1)
-          later true t = sym (lt-ltb i (j + 1) (omega (arith, ltb-true i j t)))
-          later false t = sym (le-ltb i (j + 1) (omega (arith, ltb-false i j t, eqb-false i j k)))
-
 module _ {C : Context} {boundaries : List ℕ} (S : ShownBoundaries C boundaries) (taken : List MouthProposal) (p : MouthProposal) where
   pub end-taken : (a j : ℕ) → p.ramp_index ≡ a → a < C.count → j < C.count → {u : Bool} → u ≡ is_used C taken j → (u || same_end_lem boundaries a j) ≡ is_used C (taken ++ (p ∷ [])) j
   unfolding is_used any
