@@ -14,11 +14,7 @@ use Rattle.definitions.specs.Junctions.{Proposal}
 use Rattle.laws.specs.ListLaws.Tests.{both}
 use Rattle.junction_proposals.specs.Ports.{pair_of, names}
 use Rattle.junction_proposals.specs.Unions.{mark_at, no_ramp_at}
-use Rattle.junction_proposals.specs.Bridges.{PortAt, PortIn, FirstPort, is_pocket_port, bridge_of_three, bridge_of_list, is_bridge_at}
-use Rattle.junction_proposals.specs.Lent.{Lent}
-use Rattle.junction_proposals.specs.declared.bridges.Port.{Port}
-use Rattle.junction_proposals.proofs.Placing.{placed}
-use Rattle.junction_proposals.proofs.BridgeTests.{port-within}
+use Rattle.junction_proposals.specs.Bridges.{PortAt, is_pocket_port, bridge_of_three, bridge_of_list, is_bridge_at}
 use Rattle.junction_proposals.proofs.FirstFound.{found}
 use Rattle.region_pairs.specs.declared.Pair as declared
 
@@ -36,17 +32,6 @@ unfolding is_pocket_port names
 port_at_lem boundaries full r count j l h =
     let q = some_pair (pair_of full j) (contains r) (both (names full r j) (no_ramp_at boundaries j) h).0 in
     record { below = l; pair = q.0; is = q.1 }
-
--- and there is a mark for the region beyond it
-pub port_in : {boundaries : List ℕ} {full : List (Option declared.Pair)} {counts marks : List ℕ} {r count regions from : ℕ} {p : Port} → Lent boundaries full counts marks count regions
-    → FirstPort full r boundaries from count p → PortIn boundaries marks p
-port_in {boundaries} {full} {r} {count} {p} L f =
-    let within = port-within r L.pairs (port_at_lem boundaries full r count p.index f.first.1 f.first.2) in
-    record {
-      measured = record { placed = placed L.bounds f.first.1; width = record { whole = omega (arith, L.bounds.long, f.first.1); finite = L.bounds.finite p.index f.first.1 } };
-      low = omega (arith, f.beyond, within);
-      high = omega (arith, f.beyond, within, L.marks_long);
-    }
 
 module _ (boundaries : List ℕ) (full : List (Option declared.Pair)) (marks counts : List ℕ) (r count : ℕ) where
   abbrev ports : List ℕ

@@ -1,16 +1,15 @@
 -- Conflicts of proposals as the code finds them: regions by the kinds of two proposals, one after the other among those taken, and ports by marks. Assumes nothing.
 use Rattle.std.specs.Prelude.{Option, MatchBool}
 use Rattle.std.specs.List.{AllWithin, HoldsAt}
-use Prim.Native.Nat.{ℕ, zero, suc, ◌<◌}
+use Prim.Native.Nat.{ℕ, ◌<◌}
 use native.Mathlib.Omega.{arith}
 use mathlib.Core.Path.{◌≡◌, refl, sym, ap, ◌∙◌}
-use mathlib.Core.Bool.{Bool, true, false, ◌&&◌, ◌||◌, and-false, true≢false}
+use mathlib.Core.Bool.{Bool, true, false, ◌&&◌, ◌||◌, and-false}
 use mathlib.Core.List.{List, ◌∷◌}
-use borrow.Author.Tests.{eqb-true, eqb-false}
 use lib.ListN.{length, get_or}
 use lib.Dec.{eqb}
 use Rattle.definitions.specs.Scan.{any, any_below_lem}
-use Rattle.definitions.specs.Junctions.{Proposal, names_region, region_conflict}
+use Rattle.definitions.specs.Junctions.{Proposal, region_conflict}
 use Rattle.laws.specs.ListLaws.Disjunction.{disjunction, or_middle}
 use Rattle.laws.specs.ListLaws.Lists.{All, done, more}
 use Rattle.laws.specs.ListLaws.Below.{below_at, below_none, below_ext}
@@ -22,36 +21,6 @@ use Rattle.junction_selection.specs.Ranks.{order_of, reserves_at, conflict_at}
 use Rattle.region_pairs.specs.declared.Pair as declared
 
 -- ---- regions
-
-module _ (q p : Proposal) where
-  of_taken : (m k : ℕ) → m ≡ 0 → (names_region q p.first || names_region q p.second) ≡ region_conflict m k q p
-  of_taken zero zero e = refl
-  of_taken zero (suc k) e = refl
-  of_taken (suc m) k e = absurd (omega arith)
-
-  of_other : (m k : ℕ) → k ≡ 0 → (names_region q p.first || names_region q p.second) ≡ region_conflict m k q p
-  of_other zero zero e = refl
-  of_other (suc m) zero e = refl
-  of_other m (suc k) e = absurd (omega arith)
-
-  pub with_union : (m k : ℕ) → (eqb m 0 || eqb k 0) ≡ true → (names_region q p.first || names_region q p.second) ≡ region_conflict m k q p
-  with_union m k e = go (eqb m 0) refl e
-    where
-      go : (t : Bool) → eqb m 0 ≡ t → (t || eqb k 0) ≡ true → (names_region q p.first || names_region q p.second) ≡ region_conflict m k q p
-      go true d h = of_taken m k (eqb-true m 0 d)
-      go false d h = of_other m k (eqb-true k 0 h)
-
-  neither : (m k : ℕ) → (m ≡ 0 → ⊥) → (k ≡ 0 → ⊥) → (eqb q.first p.first || eqb q.first p.second || eqb q.second p.first) ≡ region_conflict m k q p
-  neither zero k a b = absurd (a refl)
-  neither (suc m) zero a b = absurd (b refl)
-  neither (suc m) (suc k) a b = refl
-
-  pub two_bridges : (m k : ℕ) → (eqb m 0 || eqb k 0) ≡ false → (eqb q.first p.first || eqb q.first p.second || eqb q.second p.first) ≡ region_conflict m k q p
-  two_bridges m k e = go (eqb m 0) refl e
-    where
-      go : (t : Bool) → eqb m 0 ≡ t → (t || eqb k 0) ≡ false → (eqb q.first p.first || eqb q.first p.second || eqb q.second p.first) ≡ region_conflict m k q p
-      go true d h = absurd (true≢false h)
-      go false d h = neither m k (eqb-false m 0 d) (eqb-false k 0 h)
 
 -- one after the other
 pub any-taken : (f : Proposal → Bool) (rows : List Candidate) (taken : List ℕ) (t : ℕ) → any f (order_of rows taken t) ≡ any_below_lem t (λ k. f (row_at rows (get_or taken k 0)))

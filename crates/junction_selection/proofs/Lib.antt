@@ -1,6 +1,5 @@
 pub mod Insertion
 pub mod Sorting
-pub mod Lists
 pub mod Conflicts
 pub mod Standings
 pub mod Removing

@@ -37,24 +37,6 @@ pub record Marked (was reserved : List Bool) (test : ℕ → Bool) (j : ℕ) : T
   pub below : (x : ℕ) → x < j → get_or reserved x false ≡ (get_or was x false || test x)
   pub above : (x : ℕ) → j ≤ x → get_or reserved x false ≡ get_or was x false
 
-pub marked_start : (was : List Bool) (test : ℕ → Bool) → Marked was was test 0
-marked_start was test = record { long = refl; below = λ x h. absurd (omega arith); above = λ x h. refl }
-
-pub marked_more : {was reserved : List Bool} {test : ℕ → Bool} {j : ℕ} {t : Bool} → Marked was reserved test j → j < length was → t ≡ test j → Marked was (set reserved j (get_or reserved j false || t)) test (j + 1)
-marked_more {was} {reserved} {test} {j} {t} h l e =
-    record {
-      long = lib.ListN.length-set reserved j (get_or reserved j false || t) ∙ h.long;
-      below = λ x k. go x k (eqb x j) refl;
-      above = λ x k. get_or-set_other reserved j x (get_or reserved j false || t) false (λ q. omega arith) ∙ h.above x (omega arith);
-    }
-  where
-    here : get_or (set reserved j (get_or reserved j false || t)) j false ≡ (get_or was j false || test j)
-    here = get_or-set_same reserved j (get_or reserved j false || t) false (omega (arith, h.long)) ∙ ap₂ ◌||◌ (h.above j (omega arith)) e
-
-    go : (x : ℕ) → x < j + 1 → (b : Bool) → eqb x j ≡ b → get_or (set reserved j (get_or reserved j false || t)) x false ≡ (get_or was x false || test x)
-    go x k true q = rw (eqb-true x j q) here
-    go x k false q = get_or-set_other reserved j x (get_or reserved j false || t) false (eqb-false x j q) ∙ h.below x (omega (arith, eqb-false x j q))
-
 -- ---- the chosen
 
 -- the rows that an order names have boundaries

@@ -4,13 +4,6 @@ use Rattle.junction_regions.specs.Tests.{union_of}
 use Rattle.junction_regions.proofs.Regions.{no_ramp_lem}
 use Rattle.junction_regions.proofs.union_regions.Goals as goal
 
-pub is_local-requires : goal.is_local-requires
-is_local-requires c = (c.requires.0.edges, (c.requires.1.0.edges, c.requires.1.1))
-
-pub same_dominance-requires : goal.same_dominance-requires
-same_dominance-requires c =
-    (c.requires.0.counted, c.requires.1.0.counted)
-
 pub returns : goal.returns
 unfolding union_of
 returns c =

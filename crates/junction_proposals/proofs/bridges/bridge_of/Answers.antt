@@ -1,17 +1,12 @@
 -- `junction_proposals::bridges::bridge_of` meets its contract, from what its callees ensure: each return by the tests that led there. Assumes nothing.
 use Prim.Native.Nat.{ℕ}
-use native.Mathlib.Omega.{arith}
 use mathlib.Core.Path.{sym, ap, ◌∙◌}
 use mathlib.Core.List.{List}
 use Rattle.junction_proposals.specs.Bridges.{bridge_form, is_pocket_port}
 use Rattle.junction_proposals.proofs.FirstFound.{none_found, one_found, two_found, three-found, more_found}
 use Rattle.junction_proposals.proofs.BridgeTests.{three_as}
-use Rattle.junction_proposals.proofs.BridgeWalk.{port_in, other-count, is_anchored, other_length, of_three}
+use Rattle.junction_proposals.proofs.BridgeWalk.{other-count, is_anchored, other_length, of_three}
 use Rattle.junction_proposals.proofs.bridges.bridge_of.Goals as goal
-
-pub bounds-lists-r : goal.bounds-lists-r
-bounds-lists-r c =
-    omega (arith, c.requires.r_named, c.requires.lent.counts_long)
 
 pub returns-then-lists-r-ne3 : goal.returns-then-lists-r-ne3
 returns-then-lists-r-ne3 c =
@@ -20,10 +15,6 @@ returns-then-lists-r-ne3 c =
     let counts : List ℕ = c.args.lists.now.counts.now in
     let marks : List ℕ = c.args.lists.now.marks.now in
     other-count boundaries full marks counts c.args.r c.args.lists.now.count c.if-lists-r-ne3.true
-
-pub is_anchored-requires : goal.is_anchored-requires
-is_anchored-requires c =
-    omega (arith, c.requires.r_named, c.requires.lent.marks_long)
 
 pub returns-then-is_anchored : goal.returns-then-is_anchored
 returns-then-is_anchored c =
@@ -52,11 +43,6 @@ pub returns-in-Some : goal.returns-in-Some
 returns-in-Some c =
     other_length c.args.lists.now.boundaries.now c.args.lists.now.full.now c.args.lists.now.marks.now c.args.lists.now.counts.now c.args.r c.args.lists.now.count c.if-lists-r-ne3.false (sym c.is_anchored.ensures ∙ c.if-is_anchored.false)
     (more_found (is_pocket_port c.args.lists.now.full.now c.args.r c.args.lists.now.boundaries.now) c.args.lists.now.count c.in_ok-i.ensures.first.first c.in_ok-j.ensures.first.first c.in_ok-k.ensures.first.first c.in-Some.ensures.first.first)
-
-pub bridge_of_three-requires : goal.bridge_of_three-requires
-bridge_of_three-requires c =
-    let l = c.requires.lent in
-    record { i_is_port = port_in l c.in_ok-i.ensures.first; j_is_port = port_in l c.in_ok-j.ensures.first; k_is_port = port_in l c.in_ok-k.ensures.first }
 
 pub returns-in-None : goal.returns-in-None
 returns-in-None c =

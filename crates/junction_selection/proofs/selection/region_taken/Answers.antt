@@ -1,5 +1,5 @@
 -- `junction_selection::selection::region_taken` meets its contract, by what `any` gives. Assumes nothing.
-use Rattle.std.proofs.Common.{rules, tests, arith, length, ◌<◌, sym, ◌≡◌, ◌∙◌, true, false, ℕ, Bool, List}
+use Rattle.std.proofs.Common.{rules, tests, arith, length, ◌<◌, ◌≡◌, true, false, ℕ, Bool, List}
 use Rattle.std.proofs.lemmas.Iterator.{cases_from_any, YieldsList-from_slice}
 use Rattle.std.proofs.lemmas.Iterator.Adapters.{serves_from_places}
 use Rattle.std.proofs.lemmas.List.{get_or_default}

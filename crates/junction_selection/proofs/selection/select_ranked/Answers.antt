@@ -1,14 +1,7 @@
 -- `junction_selection::selection::select_ranked` meets its contract. The loop's invariant: the state stands for what is selected of the rows passed. Assumes nothing.
-use native.Mathlib.Nat.{le_antisymm}
 use native.Mathlib.Omega.{arith}
-use mathlib.Core.Path.{◌≡◌, refl, sym, ap, ◌∙◌}
-use mathlib.Core.Bool.{false}
-use lib.ListN.{length, get_or}
-use borrow.Author.Rules.{rules}
-use lib.Dec.{eqb}
-use Rattle.definitions.specs.Scan.{any}
+use mathlib.Core.Path.{refl, sym, ◌∙◌}
 use Rattle.laws.specs.ListLaws.Flags.{none_set}
-use Rattle.junction_selection.specs.Ranks.{selected_of}
 use Rattle.junction_selection.proofs.Standings.{selected_next, standing-start, standing_as}
 use Rattle.junction_selection.proofs.selection.select_ranked.Goals as goal
 
@@ -30,13 +23,3 @@ loop-p-preserved c =
       a.selecting,
       standing_as (a.standing _ i.3) (sym (selected_next c.args.found.now.lists.now.full.now c.args.found.now.rows.now c.args.order.now c.args.found.now.lists.now.count c.loop-p.p-index)),
     )
-
-pub returns : goal.returns
-returns c j h =
-    let i = c.loop-p.invariant in
-    let name = i.0 in
-    let marked : get_or c.loop-p.selection.removed.now j false ≡ any (λ q. eqb j q.index) (selected_of c.args.found.now.lists.now.full.now c.args.found.now.rows.now c.args.order.now c.args.found.now.lists.now.count (length c.args.order.now)) =
-    i.3.removed_at_lem j h
-    ∙ ap (λ k. any (λ q. eqb j q.index) (selected_of c.args.found.now.lists.now.full.now c.args.found.now.rows.now c.args.order.now c.args.found.now.lists.now.count k)) (le_antisymm c.loop-p.auto.p-index-end c.loop-p-test.false)
-    in
-    search rules

@@ -1,5 +1,4 @@
 -- `junction_selection::selection::select_ranked` meets its contract. The loop's invariant: the state stands for what is selected of the rows passed. Assumes nothing.
-use lib.ListN.{length}
 use Prim.Native.Nat.{◌≤◌}
 use mathlib.Core.Path.{◌≡◌}
 use Rattle.junction_selection.specs.Ranks.{selected_of}

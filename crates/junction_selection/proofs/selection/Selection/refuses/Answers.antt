@@ -1,28 +1,13 @@
 -- `junction_selection::selection::Selection::refuses` meets its contract, from what its callees ensure. Assumes nothing.
 use native.Mathlib.Omega.{arith}
 use mathlib.Core.Bool.{false}
-use mathlib.Core.Path.{◌≡◌, ap, ◌∙◌}
-use lib.ListN.{length, take, get_or}
-use lib.Seq.{length-take-le}
+use mathlib.Core.Path.{ap, ◌∙◌}
+use lib.ListN.{get_or}
 use Rattle.definitions.specs.Scan.{any}
 use Rattle.definitions.specs.Junctions.{region_conflict}
 use Rattle.junction_proposals.specs.Rows.{row_at}
-use Rattle.junction_selection.proofs.Standings.{refused, order-front, rows-front}
+use Rattle.junction_selection.proofs.Standings.{refused, order-front}
 use Rattle.junction_selection.proofs.selection.Selection.refuses.Goals as goal
-
-pub port_taken-ports-requires : goal.port_taken-ports-requires
-port_taken-ports-requires c =
-    let h = c.requires.selecting in
-    record { whole = c.requires.places.1; small = h.small; removed-long = h.removed-long; reserved_long = h.reserved_long; index_in = h.below c.args.p c.requires.places.1 }
-
-pub region_taken-requires : goal.region_taken-requires
-region_taken-requires c =
-    record {
-      row_within = c.requires.places.1;
-      taken_rows = λ k l.
-          let size : length (take c.args.self.now.count c.args.self.now.taken) ≡ c.args.self.now.count = length-take-le c.args.self.now.count c.args.self.now.taken (omega (arith, c.requires.places.0, c.requires.selecting.few, c.requires.selecting.room)) in
-          omega (arith, rows-front c.args.self.now.taken (omega (arith, c.requires.places.0, c.requires.selecting.few, c.requires.selecting.room)) c.requires.listed k (omega (arith, l, size)));
-    }
 
 pub returns : goal.returns
 returns c chosen st =

@@ -1,19 +1,8 @@
 -- `junction_selection::selection::Selection::take_if_free` meets its contract, from what its callees ensure. Assumes nothing.
 use native.Mathlib.Omega.{arith}
-use borrow.Author.Rules.{rules}
 use mathlib.Core.Path.{refl}
-use lib.ListN.{length, length-set}
-use Rattle.junction_selection.proofs.Lists.{selecting_of}
 use Rattle.junction_selection.proofs.Standings.{standing-kept, standing-taken}
 use Rattle.junction_selection.proofs.selection.Selection.take_if_free.Goals as goal
-
-pub refuses-requires : goal.refuses-requires
-refuses-requires c =
-    record {
-      selecting = c.requires.selecting;
-      places = (omega (arith, c.requires.places), c.requires.places.1);
-      listed = c.requires.listed;
-    }
 
 pub returns-then-refuses-clause-standing : goal.returns-then-refuses-clause-standing
 returns-then-refuses-clause-standing c =
@@ -24,7 +13,3 @@ returns-clause-standing c =
     λ chosen st.
     standing-taken c.args.found.now.lists.now.full.now c.args.found.now.rows.now c.args.self.now.taken c.args.self.now.removed.now c.args.self.now.reserved c.args.found.now.lists.now.count c.args.self.now.count chosen st c.args.p _ _ (c.refuses.ensures chosen st) c.if-refuses.false (omega (arith, c.requires.selecting.few, c.requires.selecting.room, c.requires.places)) c.requires.places.1 refl
     (omega (arith, c.requires.selecting.below c.args.p c.requires.places.1, c.requires.selecting.removed-long)) c.reserve_ports.ensures
-
-pub returns-clause-selecting : goal.returns-clause-selecting
-returns-clause-selecting c =
-    selecting_of _ _ c.reserve_ports.new.reserved c.requires.selecting (length-set _ _ _) (search rules) (length-set _ _ _)
