@@ -2,13 +2,7 @@
 use mathlib.Core.Path.{◌∙◌}
 use Rattle.cut_steps.specs.Cell.{onward_mask}
 use Rattle.cut_steps.specs.Crossed.{steps_onward}
-use Rattle.cut_steps.proofs.Steps.{tests}
 use Rattle.cut_steps.proofs.cell.steps_onward.Goals as goal
-
-pub steps_inside-requires : goal.steps_inside-requires
-steps_inside-requires c =
-    let a = c.args in
-    record { asked = c.requires; inside = tests a.cell.x a.grid.width a.cell.y a.grid.height c.if-cell-grid.true }
 
 pub returns-then-cell-grid : goal.returns-then-cell-grid
 returns-then-cell-grid c = c.steps_inside.ensures

@@ -4,8 +4,3 @@ use Rattle.cut_steps.proofs.cell.walks_south.Goals as goal
 
 pub returns-then-grid-cell : goal.returns-then-grid-cell
 returns-then-grid-cell c = let a = c.args in below-grid a.grid.width a.grid.height a.grid.cells.now a.cell.x a.cell.y c.if-grid-cell.true
-
-pub is_walkable-requires : goal.is_walkable-requires
-is_walkable-requires c =
-    let i = c.requires in
-    record { narrow = i.narrow; short = i.short; cells_long = i.cells_long; in_x = i.in_x; in_y = c.if-grid-cell.false }

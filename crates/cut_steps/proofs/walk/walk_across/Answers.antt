@@ -3,7 +3,7 @@
 use mathlib.Core.Path.{sym, subst}
 use Rattle.span_geometry.specs.Shapes.{segment_of}
 use Rattle.cut_steps.specs.Walks.{walk_map}
-use Rattle.cut_steps.proofs.Across.{is_placed_as, placed_back, placed_cell, none_there, one_there, across-crossed, unchanged}
+use Rattle.cut_steps.proofs.Across.{is_placed_as, placed_cell, none_there, one_there, across-crossed, unchanged}
 use Rattle.cut_steps.proofs.Passing.{visited_none, visited_as}
 use Rattle.cut_steps.proofs.Walks.{cell_of_column}
 use Rattle.cut_steps.proofs.walk.walk_across.Goals as goal
@@ -21,9 +21,6 @@ returns-then-not-is_placed g c =
     let walk = a.walk in
     let not_in = is_placed_as walk.strip walk.grid.width walk.grid.height a.beyond c.breadth.ensures c.is_placed.ensures c.if-not-is_placed.true in
     visited_none g.met.V.StepVisitor.laws (walk_map walk) 1 a.visitor.now (sym (none_there (walk_map walk) (segment_of walk.g) walk.strip a.k a.beyond not_in))
-
-pub overflow_sub-beyond : goal.overflow_sub-beyond
-overflow_sub-beyond g c = placed_back c.args.beyond c.breadth.result c.is_placed.ensures c.if-not-is_placed.false
 
 pub crossed_directions-directions-requires : goal.crossed_directions-directions-requires
 crossed_directions-directions-requires g c =

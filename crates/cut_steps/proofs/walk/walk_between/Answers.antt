@@ -20,14 +20,6 @@ use Rattle.cut_steps.proofs.walk.walk_between.Goals as goal
 line : {t : Strip} {g : SpanGeometry} {tie : ℕ} → Usable t → t ≡ strip_of (segment_of g) → Sound g → tie ≡ tie_of (segment_of g) → Usable t × Gentle t × (tie ≤ 1)
 line {g = g} usable strip sound tie = (usable, gentle_of (segment_of g) strip sound.ordered, subst⁻¹ (λ n. n ≤ 1) tie (tie-few (segment_of g)))
 
-pub tie_of-tie-requires : goal.tie_of-tie-requires
-tie_of-tie-requires g c = c.requires.between.0.strip
-
-pub overflow_sub-from : goal.overflow_sub-from
-overflow_sub-from g c =
-    let p = c.requires.between in
-    from_some c.args.walk.strip c.args.from c.args.to p.0.inside p.1
-
 pub first_place-before-requires : goal.first_place-before-requires
 first_place-before-requires g c =
     let asked = c.requires.asked in

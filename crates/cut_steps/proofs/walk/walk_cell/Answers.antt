@@ -1,6 +1,6 @@
 -- `walk_cell` meets its contract: a cell that is not near has no cut step, and of the others `cut_directions` says which are cut. Assumes nothing.
 use mathlib.Core.Path.{sym}
-use borrow.Author.Tests.{not-true, not-false}
+use borrow.Author.Tests.{not-true}
 use Rattle.definitions.specs.Grid.{at}
 use Rattle.span_geometry.specs.Shapes.{segment_of}
 use Rattle.cut_steps.specs.Walks.{walk_map}
@@ -14,12 +14,6 @@ returns-then-not-is_near g c =
     let walk = a.walk in
     let none = c.is_near.ensures.where_false (not-true _ c.if-not-is_near.true-raw) in
     visited_none g.met.V.StepVisitor.laws (walk_map walk) 1 a.visitor.now (sym (no_cut (walk_map walk) (segment_of walk.g) (at a.cell.x a.cell.y) none.bits))
-
-pub cut_directions-directions-requires : goal.cut_directions-directions-requires
-cut_directions-directions-requires g c = record { asked = c.requires.asked; walkable_cell = c.is_near.ensures.where_true (not-false _ c.if-not-is_near.false-raw) }
-
-pub visit-requires : goal.visit-requires
-visit-requires g c = record { asked = c.requires.asked; directions = c.cut_directions-directions.ensures; is_ready = c.requires.is_ready }
 
 pub returns : goal.returns
 returns g c = c.visit.ensures

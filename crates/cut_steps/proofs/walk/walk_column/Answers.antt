@@ -4,14 +4,11 @@ use native.Mathlib.Omega.{arith}
 use mathlib.Core.Path.{sym, ap, subst}
 use Rattle.span_geometry.specs.Shapes.{segment_of}
 use Rattle.cut_steps.specs.CutSteps.{cut_from}
-use Rattle.cut_steps.specs.Columns.{cut_across, cell_in, cell_at, column_in}
+use Rattle.cut_steps.specs.Columns.{cut_across, cell_in, cell_at}
 use Rattle.cut_steps.specs.Walks.{walk_map}
 use Rattle.cut_steps.proofs.Passing.{visited_as, passing-start, passing-more, passing-done, ready_at}
 use Rattle.cut_steps.proofs.Walks.{cell_of_column, range-joined, range-few}
 use Rattle.cut_steps.proofs.walk.walk_column.Goals as goal
-
-pub near_range-range-requires : goal.near_range-range-requires
-near_range-range-requires g c = let p = c.requires.asked in (p.0.sound, p.1.usable, column_in p.0.narrow p.0.short p.1, omega (arith, c.breadth-breadth.ensures, p.1.some))
 
 pub loop-m-init : goal.loop-m-init
 loop-m-init g c =

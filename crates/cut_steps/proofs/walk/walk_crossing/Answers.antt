@@ -54,11 +54,6 @@ loop-j-init g c =
     let e : a.here ≡ a.here + 0 = omega arith in
     (omega arith, subst (Passing g.V.StepVisitor.visited M (across_steps walk a.k) 1 a.here (a.here + 4) a.visitor.now a.visitor.now) e P)
 
-pub side_changes-changes-requires : goal.side_changes-changes-requires
-side_changes-changes-requires g c =
-    let z = sizes c.requires.follows in
-    (z.back, z.ahead, omega (arith, c.loop-j-test.true))
-
 pub overflow_add-here : goal.overflow_add-here
 overflow_add-here g c = omega (arith, (sizes c.requires.follows).here_small, c.loop-j-test.true)
 

@@ -1,7 +1,6 @@
 -- `walk_part` meets its contract: a part of more than one column, or row, is between the span's ends. Assumes nothing.
 use Prim.Native.Nat.{ℕ, ◌-◌, ◌*◌, ◌≤◌, ◌<◌}
 use native.Mathlib.Omega.{arith}
-use mathlib.Core.Path.{sym}
 use native.Mathlib.Nat.{le_refl}
 use Rattle.definitions.specs.Limits.{max_side}
 use Rattle.span_geometry.specs.Shapes.{segment_of}
@@ -34,11 +33,3 @@ returns-then-to-from g c =
     let laws = g.met.V.StepVisitor.laws in
     visited_as laws (walk_map walk) (part-single (walk_map walk) (segment_of walk.g) walk.strip part.some c.if-to-from.true)
     (laws.most (walk_map walk) (column_steps walk a.from) max_side (max_side * (a.to - a.from)) a.visitor.now c.walk_column.new.visitor (single part.some) c.walk_column.ensures)
-
-pub walk_between-requires : goal.walk_between-requires
-walk_between-requires g c =
-    record { asked = c.requires.asked; axis = sym c.if-walk.true; between = (c.requires.part.between c.if-to-from.false, c.requires.part.some); is_ready = c.requires.is_ready }
-
-pub walk_between-requires-else-walk : goal.walk_between-requires-else-walk
-walk_between-requires-else-walk g c =
-    record { asked = c.requires.asked; axis = sym c.if-walk.false; between = (c.requires.part.between c.if-to-from.false, c.requires.part.some); is_ready = c.requires.is_ready }

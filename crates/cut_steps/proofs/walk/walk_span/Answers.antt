@@ -12,15 +12,6 @@ use Rattle.cut_steps.proofs.SpanParts.{limit-small, columns-asked, part-within, 
 use Rattle.cut_steps.proofs.Walks.{parts-few}
 use Rattle.cut_steps.proofs.walk.walk_span.Goals as goal
 
-pub new-requires : goal.new-requires
-new-requires g c = (c.requires.asked.grid_sound.sound, c.requires.asked.differ)
-
-pub parts_of-parts-requires : goal.parts_of-parts-requires
-parts_of-parts-requires g c =
-    let p = c.requires.asked in
-    let t = c.new.result in
-    (c.new.ensures.1, omega (arith, c.length.ensures, some_side t.columns p.wide p.tall), limit-small t p.grid_sound.narrow p.grid_sound.short c.length.ensures)
-
 pub loop-k-init : goal.loop-k-init
 loop-k-init g c =
     let M = terrain_of c.args.grid in

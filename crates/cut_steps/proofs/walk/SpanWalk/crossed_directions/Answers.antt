@@ -1,13 +1,12 @@
 -- `SpanWalk::crossed_directions` meets its contract: of the steps that change sides those that are there (`crossed-cell`). Assumes nothing.
 use native.Mathlib.Omega.{arith}
 use mathlib.Core.Path.{refl, sym, ◌∙◌}
-use borrow.Author.Tests.{not-true, not-false}
+use borrow.Author.Tests.{not-true}
 use Rattle.definitions.specs.Grid.{at}
 use Rattle.span_geometry.specs.Shapes.{segment_of}
 use Rattle.grid_steps.specs.Walk.{grid_of}
 use Rattle.cut_steps.proofs.Onward.{no_step, no_bits}
 use Rattle.cut_steps.proofs.Changes.{crossed-cell}
-use Rattle.cut_steps.proofs.Steps.{in_grid_of}
 use Rattle.cut_steps.proofs.walk.SpanWalk.crossed_directions.Goals as goal
 
 pub returns-then-not-is_walkable : goal.returns-then-not-is_walkable
@@ -15,9 +14,6 @@ returns-then-not-is_walkable c =
     let a = c.args in
     let M = grid_of a.self.now.grid.width a.self.now.grid.height a.self.now.grid.cells.now in
     record { small = omega arith; bits = no_bits M (segment_of a.self.now.g) (at a.cell.x a.cell.y) (no_step M (segment_of a.self.now.g) (at a.cell.x a.cell.y) (sym c.is_walkable.ensures ∙ not-true _ c.if-not-is_walkable.true-raw)) }
-
-pub steps_onward-requires : goal.steps_onward-requires
-steps_onward-requires c = (in_grid_of c.requires.asked, sym c.is_walkable.ensures ∙ not-false _ c.if-not-is_walkable.false-raw)
 
 pub returns : goal.returns
 returns c = crossed-cell c.requires.crossed c.steps_onward.ensures refl

@@ -3,19 +3,12 @@ use Rattle.definitions.specs.Grid.{at}
 use Rattle.span_geometry.specs.Shapes.{segment_of}
 use Rattle.grid_steps.specs.Walk.{grid_of}
 use Rattle.cut_steps.proofs.Onward.{clear_of}
-use Rattle.cut_steps.proofs.Cells.{in_limits}
 use Rattle.cut_steps.proofs.walk.SpanWalk.is_cut_east.Goals as goal
-
-pub is_far_eastward-requires : goal.is_far_eastward-requires
-is_far_eastward-requires c = in_limits c.requires.asked.cell
 
 pub returns-then-is_far_eastward : goal.returns-then-is_far_eastward
 returns-then-is_far_eastward c =
     let a = c.args in
     clear_of (grid_of a.self.now.grid.width a.self.now.grid.height a.self.now.grid.cells.now) (segment_of a.self.now.g) (at a.cell.x a.cell.y) (at 2 1) (c.is_far_eastward.ensures c.if-is_far_eastward.true)
-
-pub is_cut_onward-requires : goal.is_cut_onward-requires
-is_cut_onward-requires c = c.requires
 
 pub returns : goal.returns
 returns c = c.is_cut_onward.ensures

@@ -7,34 +7,16 @@ use Rattle.span_geometry.specs.Shapes.{segment_of}
 use Rattle.grid_steps.specs.Walk.{grid_of}
 use Rattle.grid_steps.specs.Inner.{Inside}
 use Rattle.cut_steps.proofs.Onward.{blocked, onward-cut}
-use Rattle.cut_steps.proofs.Cells.{nearby, stepping, outside}
+use Rattle.cut_steps.proofs.Cells.{outside}
 use Rattle.cut_steps.proofs.walk.SpanWalk.is_cut_onward.Goals as goal
-
-pub is_inside-requires : goal.is_inside-requires
-is_inside-requires c = record { nearby = nearby c.requires.asked; inner_cell = c.requires.inner_cell }
 
 pub returns-then-not-is_inside : goal.returns-then-not-is_inside
 returns-then-not-is_inside c = let a = c.args in outside a.self.now.grid.width a.self.now.grid.height a.self.now.grid.cells.now (segment_of a.self.now.g) a.cell.x a.cell.y a.direction.dx a.direction.dy (c.is_inside.ensures.1 (not-true _ c.if-not-is_inside.true-raw))
-
-pub is_step-requires : goal.is_step-requires
-is_step-requires c =
-    let inside : let a = c.args in Inside a.self.now.grid.width a.self.now.grid.height a.cell.x a.cell.y a.direction.dx a.direction.dy = c.is_inside.ensures.0 (not-false _ c.if-not-is_inside.false-raw) in
-    stepping c.requires.asked inside
 
 pub returns-then-not-is_step : goal.returns-then-not-is_step
 returns-then-not-is_step c =
     let a = c.args in
     blocked (grid_of a.self.now.grid.width a.self.now.grid.height a.self.now.grid.cells.now) (segment_of a.self.now.g) (at a.cell.x a.cell.y) (at a.direction.dx a.direction.dy) (sym c.is_step.ensures ∙ not-true _ c.if-not-is_step.true-raw)
-
-pub overflow_sub-x : goal.overflow_sub-x
-overflow_sub-x c =
-    let inside : let a = c.args in Inside a.self.now.grid.width a.self.now.grid.height a.cell.x a.cell.y a.direction.dx a.direction.dy = c.is_inside.ensures.0 (not-false _ c.if-not-is_inside.false-raw) in
-    omega (arith, inside)
-
-pub overflow_sub-y : goal.overflow_sub-y
-overflow_sub-y c =
-    let inside : let a = c.args in Inside a.self.now.grid.width a.self.now.grid.height a.cell.x a.cell.y a.direction.dx a.direction.dy = c.is_inside.ensures.0 (not-false _ c.if-not-is_inside.false-raw) in
-    omega (arith, inside)
 
 pub cuts-requires : goal.cuts-requires
 cuts-requires c =
