@@ -1,4 +1,5 @@
-// The hypotenuse, correctly rounded: the double nearest to the root of the sum of two squares, ties to the even significand. It is worked out from the bits, in bounded time.
+// The hypotenuse, correctly rounded: the double nearest to the root of the sum of two squares, ties to the even significand. It is worked out from the bits,
+// in bounded time.
 
 #![tactic(auto)]
 
@@ -6,12 +7,13 @@ ghost use Rattle.std.specs.Prelude.{◌≡◌};
 ghost use Rattle.definitions.specs.Hypotenuse.{hypot_number, hypot_value};
 ghost use Rattle.hypotenuse.specs.Contract.{number_of, value_of};
 
-mod layout;
+pub mod layout;
 mod patterns;
 mod root;
 mod short;
 
-// The hypotenuse of x and y, whatever their signs; none where one of them is a NaN, or not zero and not of a magnitude from 2^-64 to 2^15. The hypotenuse of zeros is +0.
+// The hypotenuse of x and y, whatever their signs; none where one of them is a NaN, or not zero and not of a magnitude from 2^-64 to 2^15. The hypotenuse of
+// zeros is +0.
 pub fn hypotenuse(x: f64, y: f64) -> Option<f64>
     ensures { (number_of result ≡ hypot_number x y) × (value_of result ≡ hypot_value x y) }
 {

@@ -38,7 +38,8 @@ pub fn in_range(b: u64) -> bool
     b == 0 || (LEAST <= b && b <= MOST)
 }
 
-// A guess at twice the root of the two doubles' squares, in units of the last place of the larger, by two of Halley's steps in floats. All that is claimed of it is its size.
+// A guess at twice the root of the two doubles' squares, in units of the last place of the larger, by two of Halley's steps in floats. All that is claimed of
+// it is its size.
 fn guess(larger: u64, smaller: u64) -> u64
     requires { (larger ≤ 1038 * 2 ^ 52) × (smaller ≤ 1038 * 2 ^ 52) }
     ensures { (2 ^ 53 ≤ result) × (result < 2 ^ 55) }
@@ -70,8 +71,9 @@ fn guess(larger: u64, smaller: u64) -> u64
     2 * (larger % LEADING + LEADING)
 }
 
-// The pattern of the double nearest to a root, ties to the even significand. The root is t halves of 2^k, and a little more where `extra` is not 0; t has 54 or 55 digits.
-// With one digit more for that little, the last two or three digits go. What is added before carries into the digit in front of them where they are above a half, or a half and that digit is odd.
+// The pattern of the double nearest to a root, ties to the even significand. The root is t halves of 2^k, and a little more where `extra` is not 0; t has 54
+// or 55 digits. With one digit more for that little, the last two or three digits go. What is added before carries into the digit in front of them where they
+// are above a half, or a half and that digit is odd.
 fn rounded_pattern(k: u64, t: u64, extra: u64) -> u64
     requires { (2 ^ 53 ≤ t) × (t < 2 ^ 55) × (k < 1040) }
     ensures { (t < 2 ^ 54 → Rounded k (t / 2) (t % 2) 1 extra result) × (2 ^ 54 ≤ t → Rounded (k + 1) (t / 4) (t % 4) 2 extra result) }
@@ -102,7 +104,8 @@ fn shifted(w: u128, n: u64) -> Cut
     }
 }
 
-// The pattern of the double nearest to the root of (x * 2^k)^2 + (y * 2^(k - gap))^2. The squares are taken of half units, and the smaller one is shifted to the larger one's unit.
+// The pattern of the double nearest to the root of (x * 2^k)^2 + (y * 2^(k - gap))^2. The squares are taken of half units, and the smaller one is shifted to
+// the larger one's unit.
 fn near_pattern(k: u64, x: u64, y: u64, gap: u64, start: u64) -> u64
     requires { (2 ^ 52 ≤ x) × (x < 2 ^ 53) × (y < 2 ^ 53) × (gap ≤ 27) × (gap ≤ k) × (k < 1040) × (2 ^ 53 ≤ start) × (start < 2 ^ 55) }
     ensures { (of_bits binary64 result ≡ root_of (x * 2 ^ k * (x * 2 ^ k) + y * 2 ^ (k - gap) * (y * 2 ^ (k - gap)))) × (result < 2047 * 2 ^ 52) }
@@ -112,8 +115,8 @@ fn near_pattern(k: u64, x: u64, y: u64, gap: u64, start: u64) -> u64
     rounded_pattern(k, found.root, found.rest + cut.lost)
 }
 
-// The pattern of the double nearest to the root of two patterns' squares. Where the exponents are more than MAX_GAP apart it is the larger: the root is less than half a unit above it.
-// Doubles of few digits come first, the short way.
+// The pattern of the double nearest to the root of two patterns' squares. Where the exponents are more than MAX_GAP apart it is the larger: the root is less
+// than half a unit above it. Doubles of few digits come first, the short way.
 fn root_pattern(larger: u64, smaller: u64) -> u64
     requires larger_in_range { T (pattern_in_range larger) }
     requires smaller_in_range { T (pattern_in_range smaller) }

@@ -1,4 +1,5 @@
-// Whole roots of numbers of 110 bits, in bounded time: a good guess is made exact by at most five steps, and where these do not reach the root the library works it out digit by digit.
+// Whole roots of numbers of 110 bits, in bounded time: a good guess is made exact by at most five steps, and where these do not reach the root the library
+// works it out digit by digit.
 ghost use Rattle.std.specs.Prelude.{◌≡◌, ◌+◌, ◌*◌, ◌<◌, ◌≤◌, ◌^◌};
 ghost use Rattle.hypotenuse.specs.Roots.{IsRoot};
 

@@ -1,5 +1,5 @@
-// Roots of doubles of at most 17 digits, as half pixels have: a guess in floats is checked in whole numbers, and put right by one where it must be. Each function answers `None` where it has
-// no root, so that nothing is claimed of floats.
+// Roots of doubles of at most 17 digits, as half pixels have: a guess in floats is checked in whole numbers, and put right by one where it must be. Each
+// function answers `None` where it has no root, so that nothing is claimed of floats.
 ghost use Rattle.std.specs.Prelude.{◌≡◌, ◌+◌, ◌-◌, ◌*◌, ◌/◌, ◌%◌, ◌<◌, ◌≤◌, ◌^◌, IfSome};
 ghost use Rattle.std.specs.Float.{binary64};
 ghost use Rattle.std.specs.Float.Ieee.{of_bits};
@@ -17,7 +17,8 @@ const SQUARE_UNIT: u128 = 17592186044416;
 // This less half the pattern of s is the pattern of 0.73 divided by the root of s, to 5 in 100.
 const START: u64 = 6908488151547772928;
 
-// A guess at the pattern of the root of the two doubles' squares: one divided by the root by two of Newton's steps, and from that the root by a step of the third order. Nothing is claimed of it.
+// A guess at the pattern of the root of the two doubles' squares: one divided by the root by two of Newton's steps, and from that the root by a step of the
+// third order. Nothing is claimed of it.
 fn guess(larger: u64, smaller: u64) -> Option<u64>
     requires { (larger ≤ 1038 * 2 ^ 52) × (smaller ≤ 1038 * 2 ^ 52) }
 {
@@ -83,7 +84,8 @@ fn squares(larger: u64, smaller: u64, up: u64) -> u64
     (x * x + y * y) << (28 - 2 * up)
 }
 
-// The pattern of the double nearest to the root of two patterns' squares, where both have 17 digits at most and the root's exponent is at most 14 above that of the smaller.
+// The pattern of the double nearest to the root of two patterns' squares, where both have 17 digits at most and the root's exponent is at most 14 above that
+// of the smaller.
 pub fn short_root(larger: u64, smaller: u64) -> Option<u64>
     requires { (2 ^ 52 ≤ smaller) × (smaller ≤ larger) × (larger ≤ 1038 * 2 ^ 52) }
     ensures { IfSome result (λ r. (of_bits binary64 r ≡ root_of (pattern_magnitude larger * pattern_magnitude larger

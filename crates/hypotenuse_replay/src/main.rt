@@ -9,13 +9,12 @@ ghost use Rattle.std.specs.Float.Ieee.{of_bits};
 ghost use Rattle.definitions.specs.Scan.{bit};
 ghost use Rattle.hypotenuse_replay.specs.Lines.{digit_of, digits_after, number_of_bits, root_of_bits, is_answer_line, lines_in, answers_in};
 
+use hypotenuse::layout::SIGN;
 use refusals::Cause;
 use std::io;
 use std::io::{Read, Write};
 use streams::read_full;
 
-// 2^63: the place of the sign.
-const SIGN: u64 = 9223372036854775808;
 // The pattern of the infinity; larger ones are NaNs.
 const INFINITY: u64 = 9218868437227405312;
 // A line whose number has one digit.

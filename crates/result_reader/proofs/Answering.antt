@@ -1,4 +1,4 @@
--- From what was judged to what is answered: the three ways in which a reading ends. And when lists have room. Assumes nothing.
+-- From what was judged to what is answered: the three ways in which a reading ends. Assumes nothing.
 use Prim.Native.Nat.{ℕ, ◌*◌, ◌/◌}
 use native.Mathlib.Omega.{arith}
 use mathlib.Core.Path.{◌≡◌, refl, ap, ◌∙◌}
@@ -6,14 +6,12 @@ use mathlib.Core.Bool.{true, false, ◌&&◌, cond}
 use mathlib.Core.List.{List}
 use lib.ListN.{length}
 use lib.Dec.{leb}
-use borrow.Author.Tests.{leb-true}
 use Rattle.definitions.specs.Limits.{tallies_per_span, numbers_per_pair, numbers_per_row}
 use Rattle.definitions.specs.Lists.{overwrite}
 use Rattle.definitions.specs.Refusals.{or_else}
-use Rattle.laws.specs.ListLaws.Tests.{both}
 use Rattle.sheet.proofs.Filling.{held-length}
 use Rattle.results.specs.ResultAnswers.{well_formed, refused, read_result, room_for, read_verdict}
-use Rattle.result_reader.specs.Parts.{part_numbers, result_in, ResultHeld, room_in, Room}
+use Rattle.result_reader.specs.Parts.{part_numbers, result_in, ResultHeld, room_in}
 use Rattle.result_reader.specs.Contract.{refused_at, refused_by, answer_of, answer_in, Answered}
 use Rattle.std.specs.Prelude.{Option, None, Some}
 use Rattle.std.specs.Option.{option_or}
@@ -27,23 +25,6 @@ use Rattle.result_reader.specs.declared.ResultAnswer.{ResultAnswer}
 pub first_of : (a b : Option ℕ) → option_or a b ≡ or_else a b
 first_of None b = refl
 first_of (Some place) b = refl
-
--- ---- room
-
-pub room-known : {plan : Plan} {labels tallies pairs rows : ℕ} → room_in plan labels tallies pairs rows ≡ true → Room plan labels tallies pairs rows
-room-known {plan} {labels} {tallies} {pairs} {rows} h =
-    let a = leb (plan.labels.count * 1) labels in
-    let b = leb (plan.tallies.count * tallies_per_span) tallies in
-    let c = leb (plan.pairs.count * numbers_per_pair) pairs in
-    let abc = both (a && b && c) (leb (plan.rows.count * numbers_per_row) rows) h in
-    let ab = both (a && b) c abc.0 in
-    let each = both a b ab.0 in
-    record {
-      for_labels = leb-true (plan.labels.count * 1) labels each.0;
-      for_tallies = leb-true (plan.tallies.count * tallies_per_span) tallies each.1;
-      for_pairs = leb-true (plan.pairs.count * numbers_per_pair) pairs ab.1;
-      for_rows = leb-true (plan.rows.count * numbers_per_row) rows abc.1;
-    }
 
 -- ---- a result that was found
 

@@ -30,11 +30,6 @@ module _ {S X : Type 0} (from : S → List Entry → X) (size : ℕ) (bytes : Li
     pub inside : next ≤ length bytes
     pub same : (answer : Result (Found S) Refusal) → Walks from size bytes s next (count - i) answer → Walks from size bytes s₀ at count answer
 
-  pub walking_starts : {s : S} {at count : ℕ} → at ≤ length bytes → Walking s at count at 0 s
-  walking_starts {s} {at} {count} h =
-      let e : count - 0 ≡ count = omega arith in
-      record { few = omega arith; inside = h; same = λ answer k. subst (λ n. Walks from size bytes s at n answer) e k }
-
   module _ {s₀ s : S} {at count next i : ℕ} (W : Walking s₀ at count next i s) where
     pub walking_ends : count ≤ i → Walks from size bytes s₀ at count (Ok (record { value = s; next = next }))
     unfolding entries_at times_entry

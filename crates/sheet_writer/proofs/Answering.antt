@@ -71,7 +71,3 @@ module _ (s : Sheet) (lent : List ℕ) where
                 said = ap (answer 0) all ∙ sym (verdict_is p q r t ∙ (λ i. by_tests (sides i) (filled i) (whole i) (e i)));
                 left = P.stored ∙ sets_overwrite lent (sheet_bytes 3 s) fits;
               }
-
-pub fits-known : (s : Sheet) (lent : List ℕ) {fitting : Bool} → fitting ≡ leb (length (sheet_bytes 3 s)) (length lent) → fitting ≡ true
-    → length (sheet_bytes 3 s) ≤ length lent
-fits-known s lent e f = leb-true (length (sheet_bytes 3 s)) (length lent) (sym e ∙ f)

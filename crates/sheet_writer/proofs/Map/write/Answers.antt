@@ -1,12 +1,11 @@
 -- `Map::write` meets its contract: nothing is put before the sides, the cells, the lists and the room are known. Assumes nothing.
-use Rattle.std.proofs.Common.{rules, arith}
+use Rattle.std.proofs.Common.{rules}
 use Rattle.byte_writer.specs.Chains.{put_left}
-use Rattle.laws.specs.SheetReading.SheetSizes.{sides_most}
 use Rattle.refusals.proofs.Steps.{holds}
 use Rattle.sheet.proofs.Passed.{passed, refuses, answer_as}
 use Rattle.sheet_writer.specs.Contract.{stated}
 use Rattle.map_sheets.specs.Writing.{stating}
-use Rattle.sheet_writer.proofs.Answering.{fits-known, writes_1, writes_2, writes_3, writes_10, writes_0}
+use Rattle.sheet_writer.proofs.Answering.{writes_1, writes_2, writes_3, writes_10, writes_0}
 use Rattle.sheet_writer.proofs.Map.write.Goals as goal
 
 pub returns-in_err-ensure : goal.returns-in_err-ensure
