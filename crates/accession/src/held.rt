@@ -60,7 +60,7 @@ impl<const SLOTS: usize, const ROOM: usize> Held<SLOTS, ROOM> {
         let behind = (self.count..i)
             .rev()
             .find(|&k| accession_at(records, k).on_map == number);
-        // Kept: what `last_held` requires of the table is not inferred of a closure with const parameters, so that one of `or_else` would repeat it as a clause.
+        // Kept: what `last_held` requires of the table is not inferred of a closure with const parameters, so that one of `or_else` would repeat it.
         match behind {
             Some(k) => Some(k),
             None => self.last_held(records, number),

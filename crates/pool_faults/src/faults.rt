@@ -86,7 +86,7 @@ fn faultless_terms(terms: &[u64]) -> usize
 pub fn terms_fault(terms: &[u64]) -> Result<(), Refusal>
     ensures { refusal_in result ≡ terms_refusal terms.now }
 {
-    // Kept: a `for` with `?`, of which the place of the first refusal is proved by an invariant; `try_for_each` with the same call is no shorter.
+    // Kept: the promise says which term is refused first. Std has no lemma on `try_for_each`, and a `for` with `?` is what its guide has for such a promise.
     for i in faultless_terms(terms)..terms.len() / NUMBERS_PER_TERM {
         term_fault(terms, i)?;
     }
