@@ -47,9 +47,6 @@ module _ (M : Map) (g : Segment) (t : Strip) (k b : ℕ) where
 pub across-crossed : (g : Segment) (t : Strip) (k b : ℕ) {changes x y : ℕ} → CrossedAt g t k b changes → 2 ≤ b → x ≡ cond t.columns k (b - 2) → y ≡ cond t.columns (b - 2) k → Crossed g (at x y) changes
 across-crossed g t k b {changes} C h i j = subst⁻¹ (λ p. Crossed g p changes) (cell_at t.columns k (b - 2) i j) (C h)
 
-pub placed_back : (b n : ℕ) {r : Bool} → r ≡ (leb 2 b && ltb (b - 2) n) → r ≡ true → 2 ≤ b
-placed_back b n f r = (placed b n (sym f ∙ r)).0
-
 -- the cell at two less than b, where there is one
 pub record Placed (w h : ℕ) (t : Strip) (k b x y : ℕ) : Type 0 where
   pub back : 2 ≤ b

@@ -6,15 +6,13 @@ use mathlib.Core.Bool.{Bool, true, false, and-false}
 use mathlib.Core.List.{List}
 use lib.Dec.{ltb}
 use borrow.Author.Tests.{le-ltb}
-use Rattle.definitions.specs.Limits.{max_side}
 use Rattle.definitions.specs.Grid.{Segment, at, walkable, is_step}
 use Rattle.span_geometry.specs.declared.SpanGeometry.{SpanGeometry}
-use Rattle.span_geometry.specs.Shapes.{Sound}
 use Rattle.grid_steps.specs.Walk.{grid_of}
-use Rattle.grid_steps.specs.Inner.{Nearby, Inside, Stepping}
+use Rattle.grid_steps.specs.Inner.{Nearby, Inside}
 use Rattle.grid_steps.proofs.StepTests.{step-inside}
 use Rattle.cut_steps.specs.CutSteps.{is_cut_onward}
-use Rattle.cut_steps.specs.Cell.{CellAsked, OnwardAsked, CutDirections, Uncut, Far, onward_mask}
+use Rattle.cut_steps.specs.Cell.{OnwardAsked, CutDirections, Uncut, Far, onward_mask}
 use Rattle.cut_steps.proofs.Onward.{blocked, no_step, clear_of, no_south, no_bits, mask_bits, mask_small}
 
 -- ---- one direction
@@ -22,9 +20,6 @@ use Rattle.cut_steps.proofs.Onward.{blocked, no_step, clear_of, no_south, no_bit
 module _ {w h : ℕ} {cells : List ℕ} {g : SpanGeometry} {x y dx dy : ℕ} (A : OnwardAsked w h cells g x y dx dy) where
   pub nearby : Nearby w h x y dx dy
   nearby = record { narrow = A.cell.narrow; short = A.cell.short; in_x = A.cell.in_x; in_y = A.cell.in_y; near_x = A.near_x; near_y = A.near_y }
-
-  pub stepping : Inside w h x y dx dy → Stepping w h cells x y dx dy
-  stepping i = record { nearby = nearby; inside = i; cells_long = A.cell.cells_long; walks = A.walks }
 
 pub outside : (w h : ℕ) (cells : List ℕ) (s : Segment) (x y dx dy : ℕ) → (Inside w h x y dx dy → ⊥) → false ≡ is_cut_onward (grid_of w h cells) s (at x y) (at dx dy)
 outside w h cells s x y dx dy n = go (is_step (grid_of w h cells) (at x y) (at dx dy)) refl
@@ -40,13 +35,6 @@ unfolding walkable
 below-grid w h cells x y e = rw (le-ltb (y + 1) h e, and-false (ltb x w)) refl
 
 -- ---- the cell
-
-module _ {w h : ℕ} {cells : List ℕ} {g : SpanGeometry} {x y : ℕ} (A : CellAsked w h cells g x y) where
-  pub in_limits : Sound g × (x < max_side) × (y < max_side)
-  in_limits = (A.sound, omega (arith, A.in_x, A.narrow), omega (arith, A.in_y, A.short))
-
-  pub onward-asked : (dx dy : ℕ) → dx ≤ 2 → dy ≤ 2 → 4 < dy * 3 + dx → walkable (grid_of w h cells) (at x y) ≡ true → OnwardAsked w h cells g x y dx dy
-  onward-asked dx dy a b c e = record { cell = A; walks = e; near_x = a; near_y = b; onward = c }
 
 -- a cell that is not walkable
 pub no_directions : (w h : ℕ) (cells : List ℕ) (s : Segment) (x y : ℕ) → walkable (grid_of w h cells) (at x y) ≡ false → CutDirections w h cells s x y 0

@@ -3,14 +3,14 @@
 -- the south does not lower it by more, since the first endpoint is not to the right of the second (`off-south`). Assumes nothing.
 use mathlib.Core.Path.{◌≡◌, refl, sym, ap, ◌∙◌, subst, subst⁻¹}
 use mathlib.Core.Logic.{⊎_elim}
-use mathlib.Core.Bool.{Bool, true, false, not, ◌&&◌, ◌||◌, beq, or-false, false≢true}
+use mathlib.Core.Bool.{Bool, true, false, not, ◌&&◌, ◌||◌, beq, false≢true}
 use Prim.Native.Nat.{ℕ, zero, suc, ◌+◌, ◌-◌, ◌*◌, ◌≤◌, ◌<◌, min, max}
 use native.Mathlib.Nat.{mul-le-mul, le_refl}
 use native.Mathlib.Omega.{arith}
-use lib.Dec.{ltb, leb-suc-suc}
+use lib.Dec.{ltb}
 use lib.IntN.{ℤ, pos, negsuc, neg_ℤ, nat_abs, ◌+ℤ◌, ◌-ℤ◌, ◌*ℤ◌, +ℤ_idl, +ℤ_idr, +ℤ_assoc, +ℤ_comm, +ℤ-suc_ℤ, +ℤ-pred_ℤ, -ℤ_one, -ℤ-+ℤ_cancel, neg_ℤ-+ℤ, zero-*ℤ, suc_ℤ-*ℤ, pred_ℤ-*ℤ, *ℤ_comm}
-use lib.Signed.{mag, lt_z, non_neg}
-use borrow.Author.Tests.{ltb-true, lt-ltb, le-ltb}
+use lib.Signed.{non_neg}
+use borrow.Author.Tests.{ltb-true}
 use Rattle.definitions.specs.Grid.{Position, at, Segment, toward}
 use Rattle.definitions.specs.Spans.{pixels_per_walk_cell, diff, cross, middle_of, cell_center, segments_intersect, cuts}
 use Rattle.span_geometry.specs.declared.SpanGeometry.{SpanGeometry}
@@ -63,24 +63,6 @@ raised z v {u} {n} e h f =
     go : (w : ℤ) → non_neg w ≡ true → non_neg (w +ℤ pos n) ≡ true
     go (pos m) k = refl
     go (negsuc m) k = absurd (false≢true k)
-
--- larger in size than b
-pub exceeding : (z : ℤ) (b : ℕ) → (lt_z (pos b) z || lt_z z (pos 0 -ℤ pos b)) ≡ ltb b (nat_abs z)
-exceeding z b = ap (λ x. lt_z (pos b) z || lt_z z x) (+ℤ_idl (neg_ℤ (pos b))) ∙ go z b
-  where
-    go : (z : ℤ) (b : ℕ) → (lt_z (pos b) z || lt_z z (neg_ℤ (pos b))) ≡ ltb b (nat_abs z)
-    go (pos n) zero = ap (λ t. ltb 0 n || t) (le-ltb n 0 (omega arith)) ∙ or-false (ltb 0 n)
-    go (pos n) (suc b) = or-false (ltb (suc b) n)
-    go (negsuc n) zero = sym (lt-ltb 0 (suc n) (omega arith))
-    go (negsuc n) (suc b) = sym (leb-suc-suc (suc b) n)
-
--- a small number's negative fits where the number does
-pub below-zero : (b : ℕ) {k : ℕ} → b < k → mag (pos 0 -ℤ pos b) < k
-below-zero b {k} h = subst⁻¹ (λ z. mag z < k) (+ℤ_idl (neg_ℤ (pos b))) (go b h)
-  where
-    go : (b : ℕ) → b < k → mag (neg_ℤ (pos b)) < k
-    go zero h = h
-    go (suc b) h = omega arith
 
 -- ---- side values
 

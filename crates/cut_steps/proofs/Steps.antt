@@ -1,41 +1,22 @@
 -- The steps from a walkable cell, by the cells about it: one in a direction is there where the cell in it and the two side cells are walkable (`step_is`), and so those of the
 -- four directions to cells of larger number (`inside-steps`). Assumes nothing.
-use Prim.Native.Nat.{ℕ, ◌+◌, ◌-◌, ◌*◌, ◌≤◌, ◌<◌}
+use Prim.Native.Nat.{ℕ, ◌+◌, ◌-◌, ◌≤◌, ◌<◌}
 use native.Mathlib.Omega.{arith}
-use native.Mathlib.Nat.{mul-le-mul}
 use mathlib.Core.Path.{◌≡◌, refl, sym, ap, ◌∙◌}
-use mathlib.Core.Bool.{Bool, true, false, ◌&&◌, false≢true}
+use mathlib.Core.Bool.{Bool, true, false, ◌&&◌}
 use mathlib.Core.List.{List}
-use lib.Arith.{digits_lt}
 use lib.Dec.{leb, ltb}
 use borrow.Author.Tests.{leb-true, ltb-true}
 use Rattle.definitions.specs.Grid.{Map, at, walkable, is_step}
 use Rattle.laws.specs.ListLaws.Tests.{both, same_test}
 use Rattle.grid_steps.specs.Walk.{grid_of}
-use Rattle.grid_steps.specs.Inner.{Nearby, Inside, Inner, Stepping}
+use Rattle.grid_steps.specs.Inner.{Inside}
 use Rattle.grid_steps.proofs.Square.{four, join4}
 use Rattle.grid_steps.proofs.StepTests.{step-inside}
-use Rattle.cut_steps.specs.Cell.{CellAsked, onward_mask}
-use Rattle.cut_steps.specs.Crossed.{InGrid, steps_onward}
-use Rattle.span_geometry.specs.declared.SpanGeometry.{SpanGeometry}
+use Rattle.cut_steps.specs.Cell.{onward_mask}
+use Rattle.cut_steps.specs.Crossed.{steps_onward}
 
 -- ---- a cell of the grid
-
-module _ {w h : ℕ} {cells : List ℕ} {x y : ℕ} (A : InGrid w h cells x y) where
-  pub in_cells : (y * w + x < h * w) × (h * w ≤ 1048576)
-  in_cells = (digits_lt A.in_y A.in_x, mul-le-mul A.short A.narrow)
-
-  pub grid-nearby : (dx dy : ℕ) → dx ≤ 2 → dy ≤ 2 → Nearby w h x y dx dy
-  grid-nearby dx dy a b = record { narrow = A.narrow; short = A.short; in_x = A.in_x; in_y = A.in_y; near_x = a; near_y = b }
-
-  pub grid-stepping : (dx dy : ℕ) → dx ≤ 2 → dy ≤ 2 → Inside w h x y dx dy → walkable (grid_of w h cells) (at x y) ≡ true → Stepping w h cells x y dx dy
-  grid-stepping dx dy a b i e = record { nearby = grid-nearby dx dy a b; inside = i; cells_long = A.cells_long; walks = e }
-
-pub not-inner : {w h x y : ℕ} → false ≡ true → Inner w h x y
-not-inner e = absurd (false≢true e)
-
-pub in_grid_of : {w h : ℕ} {cells : List ℕ} {g : SpanGeometry} {x y : ℕ} → CellAsked w h cells g x y → InGrid w h cells x y
-in_grid_of A = record { narrow = A.narrow; short = A.short; cells_long = A.cells_long; in_x = A.in_x; in_y = A.in_y }
 
 pub not_there : (w h : ℕ) (cells : List ℕ) (x y dx dy : ℕ) → (Inside w h x y dx dy → ⊥) → false ≡ is_step (grid_of w h cells) (at x y) (at dx dy)
 not_there w h cells x y dx dy n = go (is_step (grid_of w h cells) (at x y) (at dx dy)) refl

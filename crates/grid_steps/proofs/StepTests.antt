@@ -4,22 +4,19 @@ use Prim.Native.Nat.{ℕ, zero, suc, ◌+◌, ◌-◌, ◌*◌, ◌/◌, ◌%◌
 use native.Mathlib.Omega.{arith}
 use native.Mathlib.Nat.{mul-le-mul, mul-zero, mod-lt, div-lt_iff_lt-mul}
 use mathlib.Core.Path.{◌≡◌, refl, sym, ◌∙◌}
-use mathlib.Core.Bool.{Bool, true, false, true≢false, false≢true}
+use mathlib.Core.Bool.{Bool, true, false, true≢false}
 use mathlib.Core.List.{List}
 use lib.ListN.{get_or}
 use lib.Arith.{digits_lt}
-use lib.Dec.{eqb, leb}
-use borrow.Author.Tests.{leb-true, leb-false, le-leb, lt-ltb}
+use lib.Dec.{eqb}
+use borrow.Author.Tests.{le-leb, lt-ltb}
 use Rattle.definitions.specs.Grid.{Map, Position, at, is_walkable, walkable, is_step}
 use Rattle.grid_steps.specs.Walk.{grid_of}
-use Rattle.grid_steps.specs.Inner.{Nearby, Inside, Inner, Says}
+use Rattle.grid_steps.specs.Inner.{Nearby, Inside}
 use Rattle.grid_steps.proofs.Square.{Four, four, walkable_in}
 
 module _ (w h x y dx dy : ℕ) where
   -- ---- whether the position in the direction is in the grid
-
-  pub inner-inside : Nearby w h x y dx dy → Inner w h x y → Inside w h x y dx dy
-  inner-inside N i = record { left = omega (arith, i.left); up = omega (arith, i.up); right = omega (arith, i.right, N.near_x); down = omega (arith, i.down, N.near_y) }
 
   -- ---- the cells about it
 

@@ -5,14 +5,14 @@ use native.Mathlib.Omega.{arith}
 use mathlib.Core.Path.{◌≡◌, refl, sym, ap, ap₂, ◌∙◌, subst}
 use mathlib.Core.Bool.{Bool, true, false, ◌&&◌, true≢false}
 use mathlib.Core.List.{List}
-use lib.ListN.{length, get_or}
-use lib.Dec.{eqb, ltb}
-use borrow.Author.Tests.{eqb-true, eqb-false, ltb-true, ltb-false}
+use lib.ListN.{get_or}
+use lib.Dec.{eqb}
+use borrow.Author.Tests.{eqb-true, eqb-false}
 use Rattle.laws.specs.ListLaws.Tests.{both}
 use Rattle.laws.specs.RegionLaws.Merging.{merged, merged_one}
 use Rattle.laws.specs.ListLaws.Beyond.{beyond_same, beyond-then}
 use Rattle.grid_steps.specs.Masks.{cut_bit}
-use Rattle.parents.specs.Forest.{Forest, joined_name, PlacedTwo, Left}
+use Rattle.parents.specs.Forest.{Forest, joined_name, Left}
 use Rattle.row_runs.specs.Stretch.{walks}
 use Rattle.row_runs.specs.Names.{EastLevel}
 use Rattle.row_runs.specs.South.{SouthLevel, Coarser, Kept}
@@ -106,20 +106,6 @@ Steps masks a k b was p = (n : ℕ) (name : ℕ → ℕ) → Forest n name was �
 -- ---- one square
 
 module _ {w : ℕ} {cells masks was : List ℕ} {c : ℕ} where
-  pub corners-plain : get_or masks c 0 ≡ 0 → get_or masks (c + 1) 0 ≡ 0 → (n : ℕ) (name : ℕ → ℕ) → Forest n name was → c + w + 1 < n → CornersJoined w cells masks n name c was was
-  corners-plain a b n name F h =
-      record { after = name; left = record { forest = F; beyond = beyond_same n was }; coarser = λ x y s. s; joins = λ f. f a b; sound = λ g _ K. K }
-
-  pub corners-blocked : is_square w cells c ≡ false → (n : ℕ) (name : ℕ → ℕ) → Forest n name was → c + w + 1 < n → CornersJoined w cells masks n name c was was
-  corners-blocked e n name F h =
-      record {
-        after = name;
-        left = record { forest = F; beyond = beyond_same n was };
-        coarser = λ x y s. s;
-        joins = λ f. record { south_east_lem = λ s. absurd (true≢false (sym s ∙ e)); south_west_lem = λ s. absurd (true≢false (sym s ∙ e)) };
-        sound = λ g _ K. K;
-      }
-
   pub corners-done : {l p : List ℕ} → is_square w cells c ≡ true → Steps masks c 8 (c + w + 1) was l → Steps masks (c + 1) 6 (c + w) l p → (n : ℕ) (name : ℕ → ℕ) → Forest n name was → c + w + 1 < n → CornersJoined w cells masks n name c was p
   corners-done {l} {p} e first second n name F h =
       record {
@@ -213,16 +199,9 @@ module _ {masks was : List ℕ} {a k b : ℕ} where
   pub step-links : {p : List ℕ} → cut_bit masks a k ≡ false → ((n : ℕ) (name : ℕ → ℕ) → Forest n name was → a < n → b < n → Left n (joined_name name a b) was p) → (n : ℕ) (name : ℕ → ℕ) → Forest n name was → a < n → b < n → StepJoined masks n name a k b was p
   step-links e J n name F h i = links e (J n name F h i)
 
-  pub step-placed : StepAsked masks was a k b → PlacedTwo was a b
-  step-placed P = record { n = P.n; name = P.name; forest = P.forest; first = P.first; second = P.second }
-
 -- ---- what the two steps of a square ask, and how long the list is
 
 module _ {w : ℕ} {cells masks was : List ℕ} {c : ℕ} (A : CornersAsked w cells masks was c) where
-  pub first_asked : StepAsked masks was c 8 (c + w + 1)
-  first_asked =
-      record { masks_long = omega (arith, A.masks_long); bit = omega arith; n = A.n; name = A.name; forest = A.forest; first = omega (arith, A.inside); second = A.inside }
-
   pub second-asked : {l : List ℕ} → Steps masks c 8 (c + w + 1) was l → StepAsked masks l (c + 1) 6 (c + w)
   second-asked {l} s =
       let S = stepped A.forest (omega (arith, A.inside)) A.inside (s A.n A.name A.forest (omega (arith, A.inside)) A.inside) in
@@ -235,9 +214,6 @@ module _ {w : ℕ} {cells masks was : List ℕ} {c : ℕ} (A : CornersAsked w ce
         first = omega (arith, A.inside);
         second = omega (arith, A.inside);
       }
-
-  pub corners-small : c + w + 1 < 1048576
-  corners-small = omega (arith, A.inside, A.forest.few)
 
 -- what a turn of the loop over squares asks
 module _ {w : ℕ} {cells masks was : List ℕ} {up : ℕ} {p : List ℕ} {c : ℕ} where
@@ -252,13 +228,3 @@ module _ {w : ℕ} {cells masks was : List ℕ} {up : ℕ} {p : List ℕ} {c : �
         forest = N.left.forest;
         inside = omega (arith, A.ends);
       }
-
-  pub cornering_long : DiagonalsAsked w cells masks was up → Cornering w cells masks up was p c → length p ≡ length was
-  cornering_long A I = (I.all A.n A.name A.forest A.ends A.east A.south).left.beyond.long
-
-  pub cornering_high : Cornering w cells masks up was p c → c ≤ up + w
-  cornering_high I = go (ltb up c) refl
-    where
-      go : (b : Bool) → ltb up c ≡ b → c ≤ up + w
-      go true e = omega (arith, I.ends (ltb-true up c e))
-      go false e = omega (arith, ltb-false up c e)

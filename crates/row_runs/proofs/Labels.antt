@@ -2,7 +2,6 @@
 -- map with the lent sides and cells whose cut steps the masks hold. Assumes nothing.
 use Prim.Native.Nat.{ℕ, suc, ◌+◌, ◌-◌, ◌*◌, ◌/◌, ◌≤◌, ◌<◌}
 use native.Mathlib.Omega.{arith}
-use native.Mathlib.Nat.{mul-le-mul}
 use mathlib.Core.Path.{◌≡◌, refl, sym, ap, ap₂, ◌∙◌, subst}
 use mathlib.Core.Bool.{Bool, true, false, ◌&&◌, cond}
 use mathlib.Core.List.{List, ◌++◌}
@@ -22,7 +21,7 @@ use Rattle.grid_steps.proofs.Onward.{next_row}
 use Rattle.parents.specs.Forest.{Left}
 use Rattle.parents.specs.ForestLaws.{name-low}
 use Rattle.row_runs.specs.Stretch.{Stretch}
-use Rattle.row_runs.specs.Cells.{CellsAsked, CellsJoined}
+use Rattle.row_runs.specs.Cells.{CellsJoined}
 use Rattle.row_runs.specs.Numbered.{is_named, Named, NumberAsked, Numbered}
 use Rattle.row_runs.specs.Contract.{Room, OnwardCut, Link, Chain, ended, linked, Labelled}
 use Rattle.row_runs.proofs.SameRoots.{same_root}
@@ -40,21 +39,6 @@ pub record Finished (w h : ℕ) (cells masks lent waited l q : List ℕ) (r : �
 -- ---- what each call asks, and what is left behind the last
 
 module _ {w h : ℕ} {cells masks lent waited : List ℕ} (R : Room w h cells masks lent waited) where
-  pub grid-few : h * w ≤ 1048576
-  grid-few = mul-le-mul R.short R.narrow
-
-  pub cells-asked : {was : List ℕ} → Left (h * w) (λ c. c) lent was → CellsAsked w h cells masks was waited
-  cells-asked L =
-      record {
-        narrow = R.narrow;
-        short = R.short;
-        cells_long = omega (arith, R.cells_long);
-        masks_long = R.masks_long;
-        parents_long = L.forest.long;
-        queue_long_lem = R.queue_long_lem;
-        fresh = λ c i. (L.forest.parent c i).same;
-      }
-
   pub number-asked : {was p q : List ℕ} → CellsJoined w h cells masks was waited p q → NumberAsked cells p q (h * w)
   number-asked J =
       record { cells_long = omega (arith, R.cells_long); queue_long_lem = omega (arith, R.queue_long_lem, J.queue_long_lem); name = J.after; named = named-cells J }

@@ -13,7 +13,7 @@ use borrow.Author.Tests.{eqb-true, eqb-false, ltb-true, ltb-false}
 use Rattle.laws.specs.ListLaws.Beyond.{Beyond, beyond-then}
 use Rattle.parents.specs.Forest.{Forest}
 use Rattle.row_runs.specs.Stretch.{Clear}
-use Rattle.row_runs.specs.Names.{Fresh, Tiles, none, more, EastLevel, ScanAsked, RowScanned}
+use Rattle.row_runs.specs.Names.{Fresh, Tiles, none, more, EastLevel, RowScanned}
 use Rattle.row_runs.specs.South.{SouthLevel, Kept}
 use Rattle.row_runs.specs.Corners.{CornersLevel}
 use Rattle.row_runs.specs.Cells.{Level, PairAsked, PairJoined, Done, RowAsked, RowDone}
@@ -205,27 +205,6 @@ module _ {w n y : ℕ} {marked : Bool} {cells masks was waited p q : List ℕ} (
 -- ---- what the calls of a row ask
 
 module _ {w y : ℕ} {above : Bool} {cells masks was waited : List ℕ} (A : RowAsked w cells masks was waited y above) where
-  pub row-few : y * w + w ≤ 1048576
-  row-few = omega (arith, A.ends, A.done.forest.few)
-
-  pub scan_asked : {marked : Bool} → (marked ≡ false → Clear masks (y * w) (y * w + w)) → ScanAsked cells masks was waited (y * w) (y * w + w) marked
-  scan_asked clear =
-      record {
-        cells_long = A.cells_long;
-        masks_long = A.masks_long;
-        queue_long_lem = A.queue_long_lem;
-        clear = clear;
-        run =
-            record {
-              n = A.n;
-              name = A.done.name;
-              forest = A.done.forest;
-              fresh = A.done.fresh;
-              low = omega arith;
-              ends = A.ends;
-            };
-      }
-
   module _ {p q : List ℕ} (S : Scanned w A.n y cells masks was waited p q) (x : ℕ) (e : x + 1 ≡ y) where
     pub pair-asked : PairAsked w cells masks p q (x * w) above
     pair-asked =
@@ -258,9 +237,6 @@ RowDoes w y above marked cells masks was waited p q =
 module _ (w : ℕ) {y : ℕ} (some : y ≡ 0 → ⊥) where
   above_is : (y - 1) * w ≡ y * w - w
   above_is = omega (arith, row_next w (y - 1) y (omega (arith, some)))
-
-  pub room-above : w ≤ y * w
-  room-above = omega (arith, row_next w (y - 1) y (omega (arith, some)))
 
 module _ {w y : ℕ} {above marked : Bool} {cells masks was waited p q : List ℕ} (clear : marked ≡ false → Clear masks (y * w) (y * w + w)) (S : Scans cells masks (y * w) (y * w + w) was waited p q) where
   pub first_done : y ≡ 0 → RowDoes w y above marked cells masks was waited p q

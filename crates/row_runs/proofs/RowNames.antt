@@ -11,20 +11,10 @@ use borrow.Author.Tests.{eqb-true, eqb-false, ltb-true, ltb-false}
 use Rattle.grid_steps.specs.Masks.{cut_bit}
 use Rattle.laws.specs.ListLaws.Beyond.{beyond_same, beyond-then}
 use Rattle.parents.specs.Forest.{Forest, Left}
-use Rattle.row_runs.specs.Stretch.{walks, Stretch, StretchAsked}
+use Rattle.row_runs.specs.Stretch.{walks, Stretch}
 use Rattle.row_runs.specs.Names.{Fresh, RunPut, PutAsked, StretchPut, Tiles, none, more, EastLevel, RowNamed, ScanAsked, RowScanned}
 
 -- ---- a stretch
-
-pub gap-put : {cells was : List ℕ} {from end : ℕ} → walks cells from ≡ false → from ≤ end → (n : ℕ) (name : ℕ → ℕ) → Forest n name was → Fresh n from was → end ≤ n → StretchPut cells n name from end was was
-gap-put {cells} {was} {from} w low n name F fresh h =
-    record {
-      after = name;
-      left = record { forest = F; beyond = beyond_same n was };
-      inside = λ c i k. (F.parent c (omega arith)).top (fresh c i (omega arith)) ∙ sym (ap (λ b. cond b from c) w);
-      before = λ c i. refl;
-      fresh = λ c i k. fresh c (omega arith) k;
-    }
 
 pub run-put : {cells was p : List ℕ} {n : ℕ} {name : ℕ → ℕ} {from end : ℕ} → walks cells from ≡ true → RunPut n name from end was p → StretchPut cells n name from end was p
 run-put {cells} {from = from} w R =
@@ -194,10 +184,6 @@ module _ {cells masks : List ℕ} {from end : ℕ} {was waited p q : List ℕ} {
         beyond = I.beyond;
       }
 
-  -- what the calls of a turn ask
-  pub stretch-asked : {marked : Bool} → ScanAsked cells masks was waited from end marked → c < end → StretchAsked cells masks c end marked
-  stretch-asked A h = record { more = h; cells_long = A.cells_long; masks_long = A.masks_long; clear = λ m d i k. A.clear m d (omega (arith, I.low)) k }
-
   pub put-asked : {marked : Bool} {e : ℕ} → ScanAsked cells masks was waited from end marked → Stretch cells masks end c e → PutAsked cells p c e
   put-asked A S =
       let N = I.all A.run.n A.run.name A.run.forest A.run.fresh A.run.ends in
@@ -205,9 +191,6 @@ module _ {cells masks : List ℕ} {from end : ℕ} {was waited p q : List ℕ} {
         cells_long = omega (arith, A.cells_long, S.more, S.ends);
         run = record { n = A.run.n; name = N.after; forest = N.left.forest; fresh = N.fresh; low = omega (arith, S.more); ends = omega (arith, S.ends, A.run.ends) };
       }
-
-  pub parents_long_lem : {marked : Bool} → ScanAsked cells masks was waited from end marked → length p ≡ length was
-  parents_long_lem A = (I.all A.run.n A.run.name A.run.forest A.run.fresh A.run.ends).left.beyond.long
 
   pub few : {marked : Bool} → ScanAsked cells masks was waited from end marked → end ≤ 1048576
   few A = omega (arith, A.run.forest.few, A.run.ends)

@@ -5,7 +5,7 @@ use native.Mathlib.Omega.{arith}
 use mathlib.Core.Path.{◌≡◌, refl, sym, ap, ◌∙◌, subst}
 use mathlib.Core.Bool.{Bool, true, false, cond, true≢false}
 use mathlib.Core.List.{List}
-use lib.ListN.{length, get_or}
+use lib.ListN.{get_or}
 use lib.Dec.{eqb, ltb}
 use borrow.Author.Tests.{eqb-true, eq-eqb, ne_eqb, ltb-true, ltb-false}
 use Rattle.laws.specs.RegionLaws.Merging.{merged, merged_one}
@@ -266,16 +266,7 @@ module _ {w : ℕ} {cells masks q : List ℕ} {up : ℕ} {was p : List ℕ} {c a
         sound = λ g level. N.sound g (λ d i j. level d i (omega (arith, I.ends)));
       }
 
-  pub southing_long : RowsAsked w cells masks was q up → length p ≡ length was
-  southing_long A = (I.all A.n A.name A.forest A.ends A.east_upper A.east_lower).left.beyond.long
-
 -- ---- what the code reads
-
-pub end-begins : (q : List ℕ) (c known r : ℕ) → known ≡ c → r ≡ get_or q c 0 → r ≡ cond (eqb known c) (get_or q c 0) known
-end-begins q c known r e f = f ∙ sym (ap (λ b. cond b (get_or q c 0) known) (eq-eqb known c e))
-
-pub end_known : (q : List ℕ) (c known : ℕ) → (known ≡ c → ⊥) → known ≡ cond (eqb known c) (get_or q c 0) known
-end_known q c known e = sym (ap (λ b. cond b (get_or q c 0) known) (ne_eqb known c e))
 
 -- ---- the ways through `join_overlap`
 
