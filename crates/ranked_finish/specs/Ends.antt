@@ -1,5 +1,5 @@
 -- The words of the contracts of the end of the call that gives the ranked junction list: 21, and the rows kept with the list. Definitions only; assumes nothing.
-use Rattle.std.specs.Prelude.{ℕ, ◌*◌, ◌/◌, ◌≤◌, ◌<◌, ◌≡◌, Bool, List, length, Result, Ok, Err}
+use Rattle.std.specs.Prelude.{ℕ, ◌/◌, ◌≤◌, ◌<◌, ◌≡◌, Bool, List, length, Result, Ok, Err}
 use Rattle.definitions.specs.Lists.{overwrite, zeroed}
 use Rattle.definitions.specs.Junctions.{Proposal}
 use Rattle.pass_lists.specs.Finished.{Finished}

@@ -33,7 +33,7 @@ pub struct RankedAnswer {
     pub proposals: u64,
 }
 
-// Kept: C has a struct of its own for each of these calls, so that three structs are converted to.
+// Kept: not the `Answer` of `refusals`, since C's struct of this call has a third number, how many proposals there are.
 impl From<Result<RankedKept, Refusal>> for RankedAnswer {
     ghost from_gives = { λ given answer. ranked_form answer ≡ ranked_of given };
 

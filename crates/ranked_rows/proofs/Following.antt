@@ -16,7 +16,6 @@ use Rattle.junction_proposals.specs.Bridges.{FirstIn}
 use Rattle.junction_proposals.specs.Rows.{form, row_at}
 use Rattle.junction_selection.specs.Ranks.{order_of, conflict_at}
 use Rattle.ranked_list.specs.RankedList.{Listed, blocks, judged, judged_after}
-use Rattle.ranked_list.proofs.RankedLaws.{judged-length}
 use Rattle.ranked_rows.specs.declared.RankedRow.{RankedRow}
 use Rattle.ranked_rows.specs.Contract.{listed_form, no_row, row_of, listed_from, blocks_at}
 use Rattle.ranked_rows.proofs.Judging.{judged_more, row_listed}
