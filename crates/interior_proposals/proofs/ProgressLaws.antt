@@ -20,7 +20,7 @@ use Rattle.laws.specs.ListLaws.Below.{below_at}
 use Rattle.laws.specs.ListLaws.ScanSteps.{any_next, any-fails_at}
 use Rattle.laws.specs.RustContext.SoundContext.{Sound}
 use Rattle.laws.specs.RustInteriors.ComponentRegions.{inside}
-use Rattle.laws.specs.ListLaws.Beyond.{beyond_same, beyond-then}
+use Rattle.laws.specs.ListLaws.Beyond.{beyond-then}
 use Rattle.laws.specs.NumberLaws.Comparisons.{last_or}
 use Rattle.context.specs.declared.found_regions.FoundRegions.{FoundRegions}
 use Rattle.context.specs.declared.found_regions.FoundRegions.TheVariants as owner-is

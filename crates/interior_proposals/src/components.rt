@@ -119,7 +119,7 @@ fn prepare(marks: &mut [u16], counts: &mut [u32], regions: usize)
         Prepared C marks.new counts.new }
     ensures beyond { Beyond regions marks.old marks.new × Beyond regions counts.old counts.new }
 {
-    // Kept: with the marks by `iter_mut` beside the counts by `zip`, std says nothing of what was written.
+    // Kept: `marks.iter_mut().zip(counts)` would need no index, but of the items of `iter_mut` that `zip` lends std says nothing behind the loop.
     for (k, &count) in counts[..regions].iter().enumerate() {
         marks[k] = flags(marks[k], count);
     }

@@ -33,8 +33,7 @@ fn is_leaf(marks: &[u16], x: u32) -> bool
 // Marks region x as an exterior.
 fn mark_exterior(marks: &mut [u16], x: u32)
     requires { (1 ≤ x) × (x ≤ length marks.old) }
-    ensures marks { marks.new ≡ set marks.old (x - 1) (entry_at marks.old x % 4
-        + 4) }
+    ensures marks { marks.new ≡ set marks.old (x - 1) (entry_at marks.old x % 4 + 4) }
     ensures marks_length { length marks.new ≡ length marks.old }
 {
     let mark = &mut marks[x as usize - 1];

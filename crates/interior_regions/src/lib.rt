@@ -62,7 +62,7 @@ pub fn mark_edges(
     if !on {
         return;
     }
-    // Kept: with the marks by `iter_mut` beside the owners by `zip`, std says nothing of what was written.
+    // Kept: `removed.iter_mut().zip(owners)` would need no index, but of the items of `iter_mut` that `zip` lends std says nothing behind the loop.
     for (j, &owner) in owners[..count].iter().enumerate() {
         removed[j] |= owner == FoundRegions::One(name);
     }

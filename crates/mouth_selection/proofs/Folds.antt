@@ -1,5 +1,5 @@
 -- A fold over the items of a list whose step keeps an invariant: the step may be called at each turn, and the invariant holds at the end. Assumes nothing.
-use Prim.Native.Nat.{ℕ, suc, ◌+◌, ◌≤◌, ◌<◌}
+use Prim.Native.Nat.{ℕ, suc, ◌+◌, ◌<◌}
 use native.Mathlib.Omega.{arith}
 use denote.Param.Members.{Mut}
 use mathlib.Core.Path.{◌≡◌, refl, sym, ap, subst, ◌∙◌}

@@ -3,7 +3,7 @@
 use Rattle.mouth_proposals.specs.Candidates.{is_triangular, Numbered, proposal_of}
 use Rattle.mouth_proposals.specs.Rows.{is_outer}
 use Rattle.mouth_proposals.specs.declared.mouths.MouthKind.{MouthKind}
-use Prim.Native.Nat.{ℕ, ◌+◌, ◌-◌, ◌*◌, ◌/◌, ◌%◌, ◌≤◌, ◌<◌, zero-le}
+use Prim.Native.Nat.{ℕ, ◌+◌, ◌-◌, ◌*◌, ◌/◌, ◌%◌, ◌≤◌, ◌<◌}
 use native.Mathlib.Omega.{arith}
 use native.Mathlib.Nat.{le_trans}
 use mathlib.Core.Path.{◌≡◌, refl, sym, ap, ap₂, ◌∙◌, subst}
@@ -12,8 +12,8 @@ use mathlib.Core.Bool.{Bool, true, false, not, ◌&&◌, ◌||◌, cond, or-fals
 use mathlib.Core.List.{List, [], ◌∷◌, ◌++◌, map}
 use lib.ListN.{length, get_or, set}
 use lib.Seq.{get_or-set_same, get_or-set_other}
-use lib.Dec.{eqb, ltb, leb}
-use borrow.Author.Tests.{eqb-true, eqb-false, ltb-true, ltb-false, lt-ltb, le-ltb}
+use lib.Dec.{eqb, leb}
+use borrow.Author.Tests.{eqb-true, eqb-false}
 use Rattle.definitions.specs.Scan.{any, member, to_list}
 use Rattle.definitions.specs.Grid.{Pair, Boundary, contains}
 use Rattle.definitions.specs.MouthShapes.{regions_of}
@@ -25,7 +25,7 @@ use Rattle.laws.specs.OrderLaws.ListOrder.{eqb_sym}
 use Rattle.laws.specs.RustMouths.Triangles.{any-regions}
 use Rattle.laws.specs.ListLaws.Tests.{neither}
 use Rattle.context.specs.Shown.{ShownBoundaries, ShownPairs}
-use Rattle.mouth_selection.specs.Held.{held, is_used, is_held, is_refused, hold_at_lem, outer_hold, mark_held, mark_outer, mark_inner, held_at, left_at, HeldMarks, TakenState, same_end_lem, end_mark}
+use Rattle.mouth_selection.specs.Held.{held, is_used, is_held, is_refused, hold_at_lem, outer_hold, mark_held, mark_outer, mark_inner, held_at, left_at, HeldMarks, TakenState, same_end_lem}
 use Rattle.mouth_proposals.proofs.Distinct.{member-inner}
 use Rattle.mouth_proposals.proofs.ApproachLaws.{Named}
 use Rattle.mouth_proposals.proofs.Fitting.{all-named-regions}

@@ -20,7 +20,7 @@ fn renew(ramp_ends: &[bool; 256], bests: &mut [Option<Candidate>; 256], count: u
     requires { count ≤ 256 }
     ensures { Renewed ramp_ends.now bests.old bests.new count }
 {
-    // Kept: with the bests by `iter_mut` beside the ends by `zip`, std says nothing of what was written.
+    // Kept: `bests.iter_mut().zip(ramp_ends)` would need no index, but of the items of `iter_mut` that `zip` lends std says nothing behind the loop.
     for (a, &is_used) in ramp_ends[..count].iter().enumerate() {
         if is_used {
             bests[a] = None;

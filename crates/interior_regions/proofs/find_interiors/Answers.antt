@@ -1,5 +1,4 @@
 -- `find_interiors` meets its contract, from what its calls ensure. Assumes nothing.
-use mathlib.Core.Path.{◌∙◌}
 use Rattle.interior_regions.proofs.Starting.{lent-kept, lent-owning, known-progress}
 use Rattle.interior_regions.proofs.find_interiors.Goals as goal
 
@@ -12,7 +11,7 @@ propose_all-requires-clause-progress c =
 pub returns-clause-found : goal.returns-clause-found
 returns-clause-found c =
     λ C L P.
-          let K = c.name_components.ensures.known C L in
-          let W = lent-owning L (c.find_owners.ensures C (lent-kept L K) L.counted) in
-          let g = c.propose_all.ensures.proposed C _ _ W (known-progress _ K) in
-          record { owning = W; found = g.1; settled = g.0.settled; long = g.0.long; few = (lent-kept L K).few; pixels = P }
+    let K = c.name_components.ensures.known C L in
+    let W = lent-owning L (c.find_owners.ensures C (lent-kept L K) L.counted) in
+    let g = c.propose_all.ensures.proposed C _ _ W (known-progress _ K) in
+    record { owning = W; found = g.1; settled = g.0.settled; long = g.0.long; few = (lent-kept L K).few; pixels = P }

@@ -1,12 +1,12 @@
 -- `last_edge` meets its contract, by what `find` gives from the end. Assumes nothing.
-use Rattle.std.proofs.Common.{rules, tests, arith, ◌≡◌, ℕ, ◌+◌, ◌≤◌, ◌<◌, true, false, List, ap, subst}
+use Rattle.std.proofs.Common.{rules, tests, arith, ◌≡◌, ℕ, ◌≤◌, ◌<◌, true, false, List, ap}
 use Rattle.std.specs.Prelude.{Option, None, Some, MatchOption}
 use Rattle.std.specs.Iterator.Adapters.{rev_source}
 use Rattle.std.specs.declared.ops.Range.{Range}
 use Rattle.std.specs.declared.iter.Rev.{Rev}
 use Rattle.context.specs.declared.found_regions.FoundRegions.{FoundRegions}
 use Rattle.interior_proposals.specs.Owners.{owned_by, owner_at}
-use Rattle.interior_regions.specs.Marks.{EndOf, LastEdge}
+use Rattle.interior_regions.specs.Marks.{LastEdge}
 use Rattle.range_laws.specs.Backwards.{last_from_range}
 use Rattle.interior_regions.proofs.last_edge.Goals as goal
 

@@ -3,8 +3,8 @@ use Prim.Native.Nat.{◌+◌, ◌<◌}
 use native.Mathlib.Omega.{arith}
 use lib.ListN.{length}
 use mathlib.Core.Path.{◌∙◌}
-use Rattle.laws.specs.ListLaws.Beyond.{beyond_same, beyond-set, beyond-then}
-use Rattle.interior_proposals.proofs.Forests.{flat-start, own_name, parents_name, flat_more, flat-end}
+use Rattle.laws.specs.ListLaws.Beyond.{beyond-set, beyond-then}
+use Rattle.interior_proposals.proofs.Forests.{own_name, parents_name, flat_more, flat-end}
 use Rattle.interior_proposals.proofs.components.flatten.Goals as goal
 use Rattle.interior_proposals.proofs.components.flatten.Goals.{then-p-k, else-p-k}
 

@@ -1,15 +1,9 @@
 -- `components::prepare` meets its contract. The invariant: the marks of the regions passed are stored. Assumes nothing.
-use Prim.Native.Nat.{◌%◌, ◌<◌}
 use native.Mathlib.Omega.{arith}
-use mathlib.Core.Path.{◌≡◌, sym, ap₂, subst, ◌∙◌}
-use mathlib.Core.Bool.{false}
-use lib.ListN.{length, take, get_or}
-use lib.Seq.{get_or-take, length-take-le}
-use lib.Dec.{eqb}
-use Rattle.laws.specs.ListLaws.Beyond.{beyond_same, beyond-set, beyond-then}
+use mathlib.Core.Path.{◌≡◌, sym, subst}
+use lib.ListN.{length, take}
+use lib.Seq.{length-take-le}
 use Rattle.parents.specs.Forest.{Forest}
-use Rattle.interior_proposals.specs.Given.{flags_of}
-use Rattle.interior_proposals.proofs.Stored.{stored-start, stored_more}
 use Rattle.interior_proposals.proofs.Preparing.{prepared}
 use Rattle.interior_proposals.proofs.components.prepare.Goals as goal
 

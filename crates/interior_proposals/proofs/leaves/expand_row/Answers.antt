@@ -1,7 +1,6 @@
 -- `leaves::expand_row` meets its contract, by its tests. Assumes nothing.
-use mathlib.Core.Path.{refl, ap, sym, ◌∙◌}
+use mathlib.Core.Path.{ap, sym, ◌∙◌}
 use mathlib.Core.Bool.{cond}
-use lib.ListN.{length, length-set}
 use Rattle.interior_proposals.proofs.LeafLaws.{row_inside, row_unclear, row_no_leaf, row-leaf}
 use Rattle.interior_proposals.proofs.leaves.expand_row.Goals as goal
 use Rattle.interior_proposals.proofs.leaves.expand_row.Goals.{then-a, else-a}

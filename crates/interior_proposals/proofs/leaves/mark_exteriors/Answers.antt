@@ -25,10 +25,11 @@ loop-k-preserved c =
           let high = row_high c.args.pairs.now c.loop-k.k c.row_at-lo.ensures in
           let E = c.loop-k.invariant.3 C rs w I M in
           elim c.if-parent_of-r.branch [
-            in-true-true v ↦ marking-by C rs _ _ _ _ _ I w c.loop-k.k up in_rows low high c.parent_of.ensures c.parent_of-in-loop-k.ensures E true true (eq-eqb _ _ v.in-true-true.is-0) (eq-eqb _ _ v.in-true-true.is-1) v.marks-is (v.fit-is ∙ sym (and-false _))
-          | in-true-false v ↦ marking-by C rs _ _ _ _ _ I w c.loop-k.k up in_rows low high c.parent_of.ensures c.parent_of-in-loop-k.ensures E true false (eq-eqb _ _ v.in-true-false.is-0) (ne_eqb _ _ v.in-true-false.is-1) (v.marks-is ∙ v.mark_exterior.ensures.marks) (v.fit-is ∙ sym (and-true _))
-          | in-false-true v ↦ marking-by C rs _ _ _ _ _ I w c.loop-k.k up in_rows low high c.parent_of.ensures c.parent_of-in-loop-k.ensures E false true (ne_eqb _ _ v.in-false-true.is-0) (eq-eqb _ _ v.in-false-true.is-1) (v.marks-is ∙ v.mark_exterior-in-false-true.ensures.marks) (v.fit-is ∙ sym (and-true _))
-          | in-false-false v ↦ marking-by C rs _ _ _ _ _ I w c.loop-k.k up in_rows low high c.parent_of.ensures c.parent_of-in-loop-k.ensures E false false (ne_eqb _ _ v.in-false-false.is-0) (ne_eqb _ _ v.in-false-false.is-1) v.marks-is (v.fit-is ∙ sym (and-true _)) ],
+            | in-true-true v ↦ marking-by C rs _ _ _ _ _ I w c.loop-k.k up in_rows low high c.parent_of.ensures c.parent_of-in-loop-k.ensures E true true (eq-eqb _ _ v.in-true-true.is-0) (eq-eqb _ _ v.in-true-true.is-1) v.marks-is (v.fit-is ∙ sym (and-false _))
+            | in-true-false v ↦ marking-by C rs _ _ _ _ _ I w c.loop-k.k up in_rows low high c.parent_of.ensures c.parent_of-in-loop-k.ensures E true false (eq-eqb _ _ v.in-true-false.is-0) (ne_eqb _ _ v.in-true-false.is-1) (v.marks-is ∙ v.mark_exterior.ensures.marks) (v.fit-is ∙ sym (and-true _))
+            | in-false-true v ↦ marking-by C rs _ _ _ _ _ I w c.loop-k.k up in_rows low high c.parent_of.ensures c.parent_of-in-loop-k.ensures E false true (ne_eqb _ _ v.in-false-true.is-0) (eq-eqb _ _ v.in-false-true.is-1) (v.marks-is ∙ v.mark_exterior-in-false-true.ensures.marks) (v.fit-is ∙ sym (and-true _))
+            | in-false-false v ↦ marking-by C rs _ _ _ _ _ I w c.loop-k.k up in_rows low high c.parent_of.ensures c.parent_of-in-loop-k.ensures E false false (ne_eqb _ _ v.in-false-false.is-0) (ne_eqb _ _ v.in-false-false.is-1) v.marks-is (v.fit-is ∙ sym (and-true _))
+          ],
     )
 
 pub returns-clause-marked : goal.returns-clause-marked

@@ -26,6 +26,6 @@ loop-i-preserved c =
 pub returns-clause-proposed : goal.returns-clause-proposed
 returns-clause-proposed c =
     λ C was wasMarks W P.
-          let w = c.loop-i.invariant.4 C was wasMarks W P in
-          let same : c.loop-i.i ≡ C.count = omega (arith, c.loop-i.invariant.0, c.loop-i-test.false, W.counted) in
-          (subst (λ n. Progress C c.args.owners.now was c.loop-i.names wasMarks c.loop-i.marks n) same w.0, subst (λ n. FoundAll C c.args.owners.now c.loop-i.found n) same w.1)
+    let w = c.loop-i.invariant.4 C was wasMarks W P in
+    let same : c.loop-i.i ≡ C.count = omega (arith, c.loop-i.invariant.0, c.loop-i-test.false, W.counted) in
+    (subst (λ n. Progress C c.args.owners.now was c.loop-i.names wasMarks c.loop-i.marks n) same w.0, subst (λ n. FoundAll C c.args.owners.now c.loop-i.found n) same w.1)

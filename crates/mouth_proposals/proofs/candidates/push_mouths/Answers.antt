@@ -1,7 +1,6 @@
 -- `candidates::push_mouths` meets its contract. The invariant: the entries are the candidates of the mouths passed, at most one a mouth. Assumes nothing.
 use native.Mathlib.Omega.{arith}
-use native.Mathlib.Nat.{le_antisymm}
-use mathlib.Core.Path.{sym, ap}
+use mathlib.Core.Path.{sym}
 use Rattle.definitions.specs.Scan.{collect}
 use Rattle.laws.specs.ListLaws.ScanSteps.{collect_next}
 use Rattle.mouth_proposals.specs.Candidates.{mouth_candidate}

@@ -1,9 +1,8 @@
 -- `candidates::push_ramp` meets its contract, by its tests. Assumes nothing.
-use native.Mathlib.Omega.{arith}
 use mathlib.Core.Path.{sym, ◌∙◌}
-use borrow.Author.Tests.{not-true, not-false}
+use borrow.Author.Tests.{not-false}
 use Rattle.mouth_proposals.specs.Candidates.{mouth_candidate}
-use Rattle.mouth_proposals.proofs.SafeLists.{below, stretch_at, tallies_at, rows-counted, kind-shown}
+use Rattle.mouth_proposals.proofs.SafeLists.{below, stretch_at, kind-shown}
 use Rattle.mouth_proposals.proofs.CandidateRoom.{filled-empty, no_ramp_none, no_cut_none}
 use Rattle.mouth_proposals.proofs.candidates.push_ramp.Goals as goal
 

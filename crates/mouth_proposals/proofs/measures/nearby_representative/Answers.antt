@@ -2,7 +2,7 @@
 use mathlib.Core.Path.{ap₂, ◌∙◌}
 use Rattle.definitions.specs.RampGeometry.{is_nearby_parallel_representative}
 use Rattle.definitions.specs.RampMouths.{nearby_representative}
-use Rattle.mouth_proposals.proofs.Measured.{pixels_at, endpoints-shown}
+use Rattle.mouth_proposals.proofs.Measured.{endpoints-shown}
 use Rattle.mouth_proposals.proofs.measures.nearby_representative.Goals as goal
 
 pub returns : goal.returns

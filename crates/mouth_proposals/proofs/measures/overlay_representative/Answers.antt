@@ -1,7 +1,7 @@
 -- `measures::overlay_representative` meets its contract, from what its callees ensure. Assumes nothing.
 use mathlib.Core.Path.{ap₂, ◌∙◌}
 use Rattle.definitions.specs.RampGeometry.{overlapping_ramp_representative}
-use Rattle.mouth_proposals.proofs.Measured.{pixels_at, endpoints-shown, width-shown, overlay_by, overlay-not}
+use Rattle.mouth_proposals.proofs.Measured.{endpoints-shown, width-shown, overlay_by, overlay-not}
 use Rattle.mouth_proposals.proofs.measures.overlay_representative.Goals as goal
 
 pub returns-then-fmax-fmin : goal.returns-then-fmax-fmin

@@ -2,7 +2,7 @@
 use mathlib.Core.Path.{ap₂, ◌∙◌}
 use Rattle.definitions.specs.RampGeometry.{segment_distance}
 use Rattle.definitions.specs.RampMouths.{separation_of}
-use Rattle.mouth_proposals.proofs.Measured.{pixels_at, endpoints-shown}
+use Rattle.mouth_proposals.proofs.Measured.{endpoints-shown}
 use Rattle.mouth_proposals.proofs.measures.separation_of.Goals as goal
 
 pub returns : goal.returns

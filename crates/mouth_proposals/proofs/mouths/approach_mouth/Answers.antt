@@ -1,8 +1,6 @@
 -- `mouths::approach_mouth` meets its contract, by the approach. Assumes nothing.
-use mathlib.Core.Path.{sym, ap, ◌∙◌, subst}
-use Rattle.std.specs.Prelude.{Some}
-use Rattle.mouth_proposals.specs.Candidates.{Within, candidate_form, approach_mouth}
-use Rattle.mouth_proposals.specs.Ends.{EndKnown}
+use mathlib.Core.Path.{sym, ap, ◌∙◌}
+use Rattle.mouth_proposals.specs.Candidates.{candidate_form, approach_mouth}
 use Rattle.mouth_proposals.proofs.mouths.approach_mouth.Goals as goal
 
 pub returns-in_err-sides : goal.returns-in_err-sides

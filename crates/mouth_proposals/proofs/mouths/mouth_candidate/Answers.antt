@@ -7,7 +7,7 @@ use Rattle.definitions.specs.MouthShapes.{mouth_shape}
 use Rattle.definitions.specs.Context.{full_pair}
 use Rattle.laws.specs.ListLaws.Tests.{both}
 use Rattle.mouth_proposals.proofs.FoundMouths.{triangle_two, has_ramp_lem, not_full, tried, no_shape, too_far, by_triangle, by_approach}
-use Rattle.mouth_proposals.proofs.SafeLists.{below, stretch_at, tallies_at, named-both, kind-shown, named_in, approach_named}
+use Rattle.mouth_proposals.proofs.SafeLists.{below, stretch_at, named-both, kind-shown, named_in, approach_named}
 use Rattle.mouth_proposals.proofs.KnownEnds.{approach_known}
 use Rattle.context.proofs.FullPairs.{between-length}
 use Rattle.mouth_proposals.proofs.mouths.mouth_candidate.Goals as goal

@@ -1,7 +1,4 @@
 -- `shapes::triangle_representative` meets its contract: two rows each, or no triangle. Assumes nothing.
-use mathlib.Core.Path.{sym, ap, ap₂, ◌∙◌}
-use Rattle.definitions.specs.Scan.{only_if}
-use Rattle.definitions.specs.MouthShapes.{distinct_regions, triangle_representative}
 use Rattle.mouth_proposals.specs.Rows.{rows_of}
 use Rattle.mouth_proposals.proofs.ShapeTests.{no_mouth-triangle, no_ramp-triangle}
 use Rattle.mouth_proposals.proofs.shapes.triangle_representative.Goals as goal

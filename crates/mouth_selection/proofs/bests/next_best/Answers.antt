@@ -1,14 +1,8 @@
 -- `bests::next_best` meets its contract: nothing is left where no boundary can be a mouth, else the least of the bests is next. Assumes nothing.
-use Prim.Native.Nat.{◌≤◌, ◌<◌}
-use native.Mathlib.Omega.{arith}
 use mathlib.Core.Path.{sym, subst, ◌∙◌}
-use lib.ListN.{length}
-use lib.Seq.{get_or-take, length-take-le}
 use borrow.Author.Rules.{rules}
-use Rattle.std.specs.Prelude.{None}
-use Rattle.laws.specs.ListLaws.Options.{OnO, absent}
+use Rattle.laws.specs.ListLaws.Options.{absent}
 use Rattle.mouth_selection.specs.Selecting.{NextBest}
-use Rattle.mouth_selection.specs.Keys.{SafeKey}
 use Rattle.mouth_selection.proofs.RoundLaws.{least_taken, next_is}
 use Rattle.mouth_selection.proofs.bests.next_best.Goals as goal
 

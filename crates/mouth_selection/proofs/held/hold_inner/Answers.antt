@@ -1,10 +1,5 @@
 -- `held::hold_inner` meets its contract. The invariant: the rows passed are held. Assumes nothing.
-use native.Mathlib.Nat.{le_antisymm}
-use mathlib.Core.Path.{sym, ap, ◌∙◌, subst}
-use lib.ListN.{length}
-use Rattle.context.specs.Rows.{NamedRow}
-use Rattle.mouth_proposals.proofs.RowLists.{named-lo, named-hi}
-use Rattle.mouth_selection.proofs.Marks.{inner-length, marked, none_marked, row-marked}
+use Rattle.mouth_selection.proofs.Marks.{none_marked, row-marked}
 use borrow.Author.Rules.{rules}
 use Rattle.mouth_selection.proofs.held.hold_inner.Goals as goal
 
