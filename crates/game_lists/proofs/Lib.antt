@@ -2,5 +2,4 @@ pub mod Answering
 pub mod KeptSpans
 pub mod DividingKept
 pub mod Ready
-pub mod Deciding
 pub mod PreparingGame

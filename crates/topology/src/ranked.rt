@@ -59,7 +59,9 @@ pub fn rank_junctions(
 
 // Views the partitioned map, marks what pass 3 removes and lists its proposals, where there are as many boundaries as spans; gives how many proposals there
 // are. Labels, tallies and pairs are those of the partition of what a call is asked.
+// Never put into its caller: the rows would stand on the stack beside those that are sorted at the end of the call.
 // Kept: the lists one by one, as in `mark_lent` of `marks`.
+#[inline(never)]
 pub fn mark_ranked(
     asked: Asked,
     ready: Ready,

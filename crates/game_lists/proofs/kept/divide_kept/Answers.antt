@@ -1,18 +1,11 @@
 -- `game_lists::kept::divide_kept` meets its contract: the spans that are kept, the lists of the first partition cleared, and divided again, which is not
 -- refused (DividingKept). Assumes nothing.
-use Prim.Native.Nat.{ℕ}
 use native.Mathlib.Omega.{arith}
 use mathlib.Core.Path.{sym, refl}
-use lib.ListN.{length-replicate}
 use lib.Seq.{length-take-le}
 use Rattle.game_lists.proofs.KeptSpans.{few-kept}
 use Rattle.game_lists.proofs.DividingKept.{tallies-room, pairs-room, tallies-cleared, pairs-cleared, spans-room, kept-are, kept-fit, is-ready, kept-ready}
 use Rattle.game_lists.proofs.kept.divide_kept.Goals as goal
-
-pub kept_spans-count-requires : goal.kept_spans-count-requires
-kept_spans-count-requires c =
-    let room = spans-room _ c.requires.1 in
-    (omega (arith, room.0, length-replicate {A = ℕ} 1024 0), room.1)
 
 pub overflow_mul-end : goal.overflow_mul-end
 overflow_mul-end c =

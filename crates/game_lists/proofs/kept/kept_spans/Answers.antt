@@ -2,7 +2,7 @@
 use Rattle.game_lists.proofs.KeptSpans.{kept-front}
 use Rattle.game_lists.proofs.kept.kept_spans.Goals as goal
 
-pub returns : goal.returns
-returns c =
+pub returns-clause-kept : goal.returns-clause-kept
+returns-clause-kept c =
     let a = c.args in
-    record { answer = c.keep_blocks.ensures.answer; kept = kept-front a.spans.now a.kept.now a.removed.now c.requires.0 c.copy_block.ensures c.keep_blocks.ensures.list _ c.keep_blocks.ensures.answer }
+    kept-front a.spans.now a.kept.now a.removed.now c.requires.0 c.copy_block.ensures c.keep_blocks.ensures.list _ c.keep_blocks.ensures.answer

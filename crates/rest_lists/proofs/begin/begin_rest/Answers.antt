@@ -1,12 +1,10 @@
 -- `rest_lists::begin::begin_rest` meets its contract: a check before 11 refuses, or the starting list is written and divided (Beginning). Assumes nothing.
-use mathlib.Core.Path.{sym}
 use native.Mathlib.Omega.{arith}
-use lib.Seq.{length-take-le}
 use Rattle.std.proofs.Common.{rules, ◌≡◌}
 use Rattle.std.specs.Prelude.{Err}
 use Rattle.call_partition.specs.Asking.{grid_in}
 use Rattle.call_partition.proofs.OnGrid.{divided_on}
-use Rattle.rest_lists.proofs.Beginning.{begun-refused, count-few, ends-long, begun-fits, begun_divided}
+use Rattle.rest_lists.proofs.Beginning.{begun-refused, count-few, begun-fits, begun_divided}
 use Rattle.rest_lists.proofs.Holding.{start-held}
 use Rattle.rest_lists.proofs.begin.begin_rest.Goals as goal
 
@@ -29,18 +27,6 @@ start_lists-requires c =
       room = (search (rules, few), search (rules, few), search (rules, few));
     }
 
-pub overflow_mul-end : goal.overflow_mul-end
-overflow_mul-end c =
-    let given = c.args in
-    record {
-      fits = omega (
-        arith,
-        count-few given.asked.width given.asked.height given.asked.cells.now given.asked.spans.now given.asked.boundaries.now given.asked.anchors.now given.room given.output
-            given.lists.now.labels.now given.lists.now.masks.now given.lists.now.queue.now given.lists.now.tallies.now given.lists.now.pairs.now
-            c.in_ok-rest_checks.ensures,
-      );
-    }
-
 pub shared_ref_as_front-divide : goal.shared_ref_as_front-divide
 shared_ref_as_front-divide c =
     let given = c.args in
@@ -50,16 +36,6 @@ shared_ref_as_front-divide c =
           given.lists.now.labels.now given.lists.now.masks.now given.lists.now.queue.now given.lists.now.tallies.now given.lists.now.pairs.now
           c.in_ok-rest_checks.ensures,
     )
-
-pub slice_bounds-divide-end : goal.slice_bounds-divide-end
-slice_bounds-divide-end c =
-    let lists = c.start_lists in
-    let given = c.args in
-    sym (length-take-le _ _ (ends-long given.asked.width given.asked.height given.asked.cells.now given.asked.spans.now given.asked.boundaries.now given.asked.anchors.now given.room given.output
-    given.lists.now.labels.now given.lists.now.masks.now given.lists.now.queue.now given.lists.now.tallies.now given.lists.now.pairs.now
-    c.in_ok-rest_checks.ensures
-    (start-held given.asked.width given.asked.height given.asked.cells.now given.asked.spans.now given.asked.boundaries.now given.asked.anchors.now given.kept.now.numbers given.kept.now.spans given.kept.now.boundaries
-    lists.ensures.numbers lists.ensures.spans lists.ensures.boundaries)))
 
 pub divide-requires : goal.divide-requires
 divide-requires c =
