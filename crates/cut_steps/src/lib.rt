@@ -60,8 +60,7 @@ pub fn span_of(span: [u64; NUMBERS_PER_SPAN]) -> SpanGeometry
     requires { SpanAtAsked span 0 }
     ensures { Made (segment_at span 0) result }
 {
-    let [x0, y0, x1, y1] = span;
-    SpanGeometry::new(x0, y0, x1, y1)
+    SpanGeometry::new(span_geometry::segments::segment_at(&span, 0))
 }
 
 // The cut steps of all spans, in masks of zeros.

@@ -31,10 +31,10 @@ pub fn intersects(left: Segment, right: Segment) -> bool
     requires { PixelSegment (segment_form left) × PixelSegment (segment_form right) }
     ensures { result ≡ intersects (segment_form left) (segment_form right) }
 {
-    let left_right_start = cross(left.a, left.b, right.a);
-    let left_right_end = cross(left.a, left.b, right.b);
-    let right_left_start = cross(right.a, right.b, left.a);
-    let right_left_end = cross(right.a, right.b, left.b);
+    let left_right_start = cross(left, right.a);
+    let left_right_end = cross(left, right.b);
+    let right_left_start = cross(right, left.a);
+    let right_left_end = cross(right, left.b);
     touches(left_right_start, left, right.a)
         | touches(left_right_end, left, right.b)
         | touches(right_left_start, right, left.a)
