@@ -1,5 +1,5 @@
-// What reads the boundaries of a lent list, nine numbers each: which of them is which. The first four are the endpoints. (Crates below this one, such as `rows`
-// and `checks`, read a boundary from the place of its first number.)
+// What reads the boundaries of a lent list, nine numbers each: which of them is which. The first four are the endpoints. (Crates that do not see this one, as
+// `rows` and `checks`, read a boundary from the place of its first number.)
 ghost use Rattle.std.specs.Prelude.{◌≡◌, not, ◌+◌, ◌*◌, get_or, eqb};
 ghost use Rattle.definitions.specs.Limits.{numbers_per_boundary};
 ghost use Rattle.definitions.specs.Grid.{segment_at};
