@@ -16,8 +16,8 @@ const CANDIDATE_MARGIN_PIXELS: u64 = 16;
 const CANDIDATE_MINOR_RADIUS_CELLS: u64 = 3;
 
 // first, .., last; nothing where last is below first.
-// Kept: the library's `RangeInclusive` has a flag that each contract must deny, and `Range` ends one behind: the definition's lists, and with them each law here
-// and in cut_steps, say the last.
+// Kept: the library's `RangeInclusive` has a flag that each contract must deny, and `Range` ends one behind: the definition's lists, and with them each law
+// here and in cut_steps, say the last.
 #[derive(Clone, Copy)]
 pub struct CandidateRange {
     pub first: u64,
