@@ -8,19 +8,12 @@ ghost use Rattle.boundary_blocks.specs.Blocks.{part, left_blocks, left_count};
 use definitions::limits::MAX_ENTRIES;
 
 // Copies a block from one list into another.
+// Kept: `copy_from_slice` at each caller would say the place and the size twice in each of its two ranges.
 pub fn copy_block(from: &[u64], at: usize, to: &mut [u64], place: usize, size: usize)
     requires { (at + size ≤ length from.now) × (place + size ≤ length to.old) }
     ensures { to.new ≡ sets to.old place (part at size from.now) }
 {
     to[place..place + size].copy_from_slice(&from[at..at + size]);
-}
-
-// Moves a block within a list, to its own place or one before.
-fn move_block(list: &mut [u64], at: usize, place: usize, size: usize)
-    requires { (place ≤ at) × (at + size ≤ length list.old) }
-    ensures { list.new ≡ sets list.old place (part at size list.old) }
-{
-    list.copy_within(at..at + size, place);
 }
 
 // Moves the blocks that are not removed to the front, and gives how many there are.
@@ -37,7 +30,8 @@ pub fn keep_blocks(
     let mut kept = 0;
     for (k, &gone) in removed[..count].iter().enumerate() {
         if !gone {
-            move_block(&mut *list, size * k, size * kept, size);
+            let at = size * k;
+            list.copy_within(at..at + size, size * kept);
             kept += 1;
         }
     }

@@ -1,7 +1,7 @@
 // The starting list in row order with canonical endpoints, and the rows of what is kept.
 ghost use Rattle.std.specs.Prelude.{◌≡◌, ◌++◌, ◌+◌, ◌*◌, ◌≤◌, length, get_or};
 ghost use Rattle.std.proofs.lemmas.List.Edits.{sets};
-ghost use Rattle.definitions.specs.Limits.{max_entries};
+ghost use Rattle.definitions.specs.Limits.{max_entries, numbers_per_boundary, numbers_per_row, numbers_per_span};
 ghost use Rattle.definitions.specs.Lists.{overwrite};
 ghost use Rattle.definitions.specs.Rows.{flat_rows};
 ghost use Rattle.laws.specs.ListLaws.Lists.{All};
@@ -28,7 +28,7 @@ fn put_numbers(rows: &[[u64; NUMBERS_PER_ROW]], numbers: &mut [u64])
 
 // Their endpoints.
 fn put_spans(rows: &[[u64; NUMBERS_PER_ROW]], spans: &mut [u64])
-    requires { 4 * length rows.now ≤ length spans.old }
+    requires { numbers_per_span * length rows.now ≤ length spans.old }
     ensures { spans.new ≡ overwrite (ends_of_lem (rows_held rows.now)) spans.old }
 {
     for (k, row) in rows.iter().enumerate() {
@@ -38,9 +38,9 @@ fn put_spans(rows: &[[u64; NUMBERS_PER_ROW]], spans: &mut [u64])
 
 // The boundary that a row names, with the row's endpoints, at place k.
 fn put_boundary(lent: &[u64], row: &[u64; NUMBERS_PER_ROW], k: usize, boundaries: &mut [u64])
-    requires { (9 * k + 9 ≤ length boundaries.old) × NamedIn lent.now (row_at row.now 0) }
+    requires { (numbers_per_boundary * (k + 1) ≤ length boundaries.old) × NamedIn lent.now (row_at row.now 0) }
     ensures { boundaries.new
-        ≡ sets boundaries.old (9 * k) (flat_boundary (turned_in lent.now (row_at row.now 0))) }
+        ≡ sets boundaries.old (numbers_per_boundary * k) (flat_boundary (turned_in lent.now (row_at row.now 0))) }
 {
     let place = NUMBERS_PER_BOUNDARY * k;
     let number = row[0] as usize;
@@ -56,7 +56,7 @@ fn put_boundary(lent: &[u64], row: &[u64; NUMBERS_PER_ROW], k: usize, boundaries
 
 // The boundaries that the rows name.
 fn put_boundaries(lent: &[u64], rows: &[[u64; NUMBERS_PER_ROW]], boundaries: &mut [u64])
-    requires { (9 * length rows.now ≤ length boundaries.old) × All (NamedIn lent.now) (rows_held rows.now) }
+    requires { (numbers_per_boundary * length rows.now ≤ length boundaries.old) × All (NamedIn lent.now) (rows_held rows.now) }
     ensures { boundaries.new ≡ overwrite (turned_of lent.now (rows_held rows.now)) boundaries.old }
 {
     for (k, row) in rows.iter().enumerate() {
@@ -72,8 +72,8 @@ pub fn start_lists(
     spans: &mut [u64],
     boundaries: &mut [u64],
 )
-    requires sizes { (count ≤ max_entries) × (9 * count ≤ length lent.now) }
-    requires room { (count ≤ length numbers.old) × (4 * count ≤ length spans.old) × (9 * count ≤ length boundaries.old) }
+    requires sizes { (count ≤ max_entries) × (numbers_per_boundary * count ≤ length lent.now) }
+    requires room { (count ≤ length numbers.old) × (numbers_per_span * count ≤ length spans.old) × (numbers_per_boundary * count ≤ length boundaries.old) }
     ensures numbers { numbers.new ≡ overwrite (numbers_of (rows_of_all lent.now count)) numbers.old }
     ensures spans { spans.new ≡ overwrite (ends_of_lem (rows_of_all lent.now count)) spans.old }
     ensures boundaries { boundaries.new
@@ -91,7 +91,7 @@ pub fn start_lists(
 
 // Writes the rows of what is kept: numbers as lent, and endpoints.
 pub fn put_rows(numbers: &[u64], spans: &[u64], kept: usize, output: &mut [u64])
-    requires { (kept ≤ length numbers.now) × (4 * kept ≤ length spans.now) × (5 * kept ≤ length output.old) }
+    requires { (kept ≤ length numbers.now) × (numbers_per_span * kept ≤ length spans.now) × (numbers_per_row * kept ≤ length output.old) }
     ensures { output.new ≡ overwrite (flat_rows (rows_at numbers.now spans.now kept)) output.old }
 {
     // Kept: k is a place of three lists. Items of `numbers` beside chunks of `spans` would be a zip of two, numbered by k for the output all the same.

@@ -11,7 +11,7 @@ use borrow.Author.Tests.{leb-true, leb-false}
 use Rattle.definitions.specs.Scan.{concat_map}
 use Rattle.definitions.specs.Grid.{Map, Position, at, Segment, toward}
 use Rattle.definitions.specs.Spans.{middle_of, candidate_axis_range, candidate_minor_range}
-use Rattle.span_geometry.specs.declared.strips.RangeInclusive.{RangeInclusive}
+use Rattle.span_geometry.specs.declared.strips.CandidateRange.{CandidateRange}
 use Rattle.span_geometry.specs.declared.strips.Strip.{Strip}
 use Rattle.span_geometry.specs.Strips.{Walks, by_columns, strip_by_columns, strip_of, line_of}
 use Rattle.span_geometry.specs.Candidates.{cell_of, major_side, minor_side}
@@ -54,7 +54,7 @@ no_cut-far M s p far = no_cut M s p bits
 
 -- ---- a narrower range
 
-pub narrows : (least greatest : ℕ) (all near : RangeInclusive) → near.first ≡ max all.first ((least - 5) / 8) → near.last ≡ min all.last ((greatest + 4) / 8) → Narrows least greatest all near
+pub narrows : (least greatest : ℕ) (all near : CandidateRange) → near.first ≡ max all.first ((least - 5) / 8) → near.last ≡ min all.last ((greatest + 4) / 8) → Narrows least greatest all near
 narrows least greatest all near e f =
     record {
       below = omega (arith, f);
@@ -81,7 +81,7 @@ across_none M s true k m b = no_cut-far M s (at k m) (far-y s (at k m) (max s.a.
 across_none M s false k m b = no_cut-far M s (at m k) (far-x s (at m k) (omega arith) (omega arith) (omega arith) (omega arith) b)
 
 pub near_of :
-    (s : Segment) (t : Strip) (k limit : ℕ) {all near : RangeInclusive} (v : Bool) {least greatest : ℕ} → t.columns ≡ v → Walks all (candidate_minor_range (line_of t k) limit) limit
+    (s : Segment) (t : Strip) (k limit : ℕ) {all near : CandidateRange} (v : Bool) {least greatest : ℕ} → t.columns ≡ v → Walks all (candidate_minor_range (line_of t k) limit) limit
     → Narrows least greatest all near → least ≡ least_across v s → greatest ≡ greatest_across v s → Near s t k limit near
 near_of s t k limit {all} {near} v {least} {greatest} c W N e f =
     record { inside = omega (arith, N.below, W.inside); cut = λ M. N.covers (cut_across M s t.columns k) (none M) ∙ ap (concat_map (cut_across M s t.columns k)) W.numbers }
@@ -105,7 +105,7 @@ column-far s o k m = go (by_columns s) (leb s.a.y s.b.y) (leb-true s.a.y s.b.y) 
     go false false c d b = let i = d refl in far-y s (at m k) (s.a.y - 8) (omega (arith, i)) (omega arith) (omega arith) (omega (arith, i)) b
 
 pub near-axis-of :
-    (t : Strip) (limit : ℕ) {all near : RangeInclusive} {greatest : ℕ} → Walks all (candidate_axis_range t.major0 t.major1 limit) limit → Narrows t.major0 greatest all near
+    (t : Strip) (limit : ℕ) {all near : CandidateRange} {greatest : ℕ} → Walks all (candidate_axis_range t.major0 t.major1 limit) limit → Narrows t.major0 greatest all near
     → greatest ≡ last_reached t → NearAxis t limit near
 near-axis-of t limit {all} {near} W N e =
     record { below = omega (arith, N.below, W.inside); covers = λ f none. N.covers f (λ m b. none m (subst (λ g. Beyond t.major0 g m) e b)) ∙ ap (concat_map f) W.numbers }

@@ -136,11 +136,11 @@ module _ (s : Segment) (p d : Position) (hx : d.x ≤ 2) (hy : d.y ≤ 2) (kx : 
 -- ---- of a span as the code has it
 
 module _ {g : SpanGeometry} (G : Sound g) (p : Position) {z : ℤ} (f : z ≡ side_of (segment_of g) p) where
-  run_is : nat_abs (diff g.b.x g.a.x) ≡ g.max_x - g.min_x
-  run_is = nat_abs_gap g.b.x g.a.x ∙ sym (λ i. G.max-x i - G.min-x i)
+  run_is : nat_abs (diff g.ends.b.x g.ends.a.x) ≡ g.max_x - g.min_x
+  run_is = nat_abs_gap g.ends.b.x g.ends.a.x ∙ sym (λ i. G.max-x i - G.min-x i)
 
-  rise_is : nat_abs (diff g.b.y g.a.y) ≡ g.max_y - g.min_y
-  rise_is = nat_abs_gap g.b.y g.a.y ∙ sym (λ i. G.max-y i - G.min-y i)
+  rise_is : nat_abs (diff g.ends.b.y g.ends.a.y) ≡ g.max_y - g.min_y
+  rise_is = nat_abs_gap g.ends.b.y g.ends.a.y ∙ sym (λ i. G.max-y i - G.min-y i)
 
   over : {b : ℕ} → ltb b (nat_abs z) ≡ true → b < nat_abs (side_of (segment_of g) p)
   over {b} t = subst (λ n. b < n) (ap nat_abs f) (ltb-true b (nat_abs z) t)

@@ -10,7 +10,7 @@ use Rattle.definitions.specs.Limits.{max_side}
 use Rattle.definitions.specs.Scan.{run, concat_map}
 use Rattle.definitions.specs.Grid.{Map, Segment}
 use Rattle.definitions.specs.Spans.{range_inclusive}
-use Rattle.span_geometry.specs.declared.strips.RangeInclusive.{RangeInclusive}
+use Rattle.span_geometry.specs.declared.strips.CandidateRange.{CandidateRange}
 use Rattle.span_geometry.specs.declared.strips.Strip.{Strip}
 use Rattle.span_geometry.specs.Strips.{Usable, strip_of}
 use Rattle.span_geometry.specs.Candidates.{major_side}
@@ -37,7 +37,7 @@ is_inside_lem k from end least less o to a b c d e =
     (omega (arith, a), omega (arith, b))
 
 pub parted :
-    (t : Strip) (limit : ℕ) (r : RangeInclusive) → NearAxis t limit r → {end least from less o to : ℕ} → end ≡ max r.first (r.last + 1)
+    (t : Strip) (limit : ℕ) (r : CandidateRange) → NearAxis t limit r → {end least from less o to : ℕ} → end ≡ max r.first (r.last + 1)
     → least ≡ max r.first ((t.major0 + 11) / 8) → from ≡ min least end → less ≡ t.major1 - 4 → o ≡ min (less / 8) end → to ≡ max from o → Parted t limit r.first from to end
 unfolding range_inclusive
 parted t limit r N {end} {least} {from} {less} {o} {to} e f g h i j =

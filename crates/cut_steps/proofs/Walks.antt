@@ -12,7 +12,7 @@ use Rattle.definitions.specs.Grid.{Map, Segment}
 use Rattle.definitions.specs.Spans.{range_inclusive}
 use Rattle.laws.specs.NumberLaws.Comparisons.{le_or_lt}
 use Rattle.span_geometry.specs.declared.SpanGeometry.{SpanGeometry}
-use Rattle.span_geometry.specs.declared.strips.RangeInclusive.{RangeInclusive}
+use Rattle.span_geometry.specs.declared.strips.CandidateRange.{CandidateRange}
 use Rattle.span_geometry.specs.declared.strips.Strip.{Strip}
 use Rattle.span_geometry.specs.Candidates.{minor_side}
 use Rattle.grid_steps.specs.declared.grid.TerrainGrid.{TerrainGrid}
@@ -32,7 +32,7 @@ cell_of_column G a b = record { narrow = G.narrow; short = G.short; cells_long =
 -- ---- a column, or row
 
 pub range-joined :
-    (M : Map) (g : Segment) (t : Strip) (k : ℕ) {r : RangeInclusive} {limit : ℕ} → limit ≡ minor_side t M.width M.height → Near g t k limit r
+    (M : Map) (g : Segment) (t : Strip) (k : ℕ) {r : CandidateRange} {limit : ℕ} → limit ≡ minor_side t M.width M.height → Near g t k limit r
     → cut_column M g t k ≡ concat_map (cut_across M g t.columns k) (up_to r.first (r.last + 1))
 unfolding range_inclusive
 range-joined M g t k {r} e N =

@@ -6,7 +6,7 @@ use Rattle.definitions.specs.Limits.{max_side}
 use Rattle.definitions.specs.Scan.{concat_map}
 use Rattle.definitions.specs.Grid.{Map, at, Pair, Segment}
 use Rattle.definitions.specs.Spans.{range_inclusive, candidate_axis_range, candidate_minor_range}
-use Rattle.span_geometry.specs.declared.strips.RangeInclusive.{RangeInclusive}
+use Rattle.span_geometry.specs.declared.strips.CandidateRange.{CandidateRange}
 use Rattle.span_geometry.specs.declared.strips.Strip.{Strip}
 use Rattle.span_geometry.specs.Strips.{Usable, strip_of, line_of}
 use Rattle.span_geometry.specs.Candidates.{cell_of, major_side, minor_side, candidates_by_strip}
@@ -28,7 +28,7 @@ pub record ColumnAsked (w h : ℕ) (t : Strip) (k : ℕ) : Type 0 where
   pub some : 0 < minor_side t w h
 
 -- the cells of a range are below the limit, and have all cut steps of the candidates in column, or row, k
-pub record Near (g : Segment) (t : Strip) (k limit : ℕ) (r : RangeInclusive) : Type 0 where
+pub record Near (g : Segment) (t : Strip) (k limit : ℕ) (r : CandidateRange) : Type 0 where
   pub inside : r.last < limit
   pub cut : (M : Map) → concat_map (cut_across M g t.columns k) (range_inclusive r.first r.last) ≡ concat_map (cut_across M g t.columns k) (candidate_minor_range (line_of t k) limit)
 
@@ -55,7 +55,7 @@ some_side false a b = b
 
 -- ---- joined
 
-pub column-joined : (M : Map) (g : Segment) (t : Strip) (k : ℕ) {r : RangeInclusive} {limit : ℕ} → limit ≡ minor_side t M.width M.height → Near g t k limit r → concat_map (cut_across M g t.columns k) (range_inclusive r.first r.last) ≡ cut_column M g t k
+pub column-joined : (M : Map) (g : Segment) (t : Strip) (k : ℕ) {r : CandidateRange} {limit : ℕ} → limit ≡ minor_side t M.width M.height → Near g t k limit r → concat_map (cut_across M g t.columns k) (range_inclusive r.first r.last) ≡ cut_column M g t k
 column-joined M g t k e N =
     N.cut M ∙ ap (λ n. concat_map (cut_across M g t.columns k) (candidate_minor_range (line_of t k) n)) e
     ∙ sym (concat_map_lem (cut_from M g) (cell_of t k) (candidate_minor_range (line_of t k) (minor_side t M.width M.height)))

@@ -33,7 +33,7 @@ fn side_of(g: SpanGeometry, cell: WalkPosition) -> i64
     requires { Sound g × (cell.x < max_side) × (cell.y < max_side) }
     ensures { result ≡ side_of (segment_of g) (at cell.x cell.y) }
 {
-    cross(g.a, g.b, cell_center(cell.x as u64, cell.y as u64))
+    cross(g.ends, cell_center(cell.x as u64, cell.y as u64))
 }
 
 // Whether a cell is so far from the span's line that the centre of every neighbour of larger number lies on the same side of it: a step changes the side value

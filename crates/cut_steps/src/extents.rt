@@ -10,7 +10,7 @@ ghost use Rattle.cut_steps.specs.Columns.{Near};
 
 use definitions::limits::PIXELS_PER_WALK_CELL;
 use span_geometry::SpanGeometry;
-use span_geometry::strips::{RangeInclusive, Strip};
+use span_geometry::strips::{CandidateRange, Strip};
 
 // The middle of the place after m is at 8 m + 12, and that of the one before it at 8 m - 4. So the first of these is at pixel p or later where m is
 // (p - 5) / 8 or more, and the second is at p or earlier where m is (p + 4) / 8 or less.
@@ -19,20 +19,20 @@ const REACHES_AFTER: u64 = 5;
 const REACHES_BEFORE: u64 = 4;
 
 // The places of a range from which a step can reach the pixels from `least` to `greatest`.
-fn narrowed(range: RangeInclusive, least: u64, greatest: u64) -> RangeInclusive
+fn narrowed(range: CandidateRange, least: u64, greatest: u64) -> CandidateRange
     requires { greatest ≤ max_pixel }
     ensures { Narrows least greatest range result }
 {
     let after = least.saturating_sub(REACHES_AFTER) / PIXELS_PER_WALK_CELL;
     let before = (greatest + REACHES_BEFORE) / PIXELS_PER_WALK_CELL;
-    RangeInclusive {
+    CandidateRange {
         first: range.first.max(after),
         last: range.last.min(before),
     }
 }
 
 // The columns, or rows, near the span that may have a cut step, of as many as limit says.
-pub fn near_axis(strip: Strip, limit: u64) -> RangeInclusive
+pub fn near_axis(strip: Strip, limit: u64) -> CandidateRange
     requires { Usable strip × (0 < limit) }
     ensures { NearAxis strip limit result }
 {
@@ -48,7 +48,7 @@ pub fn near_axis(strip: Strip, limit: u64) -> RangeInclusive
 }
 
 // The candidates in column, or row, k that may have a cut step, of as many as limit says.
-pub fn near_range(g: SpanGeometry, strip: Strip, k: u64, limit: u64) -> RangeInclusive
+pub fn near_range(g: SpanGeometry, strip: Strip, k: u64, limit: u64) -> CandidateRange
     requires { Sound g × Usable strip × (k < max_side) × (0 < limit) }
     ensures { Near (segment_of g) strip k limit result }
 {

@@ -19,6 +19,7 @@ ghost use Rattle.cut_steps.specs.MarkVisits.{MarkReady, MarkVisited, mark_laws};
 use definitions::limits::NUMBERS_PER_SPAN;
 use grid_steps::grid::{TerrainGrid, WalkPosition};
 use span_geometry::SpanGeometry;
+use span_geometry::segments::segment_at;
 use walk::{SpanWalk, StepVisitor, walk_span};
 
 // The marking of cut steps in the masks of all cells.
@@ -60,8 +61,7 @@ pub fn span_of(span: [u64; NUMBERS_PER_SPAN]) -> SpanGeometry
     requires { SpanAtAsked span 0 }
     ensures { Made (segment_at span 0) result }
 {
-    let [x0, y0, x1, y1] = span;
-    SpanGeometry::new(x0, y0, x1, y1)
+    SpanGeometry::new(segment_at(&span, 0))
 }
 
 // The cut steps of all spans, in masks of zeros.

@@ -1,5 +1,4 @@
 // The exact square of the distance of two boundaries, as a fraction of whole numbers. Coordinates are at most 8,192, so that every number here is at most 2^54.
-// None has a sign: a sum of products of either sign is kept as what is added and what is taken away.
 
 #![tactic(auto)]
 
@@ -14,6 +13,8 @@ ghost use Rattle.exact_squares.specs.Forms.{Bounded, fraction_of};
 
 use geometry::Segment;
 use span_geometry::PixelPosition;
+use span_geometry::numbers::difference;
+use span_geometry::segments::cross;
 
 // The square of a distance: numerator and denominator.
 #[derive(Clone, Copy)]
@@ -39,24 +40,14 @@ fn end_square(p: PixelPosition, q: PixelPosition) -> u64
     product(x, x) + product(y, y)
 }
 
-// The sum of four products.
-fn products(a: u64, b: u64, c: u64, d: u64, e: u64, f: u64, g: u64, h: u64) -> u64
-    requires { (a ≤ max_pixel) × (b ≤ max_pixel) × (c ≤ max_pixel) × (d ≤ max_pixel)
-        × (e ≤ max_pixel) × (f ≤ max_pixel) × (g ≤ max_pixel) × (h ≤ max_pixel) }
-    ensures { result ≡ a * b + c * d + (e * f + g * h) }
-{
-    product(a, b) + product(c, d) + (product(e, f) + product(g, h))
-}
-
 // How far along the segment the foot of the perpendicular from p lies, in parts of the squared length.
 fn along(p: PixelPosition, s: Segment) -> u64
     requires { InLimits p × InLimits s.a × InLimits s.b }
     ensures { result ≡ along (point_of p) (segment_form s) }
 {
-    let Segment { a, b } = s;
-    let more = products(p.x, b.x, a.x, a.x, p.y, b.y, a.y, a.y);
-    let less = products(p.x, a.x, a.x, b.x, p.y, a.y, a.y, b.y);
-    more.saturating_sub(less)
+    let x = difference(p.x, s.a.x) * difference(s.b.x, s.a.x);
+    let y = difference(p.y, s.a.y) * difference(s.b.y, s.a.y);
+    (x + y).max(0) as u64
 }
 
 // The cross product, without its sign.
@@ -64,10 +55,7 @@ fn height(p: PixelPosition, s: Segment) -> u64
     requires { InLimits p × InLimits s.a × InLimits s.b }
     ensures { (result ≡ nat_abs (cross (point_of s.a) (point_of s.b) (point_of p))) × (result ≤ 2 ^ 27) }
 {
-    let Segment { a, b } = s;
-    let more = products(b.x, p.y, a.x, a.y, b.y, a.x, a.y, p.x);
-    let less = products(b.x, a.y, a.x, p.y, b.y, p.x, a.y, a.x);
-    more.abs_diff(less)
+    cross(s, p).unsigned_abs()
 }
 
 // The square of the distance from p to the segment.

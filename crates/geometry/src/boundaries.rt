@@ -1,4 +1,5 @@
-// The one reader of the boundaries of a lent list, nine numbers each: which of them is which. The first four are the endpoints.
+// What reads the boundaries of a lent list, nine numbers each: which of them is which. The first four are the endpoints. (Crates that do not see this one, as
+// `rows` and `checks`, read a boundary from the place of its first number.)
 ghost use Rattle.std.specs.Prelude.{◌≡◌, not, ◌+◌, ◌*◌, get_or, eqb};
 ghost use Rattle.definitions.specs.Limits.{numbers_per_boundary};
 ghost use Rattle.definitions.specs.Grid.{segment_at};
@@ -45,7 +46,8 @@ impl From<u64> for BoundaryKind {
     }
 }
 
-// Kept: a list and a number, not nine numbers: the passes name boundaries of one lent list by number, two or three at once, and read one or two of the nine.
+// Kept: a list and a number, not a chunk of nine: the definitions' `boundary_at` reads the list at 9 * i, and so do the contracts here. Of chunks, each pass,
+// which holds numbers of boundaries, would first take the chunk of each, and each of its proofs would say again which part of the list that chunk is.
 // The endpoints of boundary i as written.
 pub fn segment_of(boundaries: &[u64], i: usize) -> Segment
     requires { HasBoundary boundaries.now i }

@@ -7,7 +7,7 @@ ghost use Rattle.span_geometry.specs.Shapes.{max_pixel};
 
 use hypotenuse::hypotenuse;
 
-// `f64::from`
+// The double of a whole number: of one so small, exactly that number.
 pub fn float(n: u64) -> f64
     requires { n ≤ max_pixel }
     ensures { result ≡ float n }
@@ -38,7 +38,7 @@ pub fn fmax(a: f64, b: f64) -> f64
 }
 
 // The hypotenuse, and 0 where it is refused. Coordinates of a map are never so far apart.
-pub fn hypot(x: f64, y: f64) -> f64
+pub(crate) fn hypot(x: f64, y: f64) -> f64
     ensures { result ≡ hypot_value x y }
 {
     hypotenuse(x, y).unwrap_or(0.0)

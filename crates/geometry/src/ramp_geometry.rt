@@ -31,10 +31,10 @@ pub fn intersects(left: Segment, right: Segment) -> bool
     requires { PixelSegment (segment_form left) × PixelSegment (segment_form right) }
     ensures { result ≡ intersects (segment_form left) (segment_form right) }
 {
-    let left_right_start = cross(left.a, left.b, right.a);
-    let left_right_end = cross(left.a, left.b, right.b);
-    let right_left_start = cross(right.a, right.b, left.a);
-    let right_left_end = cross(right.a, right.b, left.b);
+    let left_right_start = cross(left, right.a);
+    let left_right_end = cross(left, right.b);
+    let right_left_start = cross(right, left.a);
+    let right_left_end = cross(right, left.b);
     touches(left_right_start, left, right.a)
         | touches(left_right_end, left, right.b)
         | touches(right_left_start, right, left.a)
@@ -107,49 +107,59 @@ pub fn is_nearby_parallel_representative(left: Segment, right: Segment) -> bool
     (lengths > 0.0) & (cosine(s, t, lengths) >= MIN_PARALLEL_COSINE)
 }
 
-// How far a position is from the ramp's line.
-fn normal_offset(ramp: Segment, ramp_length: f64, p: PixelPosition) -> f64
-    requires { PixelSegment (segment_form ramp) × InLimits p }
-    ensures { result ≡ normal_offset (segment_form ramp) ramp_length (point_of p) }
-{
-    let product = difference(p.x, ramp.a.x) * difference(ramp.b.y, ramp.a.y)
-        - difference(p.y, ramp.a.y) * difference(ramp.b.x, ramp.a.x);
-    product.abs() / ramp_length
+// A ramp's boundary, and how long it is.
+#[derive(Clone, Copy)]
+struct Ramp {
+    ends: Segment,
+    length: f64,
 }
 
-// How far along the ramp a position lies, from its first endpoint.
-fn project(ramp: Segment, ramp_length: f64, p: PixelPosition) -> f64
-    requires { PixelSegment (segment_form ramp) × InLimits p }
-    ensures { result ≡ projection (segment_form ramp) ramp_length (point_of p) }
-{
-    (difference(p.x, ramp.a.x) * difference(ramp.b.x, ramp.a.x)
-        + difference(p.y, ramp.a.y) * difference(ramp.b.y, ramp.a.y))
-        / ramp_length
-}
+impl Ramp {
+    // How far a position is from the ramp's line.
+    fn normal_offset(self, p: PixelPosition) -> f64
+        requires { PixelSegment (segment_form self.ends) × InLimits p }
+        ensures { result ≡ normal_offset (segment_form self.ends) self.length (point_of p) }
+    {
+        let Segment { a, b } = self.ends;
+        let product = difference(p.x, a.x) * difference(b.y, a.y)
+            - difference(p.y, a.y) * difference(b.x, a.x);
+        product.abs() / self.length
+    }
 
-fn max_offset(candidate: Segment, ramp: Segment, ramp_length: f64) -> f64
-    requires { PixelSegment (segment_form candidate) × PixelSegment (segment_form ramp) }
-    ensures { result ≡ max_offset (segment_form candidate) (segment_form ramp) ramp_length }
-{
-    fmax(
-        normal_offset(ramp, ramp_length, candidate.a),
-        normal_offset(ramp, ramp_length, candidate.b),
-    )
-}
+    // How far along the ramp a position lies, from its first endpoint.
+    fn project(self, p: PixelPosition) -> f64
+        requires { PixelSegment (segment_form self.ends) × InLimits p }
+        ensures { result ≡ projection (segment_form self.ends) self.length (point_of p) }
+    {
+        let Segment { a, b } = self.ends;
+        (difference(p.x, a.x) * difference(b.x, a.x) + difference(p.y, a.y) * difference(b.y, a.y))
+            / self.length
+    }
 
-// The length that the candidate's projection has in common with the ramp.
-fn overlap(candidate: Segment, ramp: Segment, ramp_length: f64) -> f64
-    requires { PixelSegment (segment_form candidate) × PixelSegment (segment_form ramp) }
-    ensures { result ≡ overlap_of (segment_form candidate) (segment_form ramp) ramp_length }
-{
-    let start = project(ramp, ramp_length, candidate.a);
-    let end = project(ramp, ramp_length, candidate.b);
-    let candidate_min = fmin(start, end);
-    let candidate_max = fmax(start, end);
-    fmax(
-        fmin(ramp_length, candidate_max) - fmax(0.0, candidate_min),
-        0.0,
-    )
+    fn max_offset(self, candidate: Segment) -> f64
+        requires { PixelSegment (segment_form candidate) × PixelSegment (segment_form self.ends) }
+        ensures { result ≡ max_offset (segment_form candidate) (segment_form self.ends) self.length }
+    {
+        fmax(
+            self.normal_offset(candidate.a),
+            self.normal_offset(candidate.b),
+        )
+    }
+
+    // The length that the candidate's projection has in common with the ramp.
+    fn overlap(self, candidate: Segment) -> f64
+        requires { PixelSegment (segment_form candidate) × PixelSegment (segment_form self.ends) }
+        ensures { result ≡ overlap_of (segment_form candidate) (segment_form self.ends) self.length }
+    {
+        let start = self.project(candidate.a);
+        let end = self.project(candidate.b);
+        let candidate_min = fmin(start, end);
+        let candidate_max = fmax(start, end);
+        fmax(
+            fmin(self.length, candidate_max) - fmax(0.0, candidate_min),
+            0.0,
+        )
+    }
 }
 
 // Whether the candidate is nearly parallel to the ramp, near its line, and beside most of the shorter of the two. (The Rust also gives the offset, which
@@ -168,8 +178,12 @@ pub fn overlapping_ramp_representative(candidate: Segment, ramp: Segment) -> boo
     if cosine(t, s, ramp_length * candidate_length) < MIN_PARALLEL_COSINE {
         return false;
     }
-    if max_offset(s, t, ramp_length) > MAX_OVERLAY_NORMAL_OFFSET {
+    let along = Ramp {
+        ends: t,
+        length: ramp_length,
+    };
+    if along.max_offset(s) > MAX_OVERLAY_NORMAL_OFFSET {
         return false;
     }
-    overlap(s, t, ramp_length) >= MIN_OVERLAY_FRACTION * fmin(ramp_length, candidate_length)
+    along.overlap(s) >= MIN_OVERLAY_FRACTION * fmin(ramp_length, candidate_length)
 }

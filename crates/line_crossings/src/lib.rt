@@ -25,7 +25,7 @@ pub fn tie_of(g: SpanGeometry, strip: Strip) -> u64
     requires { strip ≡ strip_of (segment_of g) }
     ensures { result ≡ tie_of (segment_of g) }
 {
-    u64::from(!strip.columns && g.a.y <= g.b.y)
+    u64::from(!strip.columns && g.ends.a.y <= g.ends.b.y)
 }
 
 // The first place past the line in column, or row, k.

@@ -6,7 +6,6 @@
 ghost use Rattle.std.specs.Prelude.{◌≡◌, [], ◌∷◌, ◌+◌, ◌*◌, ◌≤◌, ◌<◌, length};
 ghost use Rattle.std.proofs.lemmas.List.Edits.{sets};
 ghost use Rattle.definitions.specs.Limits.{max_entries};
-ghost use Rattle.geometry.specs.Forms.{segment_form};
 ghost use Rattle.separations.specs.Listing.{boundary_count, ends_of_lem, separation_row, column, separation_rows, pair_count, list_verdict, Lists};
 ghost use Rattle.refusals.specs.Answers.{answer_in, answer_of};
 ghost use Rattle.separation_list.specs.Contract.{PairFits, ColumnFits, RowsFit, max_pairs};
@@ -15,7 +14,6 @@ use checks::boundaries::boundaries_fault;
 use checks::sizes::{is_whole, sides_fit};
 use definitions::limits::NUMBERS_PER_BOUNDARY;
 use exact_squares::exact_square;
-use geometry::Segment;
 use geometry::boundaries::segment_of;
 use geometry::ramp_geometry::segment_distance;
 use refusals::answers::Answer;
@@ -23,34 +21,19 @@ use refusals::{Cause, Refusal, ensure, no_fault};
 
 const NUMBERS_PER_SEPARATION: usize = 5;
 
-// The endpoints of boundary i, as written.
-fn ends_of(boundaries: &[u64], i: usize) -> Segment
-    requires { i < boundary_count boundaries.now }
-    ensures { segment_form result ≡ ends_of_lem boundaries.now i }
-{
-    segment_of(boundaries, i)
-}
-
-// Five numbers, from a place on.
-fn put_row(output: &mut [u64], k: usize, i: u64, j: u64, bits: u64, num: u64, den: u64)
-    requires { k + 4 < length output.old }
-    ensures { output.new ≡ sets output.old k (i ∷ j ∷ bits ∷ num ∷ den ∷ []) }
-{
-    output[k..k + NUMBERS_PER_SEPARATION].copy_from_slice(&[i, j, bits, num, den]);
-}
-
 // The row of boundaries i and j. That they share a point need not be found out twice: the separation is zero just then, by the theorem of the bound.
 fn put_pair(boundaries: &[u64], output: &mut [u64], k: usize, i: usize, j: usize)
     requires { PairFits boundaries.now output.old k i j }
     ensures { output.new
         ≡ sets output.old k (separation_row (ends_of_lem boundaries.now i) (ends_of_lem boundaries.now j) i j) }
 {
-    let left = ends_of(boundaries, i);
-    let right = ends_of(boundaries, j);
+    let left = segment_of(boundaries, i);
+    let right = segment_of(boundaries, j);
     let separation = segment_distance(left, right);
     let bits = f64::to_bits(separation);
     let square = exact_square(left, right, bits == 0);
-    put_row(output, k, i as u64, j as u64, bits, square.num, square.den);
+    let row = [i as u64, j as u64, bits, square.num, square.den];
+    output[k..k + NUMBERS_PER_SEPARATION].copy_from_slice(&row);
 }
 
 // The rows of boundary j and each before it.
@@ -86,7 +69,7 @@ fn pair_count(n: usize) -> usize
     n * n.saturating_sub(1) / 2
 }
 
-// The count of rows, unless a check refuses the call: 1, 3, 7, or 10 for an output of so few numbers.
+// The count of rows, unless a check refuses the call: for its sides, an unfinished boundary, a fault of one, or an output too short for the rows.
 fn verdict(width: u64, height: u64, boundaries: &[u64], room: usize) -> Result<usize, Refusal>
     ensures { answer_of result ≡ list_verdict width height boundaries.now room }
 {

@@ -1,4 +1,4 @@
 -- What the proofs of several functions use.
 mod Lines
-mod Signed
+pub mod Signed
 pub mod Canonical

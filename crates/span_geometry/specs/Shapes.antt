@@ -14,10 +14,7 @@ abbrev pub segment_form : ends.Segment → Segment
 segment_form s = record { a = point_of s.a; b = point_of s.b }
 
 abbrev pub segment_of : SpanGeometry → Segment
-segment_of g = record { a = point_of g.a; b = point_of g.b }
-
-abbrev pub segment_from : ℕ → ℕ → ℕ → ℕ → Segment
-segment_from x0 y0 x1 y1 = record { a = at x0 y0; b = at x1 y1 }
+segment_of g = segment_form g.ends
 
 -- the greatest coordinate of a span's endpoint on the largest map
 abbrev pub max_pixel : ℕ
@@ -29,13 +26,13 @@ pub record InLimits (p : PixelPosition) : Type 0 where
 
 -- what `new` makes
 pub record Sound (g : SpanGeometry) : Type 0 where
-  pub a_in : InLimits g.a
-  pub b_in : InLimits g.b
-  pub ordered : g.a.x ≤ g.b.x
-  pub min-x : g.min_x ≡ min g.a.x g.b.x
-  pub max-x : g.max_x ≡ max g.a.x g.b.x
-  pub min-y : g.min_y ≡ min g.a.y g.b.y
-  pub max-y : g.max_y ≡ max g.a.y g.b.y
+  pub a_in : InLimits g.ends.a
+  pub b_in : InLimits g.ends.b
+  pub ordered : g.ends.a.x ≤ g.ends.b.x
+  pub min-x : g.min_x ≡ min g.ends.a.x g.ends.b.x
+  pub max-x : g.max_x ≡ max g.ends.a.x g.ends.b.x
+  pub min-y : g.min_y ≡ min g.ends.a.y g.ends.b.y
+  pub max-y : g.max_y ≡ max g.ends.a.y g.ends.b.y
 
 pub record Made (s : Segment) (g : SpanGeometry) : Type 0 where
   pub segment : segment_of g ≡ canonical s

@@ -1,13 +1,13 @@
--- What `RangeInclusive` and `Strip` stand for, and what the functions over them ask. Assumes nothing.
+-- What `CandidateRange` and `Strip` stand for, and what the functions over them ask. Assumes nothing.
 use Rattle.std.specs.Prelude.{ℕ, ◌≤◌, ◌<◌, ◌≡◌, Bool, true, false, cond, List, leb}
 use Rattle.definitions.specs.Grid.{Position, Segment}
 use Rattle.definitions.specs.Spans.{range_inclusive, line_at, middle_of, distance_between}
-use Rattle.span_geometry.specs.declared.strips.RangeInclusive.{RangeInclusive}
+use Rattle.span_geometry.specs.declared.strips.CandidateRange.{CandidateRange}
 use Rattle.span_geometry.specs.declared.strips.Strip.{Strip}
 use Rattle.span_geometry.specs.Shapes.{max_pixel}
 
 -- the range's numbers are those of the list, and are below the limit
-pub record Walks (r : RangeInclusive) (l : List ℕ) (limit : ℕ) : Type 0 where
+pub record Walks (r : CandidateRange) (l : List ℕ) (limit : ℕ) : Type 0 where
   pub numbers : range_inclusive r.first r.last ≡ l
   pub inside : r.last < limit
 

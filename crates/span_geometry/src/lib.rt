@@ -9,11 +9,11 @@ pub mod numbers;
 pub mod segments;
 pub mod strips;
 
-ghost use Rattle.std.specs.Prelude.{◌≡◌, ◌≤◌, ◌<◌};
+ghost use Rattle.std.specs.Prelude.{◌≡◌, ◌<◌};
 ghost use Rattle.definitions.specs.Limits.{max_side};
 ghost use Rattle.definitions.specs.Grid.{at};
 ghost use Rattle.definitions.specs.Spans.{cuts};
-ghost use Rattle.span_geometry.specs.Shapes.{max_pixel, InLimits, Sound, Made, point_of, segment_of, segment_from};
+ghost use Rattle.span_geometry.specs.Shapes.{InLimits, Sound, Made, segment_form, segment_of};
 
 use numbers::not_negative;
 use segments::{canonical, cell_center, cross, segments_intersect};
@@ -35,8 +35,7 @@ pub struct Segment {
 // A span: its endpoints, the lesser first, and the least and greatest of their coordinates.
 #[derive(Clone, Copy)]
 pub struct SpanGeometry {
-    pub a: PixelPosition,
-    pub b: PixelPosition,
+    pub ends: Segment,
     pub min_x: u64,
     pub max_x: u64,
     pub min_y: u64,
@@ -44,13 +43,18 @@ pub struct SpanGeometry {
 }
 
 impl SpanGeometry {
-    pub fn new(x0: u64, y0: u64, x1: u64, y1: u64) -> Self
-        requires { (x0 ≤ max_pixel) × (y0 ≤ max_pixel) × (x1 ≤ max_pixel) × (y1 ≤ max_pixel) }
-        ensures { Made (segment_from x0 y0 x1 y1) result }
+    pub fn new(ends: Segment) -> Self
+        requires { InLimits ends.a × InLimits ends.b }
+        ensures { Made (segment_form ends) result }
     {
-        let a = PixelPosition { x: x0, y: y0 };
-        let b = PixelPosition { x: x1, y: y1 };
-        between(canonical(Segment { a, b }))
+        let ends = canonical(ends);
+        SpanGeometry {
+            ends,
+            min_x: ends.a.x,
+            max_x: ends.b.x,
+            min_y: ends.a.y.min(ends.b.y),
+            max_y: ends.a.y.max(ends.b.y),
+        }
     }
 
     // Whether the span cuts the step between two cells. Most steps near a span lie on one side of it, and need no more than that test.
@@ -60,31 +64,11 @@ impl SpanGeometry {
     {
         let from = cell_center(from_x, from_y);
         let to = cell_center(to_x, to_y);
-        let from_side = cross(self.a, self.b, from);
-        let to_side = cross(self.a, self.b, to);
+        let from_side = cross(self.ends, from);
+        let to_side = cross(self.ends, to);
         if not_negative(from_side) == not_negative(to_side) {
             return false;
         }
-        let span = Segment {
-            a: self.a,
-            b: self.b,
-        };
-        segments_intersect(span, Segment { a: from, b: to })
-    }
-}
-
-// The span of two endpoints in order.
-fn between(ends: Segment) -> SpanGeometry
-    requires { InLimits ends.a × InLimits ends.b × (ends.a.x ≤ ends.b.x) }
-    ensures { (result.a ≡ ends.a) × (result.b ≡ ends.b) × Sound result }
-{
-    let Segment { a, b } = ends;
-    SpanGeometry {
-        a,
-        b,
-        min_x: a.x.min(b.x),
-        max_x: a.x.max(b.x),
-        min_y: a.y.min(b.y),
-        max_y: a.y.max(b.y),
+        segments_intersect(self.ends, Segment { a: from, b: to })
     }
 }

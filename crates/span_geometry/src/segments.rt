@@ -54,12 +54,12 @@ pub fn cell_center(x: u64, y: u64) -> PixelPosition
     }
 }
 
-// The side of the line from a to b on which the point lies: 0 on the line.
-// Kept: three points and not `Segment` and a point, as the three take part alike, and a `SpanGeometry`, which `cut_steps` asks of, holds no `Segment`.
-pub fn cross(a: PixelPosition, b: PixelPosition, point: PixelPosition) -> i64
-    requires { InLimits a × InLimits b × InLimits point }
-    ensures { result ≡ cross (point_of a) (point_of b) (point_of point) }
+// The side of the segment's line on which the point lies: 0 on the line.
+pub fn cross(s: Segment, point: PixelPosition) -> i64
+    requires { InLimits s.a × InLimits s.b × InLimits point }
+    ensures { result ≡ cross (point_of s.a) (point_of s.b) (point_of point) }
 {
+    let Segment { a, b } = s;
     let delta_x = difference(b.x, a.x);
     let delta_y = difference(b.y, a.y);
     delta_x * difference(point.y, a.y) - delta_y * difference(point.x, a.x)
@@ -87,10 +87,10 @@ pub fn segments_intersect(s: Segment, t: Segment) -> bool
     requires { InLimits s.a × InLimits s.b × InLimits t.a × InLimits t.b }
     ensures { result ≡ segments_intersect (point_of s.a) (point_of s.b) (point_of t.a) (point_of t.b) }
 {
-    let abc = cross(s.a, s.b, t.a);
-    let abd = cross(s.a, s.b, t.b);
-    let cda = cross(t.a, t.b, s.a);
-    let cdb = cross(t.a, t.b, s.b);
+    let abc = cross(s, t.a);
+    let abd = cross(s, t.b);
+    let cda = cross(t, s.a);
+    let cdb = cross(t, s.b);
     if strictly_opposite(abc, abd) & strictly_opposite(cda, cdb) {
         return true;
     }

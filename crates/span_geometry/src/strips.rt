@@ -6,9 +6,9 @@ ghost use Rattle.definitions.specs.Spans.{candidate_axis_range, candidate_minor_
 ghost use Rattle.span_geometry.specs.Shapes.{max_pixel, Sound, segment_of};
 ghost use Rattle.span_geometry.specs.Strips.{Walks, Usable, strip_of, line_of};
 
-use super::SpanGeometry;
 use super::numbers::{difference, div_euclid};
 use super::segments::middle_of;
+use super::{Segment, SpanGeometry};
 use definitions::limits::PIXELS_PER_WALK_CELL;
 
 const CANDIDATE_MARGIN_PIXELS: u64 = 16;
@@ -16,29 +16,30 @@ const CANDIDATE_MARGIN_PIXELS: u64 = 16;
 const CANDIDATE_MINOR_RADIUS_CELLS: u64 = 3;
 
 // first, .., last; nothing where last is below first.
-// Kept: the library's `RangeInclusive` has a flag that each contract must deny; `Range` ends one behind: each law here and in cut_steps would say end - 1.
+// Kept: the library's `RangeInclusive` has a flag that each contract must deny, and `Range` ends one behind: the definition's lists, and with them each law
+// here and in cut_steps, say the last.
 #[derive(Clone, Copy)]
-pub struct RangeInclusive {
+pub struct CandidateRange {
     pub first: u64,
     pub last: u64,
 }
 
-pub fn candidate_axis_range(minimum: u64, maximum: u64, limit: u64) -> RangeInclusive
+pub fn candidate_axis_range(minimum: u64, maximum: u64, limit: u64) -> CandidateRange
     requires { (maximum ≤ max_pixel) × (0 < limit) }
     ensures { Walks result (candidate_axis_range minimum maximum limit) limit }
 {
-    RangeInclusive {
+    CandidateRange {
         first: minimum.saturating_sub(CANDIDATE_MARGIN_PIXELS) / PIXELS_PER_WALK_CELL,
         last: ((maximum + CANDIDATE_MARGIN_PIXELS) / PIXELS_PER_WALK_CELL).min(limit - 1),
     }
 }
 
-pub fn candidate_minor_range(reference: u64, limit: u64) -> RangeInclusive
+pub fn candidate_minor_range(reference: u64, limit: u64) -> CandidateRange
     requires { 0 < limit }
     ensures { Walks result (candidate_minor_range reference limit) limit }
 {
     let center = reference / PIXELS_PER_WALK_CELL;
-    RangeInclusive {
+    CandidateRange {
         first: center.saturating_sub(CANDIDATE_MINOR_RADIUS_CELLS),
         last: (center + CANDIDATE_MINOR_RADIUS_CELLS).min(limit - 1),
     }
@@ -59,35 +60,36 @@ impl Strip {
         requires { Sound g × (endpoints_differ (segment_of g) ≡ true) }
         ensures { (result ≡ strip_of (segment_of g)) × Usable result }
     {
-        if g.a.y.abs_diff(g.b.y) <= g.a.x.abs_diff(g.b.x) {
+        let Segment { a, b } = g.ends;
+        if a.y.abs_diff(b.y) <= a.x.abs_diff(b.x) {
             Strip {
                 columns: true,
                 major0: g.min_x,
-                minor0: g.a.y,
+                minor0: a.y,
                 major1: g.max_x,
-                minor1: g.b.y,
+                minor1: b.y,
             }
-        } else if g.a.y <= g.b.y {
+        } else if a.y <= b.y {
             Strip {
                 columns: false,
                 major0: g.min_y,
-                minor0: g.a.x,
+                minor0: a.x,
                 major1: g.max_y,
-                minor1: g.b.x,
+                minor1: b.x,
             }
         } else {
             Strip {
                 columns: false,
                 major0: g.min_y,
-                minor0: g.b.x,
+                minor0: b.x,
                 major1: g.max_y,
-                minor1: g.a.x,
+                minor1: a.x,
             }
         }
     }
 
     // The columns, or rows, near the span, of as many as limit says.
-    pub fn axis_range(self, limit: u64) -> RangeInclusive
+    pub fn axis_range(self, limit: u64) -> CandidateRange
         requires { Usable self × (0 < limit) }
         ensures { Walks result (candidate_axis_range self.major0 self.major1 limit) limit }
     {
@@ -108,7 +110,7 @@ impl Strip {
     }
 
     // The cells near the span in column, or row, k, of as many as limit says.
-    pub fn minor_range(self, k: u64, limit: u64) -> RangeInclusive
+    pub fn minor_range(self, k: u64, limit: u64) -> CandidateRange
         requires { Usable self × (k < max_side) × (0 < limit) }
         ensures { Walks result (candidate_minor_range (line_of self k) limit) limit }
     {

@@ -11,6 +11,7 @@ use Rattle.std.proofs.Common.{get_or-take}
 use Rattle.definitions.specs.Scan.{bit, gather, count_below}
 use Rattle.definitions.specs.Lists.{overwrite}
 use Rattle.boundary_blocks.specs.Blocks.{part, left_blocks, left_count}
+use Rattle.boundary_blocks.proofs.Copying.{part_within}
 use Rattle.boundary_blocks.proofs.Keeping.{within, block-gone, block-stays, left-few, left-room, left_next, count_next}
 use Rattle.boundary_blocks.proofs.blocks.keep_blocks.Goals as goal
 use Rattle.boundary_blocks.proofs.blocks.keep_blocks.Goals.{then-not-gone, else-not-gone}
@@ -22,17 +23,6 @@ below removed count whole h = omega (arith, h, length-take-le count removed whol
 pub loop-k-init : goal.loop-k-init
 unfolding left_blocks gather left_count count_below
 loop-k-init c = (omega arith, refl, refl, refl)
-
-pub move_block-requires : goal.move_block-requires
-move_block-requires c =
-    let turn = c.loop-k in
-    let given = c.args in
-    let l = given.list.now in
-    let inside = below given.removed.now given.count {i = turn.k} (omega (arith, c.told-removed, c.requires.0)) c.loop-k-test.true in
-    let end = within given.size turn.k given.count {n = length l} inside c.requires.1 in (
-      subst (λ n. given.size * n ≤ given.size * turn.k) (sym turn.invariant.3) (left-room given.removed.now given.size l given.count c.requires.1 turn.k),
-      omega (arith, end, turn.invariant.1),
-    )
 
 pub loop-k-preserved : goal.loop-k-preserved
 loop-k-preserved c =
@@ -46,12 +36,15 @@ loop-k-preserved c =
     let mark = sym (get_or-take given.count removed k false inside) in
     let front = overwrite (left_blocks removed size l k) l in
     let counted = count_next removed size l given.count c.requires.1 k in
+    let end = within size k given.count {n = length l} inside c.requires.1 in
+    let room = subst (λ n. size * n ≤ size * k) (sym turn.invariant.3) (left-room removed size l given.count c.requires.1 k) in
     elim c.if-not-gone.branch [
       | then-not-gone w ↦
           let e = mark ∙ w.if-not-gone.true in (
             omega (arith, inside),
             c.if-not-gone.auto.list ∙ turn.invariant.1,
-            w.list-is ∙ w.move_block.ensures
+            w.list-is ∙ w.copy_within.ensures.after
+                ∙ part_within turn.list (size * turn.kept) (size * k) size turn.list (omega (arith, end, turn.invariant.1)) (omega (arith, room, end, turn.invariant.1))
                 ∙ ap₂ (λ m n. sets m (size * n) (part (size * k) size m)) turn.invariant.2 turn.invariant.3
                 ∙ ap (sets front (size * left_count removed k)) (sym (block-stays removed size front k e))
                 ∙ left_next removed size l given.count c.requires.1 k inside,
@@ -68,8 +61,8 @@ loop-k-preserved c =
           )
     ]
 
-pub overflow_mul-size-then-not-gone : goal.overflow_mul-size-then-not-gone
-overflow_mul-size-then-not-gone c =
+pub overflow_mul-size : goal.overflow_mul-size
+overflow_mul-size c =
     let turn = c.loop-k in
     let given = c.args in
     let l = given.list.now in
@@ -77,6 +70,16 @@ overflow_mul-size-then-not-gone c =
     let end = within given.size turn.k given.count {n = length l} inside c.requires.1 in
     let front = subst (λ n. given.size * n ≤ given.size * turn.k) (sym turn.invariant.3) (left-room given.removed.now given.size l given.count c.requires.1 turn.k) in
     record { fits = omega (arith, front, end) }
+
+pub copy_within-requires-clause-dest_in_bounds : goal.copy_within-requires-clause-dest_in_bounds
+copy_within-requires-clause-dest_in_bounds c =
+    let turn = c.loop-k in
+    let given = c.args in
+    let l = given.list.now in
+    let inside = below given.removed.now given.count {i = turn.k} (omega (arith, c.told-removed, c.requires.0)) c.loop-k-test.true in
+    let end = within given.size turn.k given.count {n = length l} inside c.requires.1 in
+    let room = subst (λ n. given.size * n ≤ given.size * turn.k) (sym turn.invariant.3) (left-room given.removed.now given.size l given.count c.requires.1 turn.k) in
+    omega (arith, room, end, turn.invariant.1)
 
 pub overflow_add-kept : goal.overflow_add-kept
 overflow_add-kept c =

@@ -9,4 +9,4 @@ use Rattle.cut_steps.proofs.cell.side_of.Goals as goal
 pub returns : goal.returns
 returns c =
     let g = c.args.g in
-    to_z-of_z {w = w64} (record { sfits = c.cross.type_inv }) ∙ c.cross.ensures ∙ (λ i. cross (point_of g.a) (point_of g.b) (c.cell_center.ensures.0 i))
+    to_z-of_z {w = w64} (record { sfits = c.cross.type_inv }) ∙ c.cross.ensures ∙ (λ i. cross (point_of g.ends.a) (point_of g.ends.b) (c.cell_center.ensures.0 i))

@@ -17,11 +17,11 @@ use Rattle.span_geometry.proofs.segments.cross.Goals as goal
 
 pub overflow_mul-result : goal.overflow_mul-result
 overflow_mul-result c =
-    product_fits c.args.b.x c.args.a.x c.args.point.y c.args.a.y c.difference-delta_x.type_inv c.difference-delta_x.ensures c.difference.type_inv c.difference.ensures c.requires.1.x_in c.requires.0.x_in c.requires.2.y_in c.requires.0.y_in
+    product_fits c.args.s.b.x c.args.s.a.x c.args.point.y c.args.s.a.y c.difference-delta_x.type_inv c.difference-delta_x.ensures c.difference.type_inv c.difference.ensures c.requires.1.x_in c.requires.0.x_in c.requires.2.y_in c.requires.0.y_in
 
 pub overflow_mul-result-2 : goal.overflow_mul-result-2
 overflow_mul-result-2 c =
-    product_fits c.args.b.y c.args.a.y c.args.point.x c.args.a.x c.difference-delta_y.type_inv c.difference-delta_y.ensures c.difference-2.type_inv c.difference-2.ensures c.requires.1.y_in c.requires.0.y_in c.requires.2.x_in c.requires.0.x_in
+    product_fits c.args.s.b.y c.args.s.a.y c.args.point.x c.args.s.a.x c.difference-delta_y.type_inv c.difference-delta_y.ensures c.difference-2.type_inv c.difference-2.ensures c.requires.1.y_in c.requires.0.y_in c.requires.2.x_in c.requires.0.x_in
 
 -- the two products: u and v of the first, w and z of the second
 module _ {a b point : PixelPosition} (a_in : InLimits a) (b_in : InLimits b) (point_in : InLimits point) {u v w z : ℤ} (u_in : mag u < 2 ^ 63) (u_is : u ≡ diff b.x a.x) (w_in : mag w < 2 ^ 63) (w_is : w ≡ diff b.y a.y) (v_in : mag v < 2 ^ 63) (v_is : v ≡ diff point.y a.y) (z_in : mag z < 2 ^ 63) (z_is : z ≡ diff point.x a.x) where

@@ -1,10 +1,10 @@
--- `ramp_geometry::overlap` meets its contract: each number is what its function ensures. Assumes nothing.
+-- `ramp_geometry::Ramp::overlap` meets its contract: each number is what its function ensures. Assumes nothing.
 use mathlib.Core.Path.{◌≡◌, ◌∙◌}
 use lib.Ieee.{Float, binary64, sub, of_bits}
 use Rattle.definitions.specs.Geometry.{float}
 use Rattle.definitions.specs.RampGeometry.{fmin, fmax}
 use Rattle.geometry.proofs.Literals.{zero_is}
-use Rattle.geometry.proofs.ramp_geometry.overlap.Goals as goal
+use Rattle.geometry.proofs.ramp_geometry.Ramp.overlap.Goals as goal
 
 -- n is the ramp's length, first and second are the two projections
 by_parts : (n : Float) {first second a b least greatest upper lower r : Float} → first ≡ a → second ≡ b → least ≡ fmin first second → greatest ≡ fmax first second
@@ -20,5 +20,5 @@ by_parts n {first} {second} {a} {b} {least} {greatest} {upper} {lower} da db dl 
 
 pub returns : goal.returns
 returns c =
-    by_parts c.args.ramp_length c.project-start.ensures c.project-end.ensures c.fmin-candidate_min.ensures c.fmax-candidate_max.ensures
+    by_parts c.args.self.length c.project-start.ensures c.project-end.ensures c.fmin-candidate_min.ensures c.fmax-candidate_max.ensures
     c.fmin.ensures c.fmax.ensures c.fmax-2.ensures
