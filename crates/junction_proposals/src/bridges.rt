@@ -102,8 +102,8 @@ pub fn bridge_of(lists: &JunctionLists, r: u32) -> Option<Port>
     let i = next_port(lists, r, 0)?;
     let j = next_port(lists, r, i.index as usize + 1)?;
     let k = next_port(lists, r, j.index as usize + 1)?;
-    match next_port(lists, r, k.index as usize + 1) {
-        Some(_) => None,
-        None => bridge_of_three(lists.boundaries, lists.marks, i, j, k),
+    if next_port(lists, r, k.index as usize + 1).is_some() {
+        return None;
     }
+    bridge_of_three(lists.boundaries, lists.marks, i, j, k)
 }

@@ -23,16 +23,6 @@ use Rattle.region_pairs.specs.declared.Pair as declared
 
 -- ---- the rows that an order names
 
-module _ {A : Type 0} (f : ℕ → A) where
-  all-length : (n : ℕ) → length (collect n (λ k. Some (f k))) ≡ n
-  unfolding collect
-  all-length zero = refl
-  all-length (suc n) = omega (arith, length-append (collect n (λ k. Some (f k))) (f n ∷ []), all-length n)
-
-pub order-length : (rows : List Candidate) (order : List ℕ) (m : ℕ) → length (order_of rows order m) ≡ m
-unfolding order_of
-order-length rows order m = all-length (λ k. row_at rows (get_or order k 0)) m
-
 pub order_next : (rows : List Candidate) (order : List ℕ) (k : ℕ) → order_of rows order (k + 1) ≡ order_of rows order k ++ (row_at rows (get_or order k 0) ∷ [])
 unfolding order_of collect
 order_next rows order k =
