@@ -26,19 +26,6 @@ module _ {C : Context} {boundaries marks : List ℕ} {given : Candidate} {first 
   pub ends-are : {s : Segment} → s ≡ segment_at boundaries (numbers_per_boundary * row.index) → s ≡ (C.boundary row.index).endpoints
   ends-are e = e ∙ sym (ap (λ b. b.endpoints) (h.told.bounds.at row.index h.fits.index_in))
 
-  pub row-pixels : {s : Segment} → s ≡ (C.boundary row.index).endpoints → PixelSegment s
-  row-pixels e = subst⁻¹ PixelSegment e (h.told.pixels.ends row.index)
-
-  pub first_on : OnMap (record_of first)
-  first_on = record { edges = subst⁻¹ PixelRegion h.first_is (h.told.pixels.edges row.first); counted = subst⁻¹ Counted h.first_is (h.told.counted row.first) }
-
-  pub second_on : OnMap (record_of second)
-  second_on =
-      record {
-        edges = subst⁻¹ PixelRegion h.second_is (h.told.pixels.edges row.second);
-        counted = subst⁻¹ Counted h.second_is (h.told.counted row.second);
-      }
-
   module _ {s : Segment} (ends : s ≡ (C.boundary row.index).endpoints) where
     pub allowed-bridge : {r : Bool} → eqb row.kind 0 ≡ false → r ≡ bridge_of (record_of first) s → r ≡ is_allowed C row
     unfolding is_allowed bridge_region bridge_of
