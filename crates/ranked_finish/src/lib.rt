@@ -11,9 +11,10 @@ ghost use Rattle.pass_lists.specs.Finished.{Finishes};
 ghost use Rattle.ranked_finish.specs.Ends.{ranked_form, ranked_of, RankedFinished};
 
 use areas::scratch::clear_scratch;
+use definitions::limits::MAX_ENTRIES;
 use pass_lists::finish;
 use ranked_rows::RankedRow;
-use refusals::{Cause, Refusal, ensure};
+use refusals::{Cause, Refusal};
 
 const NUMBERS_PER_RANKED: usize = 6;
 
@@ -88,7 +89,7 @@ pub fn finish_ranked(
     needed: usize,
     count: usize,
     boundaries: &[u64],
-    removed: &[bool; 256],
+    removed: &[bool; MAX_ENTRIES],
     listed: &[RankedRow],
     masks: &mut [u16],
     queue: &mut [u32],
@@ -101,10 +102,13 @@ pub fn finish_ranked(
         (ranked_of result) masks.new queue.new output.new lent.new }
 {
     let room = lent.len() / NUMBERS_PER_RANKED;
-    if let Err(refusal) = ensure(listed.len() <= room, Cause::Ranked) {
+    if room < listed.len() {
         clear_scratch(masks, queue, needed);
         lent.fill(0);
-        return Err(refusal);
+        return Err(Refusal {
+            cause: Cause::Ranked,
+            place: 0,
+        });
     }
     let kept = finish(needed, count, boundaries, removed, masks, queue, output);
     put_listed(listed, lent);
