@@ -66,8 +66,9 @@ fn bridge_row(lists: &JunctionLists, r: u32) -> Option<Candidate>
     requires r_named { (1 ≤ r) × (r ≤ lists.now.regions) }
     ensures { found_form result ≡ bridge_in lists.now r }
 {
-    bridge_of(lists, r).map(|bridge| Candidate {
-        index: bridge.index,
+    let bridge = bridge_of(lists, r)?;
+    Some(Candidate {
+        index: bridge.index as u8,
         kind: Kind::Bridge,
         first: r,
         second: bridge.exterior,

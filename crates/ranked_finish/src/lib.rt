@@ -77,6 +77,8 @@ fn put_listed(listed: &[RankedRow], lent: &mut [u32])
     requires { numbers_per_ranked * length listed.now ≤ length lent.old }
     ensures { lent.new ≡ overwrite (flat_ranked (map listed_form listed.now)) lent.old }
 {
+    // Kept: with `zip` over `lent.chunks_exact_mut(NUMBERS_PER_RANKED)` no place would be counted, but of what `chunks_exact_mut` lends a proof knows nothing
+    // behind the loop.
     for (k, &row) in listed.iter().enumerate() {
         let place = NUMBERS_PER_RANKED * k;
         lent[place..place + NUMBERS_PER_RANKED].copy_from_slice(&numbers_of(row));
@@ -85,6 +87,8 @@ fn put_listed(listed: &[RankedRow], lent: &mut [u32])
 
 // The list holds the rows of the proposals. Where the lent one has room for them, they are written there, the rows of the `count` boundaries that are not
 // removed go into the output, and masks and queue are cleared. Where it has not, 21: the lent list is zero, and so are masks and queue over the needed length.
+// Kept: the lists one by one, as `finish` of `pass_lists` takes them: its caller reads other lists of the same struct, and one struct of these four, or of what
+// both functions take, would be made for this call and taken apart at the next.
 pub fn finish_ranked(
     needed: usize,
     count: usize,
