@@ -6,7 +6,7 @@ use definitions::limits::MAX_ENTRIES;
 // What pass 3 reads of a partition: the boundaries as lent, the full pair of each, how many incidents each region has, the marks of the regions, odd where one
 // is anchored, and how many boundaries and regions there are.
 // Kept: `full` is not cut to `count` pairs: a boundary listed as a byte indexes an array of 256 without a bound, where a slice would ask for one.
-// Nor are `count` and `regions` read off the other lists: those are as long as the caller has them, cut only where a function asks for less.
+// Nor is another list: `count` would be a ninth of the length of `boundaries` then, and `regions` the length of `counts`, which say less than the two names.
 #[derive(Clone, Copy)]
 pub struct JunctionLists<'a> {
     pub boundaries: &'a [u64],

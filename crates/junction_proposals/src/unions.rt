@@ -37,7 +37,12 @@ impl Exteriors {
     }
 
     // Looks at boundary j too, which names a region of the union and is a port if it is not the union's own.
-    fn with_incident(self, full: &[Option<Pair>; MAX_ENTRIES], divider: &Divider, j: u8) -> Exteriors
+    fn with_incident(
+        self,
+        full: &[Option<Pair>; MAX_ENTRIES],
+        divider: &Divider,
+        j: u8,
+    ) -> Exteriors
         ensures { result ≡ with_incident full.now divider.now.index (pair_form divider.now.union) self j }
     {
         let pair = full[j as usize];

@@ -1,6 +1,6 @@
 -- What `is_allowed` reads of a row and of the lists is what the context says. Assumes nothing.
 use Prim.Native.Nat.{ℕ, ◌+◌, ◌*◌}
-use mathlib.Core.Path.{◌≡◌, sym, ap, ap₂, ◌∙◌, subst⁻¹}
+use mathlib.Core.Path.{◌≡◌, sym, ap, ap₂, ◌∙◌}
 use mathlib.Core.Bool.{Bool, true, false}
 use mathlib.Core.List.{List}
 use lib.Dec.{eqb}
@@ -9,14 +9,13 @@ use Rattle.definitions.specs.Scan.{bit}
 use Rattle.definitions.specs.Grid.{Segment, segment_at}
 use Rattle.definitions.specs.Junctions.{Proposal, union_regions}
 use Rattle.definitions.specs.Context.{Context}
-use Rattle.laws.specs.FloatLaws.Pixels.{PixelRegion, PixelSegment}
 use Rattle.context.specs.declared.Region.{Region}
-use Rattle.context.specs.Records.{record_of, Counted}
+use Rattle.context.specs.Records.{record_of}
 use Rattle.junction_proposals.specs.declared.proposals.Candidate.{Candidate}
 use Rattle.junction_proposals.specs.Unions.{mark_at}
 use Rattle.junction_proposals.specs.Rows.{form, is_allowed, bridge_region}
 use Rattle.junction_regions.specs.Tests.{is_local, union_of, bridge_of}
-use Rattle.junction_regions.specs.Asked.{OnMap, Asked}
+use Rattle.junction_regions.specs.Asked.{Asked}
 
 module _ {C : Context} {boundaries marks : List ℕ} {given : Candidate} {first second : Region} (h : Asked C boundaries marks given first second) where
   abbrev row : Proposal

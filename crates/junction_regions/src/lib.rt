@@ -19,9 +19,9 @@ ghost use Rattle.junction_regions.specs.Asked.{OnMap, Asked};
 use context::Region;
 use context::region_marks::is_anchored;
 use elevations::Share;
-use geometry::{Point, Segment};
 use geometry::boundaries::segment_of;
 use geometry::points::{center, point, point_segment_distance, within_distance};
+use geometry::{Point, Segment};
 use junction_proposals::proposals::Candidate;
 
 const MAX_UNION_RADIUS_PIXELS: f64 = 512.0;

@@ -87,8 +87,8 @@ fn put_listed(listed: &[RankedRow], lent: &mut [u32])
 
 // The list holds the rows of the proposals. Where the lent one has room for them, they are written there, the rows of the `count` boundaries that are not
 // removed go into the output, and masks and queue are cleared. Where it has not, 21: the lent list is zero, and so are masks and queue over the needed length.
-// Kept: the lists one by one, as `finish` of `pass_lists` takes them: its caller reads other lists of the same struct, and one struct of these four, or of what
-// both functions take, would be made for this call and taken apart at the next.
+// Kept: the lists one by one, as `finish` of `pass_lists` takes them: a struct of those that are written would be made for this one call, and taken apart again
+// for that one.
 pub fn finish_ranked(
     needed: usize,
     count: usize,

@@ -1,12 +1,12 @@
 -- A row that is put behind those of the ranks before it gives the list with that row more, and so the list of an order comes about rank by rank. Assumes nothing.
-use Prim.Native.Nat.{ℕ, zero, suc, ◌+◌, ◌<◌}
+use Prim.Native.Nat.{ℕ, suc, ◌+◌, ◌<◌}
 use native.Mathlib.Numerals.{add-one}
 use native.Mathlib.Omega.{arith}
 use mathlib.Core.Path.{◌≡◌, refl, sym, ap, ap₂, ◌∙◌}
 use mathlib.Core.Bool.{Bool}
 use Rattle.std.specs.Prelude.{Option, None, Some}
 use mathlib.Core.List.{List, [], ◌∷◌, ◌++◌, map}
-use lib.ListN.{length, get_or, set, take, drop, length-append, length-map, get_or-map}
+use lib.ListN.{length, get_or, set, take, drop, length-map, get_or-map}
 use Rattle.std.proofs.lemmas.List.{map-append, drop-set-lt}
 use lib.Seq.{take-suc-set, drop-drop}
 use Rattle.definitions.specs.Scan.{collect}
