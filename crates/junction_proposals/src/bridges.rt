@@ -14,7 +14,7 @@ use geometry::widths::is_twice_as_wide;
 // A port of a pocket: the boundary, and the region beyond it. A bridge is the port whose boundary would go (`bridge_form` of specs/Bridges.antt).
 #[derive(Clone, Copy)]
 pub struct Port {
-    pub index: u8,
+    pub index: usize,
     pub exterior: u32,
 }
 
@@ -31,9 +31,9 @@ fn bridge_if_near(boundaries: &[u64], i: Port, k: Port, t: Port) -> Option<Port>
     requires { Measured boundaries.now i × Measured boundaries.now k × Measured boundaries.now t }
     ensures { result ≡ near_port boundaries.now i k t }
 {
-    let own = is_near_port(boundaries, i.index as usize, i.index as usize);
-    let other = is_near_port(boundaries, i.index as usize, k.index as usize);
-    let third = is_near_port(boundaries, i.index as usize, t.index as usize);
+    let own = is_near_port(boundaries, i.index, i.index);
+    let other = is_near_port(boundaries, i.index, k.index);
+    let third = is_near_port(boundaries, i.index, t.index);
     (own & other & third).then_some(i)
 }
 
@@ -42,10 +42,10 @@ fn pick_bridge(boundaries: &[u64], i: Port, k: Port, t: Port) -> Option<Port>
     requires { Measured boundaries.now i × Measured boundaries.now k × Measured boundaries.now t }
     ensures { result ≡ picked_port boundaries.now i k t }
 {
-    if is_twice_as_wide(boundaries, i.index as usize, k.index as usize) {
+    if is_twice_as_wide(boundaries, i.index, k.index) {
         return bridge_if_near(boundaries, i, k, t);
     }
-    if is_twice_as_wide(boundaries, k.index as usize, i.index as usize) {
+    if is_twice_as_wide(boundaries, k.index, i.index) {
         return bridge_if_near(boundaries, k, i, t);
     }
     None
@@ -81,7 +81,7 @@ fn next_port(lists: &JunctionLists, r: u32, from: usize) -> Option<Port>
         && !has_ramp(lists.boundaries, j))?;
     let pair = lists.full[index]?;
     Some(Port {
-        index: index as u8,
+        index,
         exterior: pair.other(r),
     })
 }
@@ -100,10 +100,10 @@ pub fn bridge_of(lists: &JunctionLists, r: u32) -> Option<Port>
         return None;
     }
     let i = next_port(lists, r, 0)?;
-    let j = next_port(lists, r, i.index as usize + 1)?;
-    let k = next_port(lists, r, j.index as usize + 1)?;
-    match next_port(lists, r, k.index as usize + 1) {
-        Some(_) => None,
-        None => bridge_of_three(lists.boundaries, lists.marks, i, j, k),
+    let j = next_port(lists, r, i.index + 1)?;
+    let k = next_port(lists, r, j.index + 1)?;
+    if next_port(lists, r, k.index + 1).is_some() {
+        return None;
     }
+    bridge_of_three(lists.boundaries, lists.marks, i, j, k)
 }

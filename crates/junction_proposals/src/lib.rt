@@ -2,9 +2,9 @@
 
 #![tactic(auto)]
 
-pub mod bridges;
+mod bridges;
 mod distances;
 pub mod lists;
 pub mod ports;
 pub mod proposals;
-pub mod unions;
+mod unions;

@@ -1,5 +1,6 @@
 // The ports of the two regions of a union.
 ghost use Rattle.std.specs.Prelude.{◌≡◌, ◌≤◌, ◌<◌, true, length};
+ghost use Rattle.definitions.specs.Limits.{max_entries};
 ghost use Rattle.definitions.specs.Grid.{contains};
 ghost use Rattle.definitions.specs.Context.{holds};
 ghost use Rattle.definitions.specs.Junctions.{fits_union};
@@ -8,6 +9,7 @@ ghost use Rattle.junction_proposals.specs.Ports.{Listed, incidents_of, names, is
 
 use crate::lists::JunctionLists;
 use context::pairs::Pair;
+use definitions::limits::MAX_ENTRIES;
 
 // A boundary that may go, the pair of regions of which it would make a union, and the boundaries whose full pair names one of the two.
 #[derive(Clone, Copy)]
@@ -33,12 +35,12 @@ fn fits_union(union: Pair, pair: Option<Pair>) -> bool
 
 // The boundaries whose full pair names a region of the union, in ascending order; gives how many there are.
 pub fn find_incidents(
-    full: &[Option<Pair>; 256],
+    full: &[Option<Pair>; MAX_ENTRIES],
     count: usize,
     union: Pair,
-    incidents: &mut [u8; 256],
+    incidents: &mut [u8; MAX_ENTRIES],
 ) -> usize
-    requires { (count ≤ 256) × (length incidents.old ≡ 256) }
+    requires { (count ≤ max_entries) × (length incidents.old ≡ max_entries) }
     ensures { Listed full.now count (pair_form union) incidents.new result }
 {
     let mut n = 0;
@@ -52,7 +54,7 @@ pub fn find_incidents(
 }
 
 // Whether the full pair of boundary j names region r.
-fn names_at(full: &[Option<Pair>; 256], r: u32, j: u8) -> bool
+fn names_at(full: &[Option<Pair>; MAX_ENTRIES], r: u32, j: u8) -> bool
     ensures { result ≡ names full.now r j }
 {
     names_region(full[j as usize], r)
@@ -60,7 +62,7 @@ fn names_at(full: &[Option<Pair>; 256], r: u32, j: u8) -> bool
 
 // Whether the full pair of boundary j names region r of the union without that exactly one of its sides lies in it. Boundary `index`, the union's own, is left
 // out.
-fn is_unfit(full: &[Option<Pair>; 256], index: usize, union: Pair, r: u32, j: u8) -> bool
+fn is_unfit(full: &[Option<Pair>; MAX_ENTRIES], index: usize, union: Pair, r: u32, j: u8) -> bool
     ensures { result ≡ is_unfit full.now index (pair_form union) r j }
 {
     names_at(full, r, j) & ((j as usize != index) & !fits_union(union, full[j as usize]))

@@ -9,9 +9,10 @@ ghost use Rattle.junction_proposals.specs.Rows.{kind_of, found_form, max_proposa
 use crate::bridges::bridge_of;
 use crate::lists::JunctionLists;
 use crate::unions::is_union;
+use definitions::limits::MAX_ENTRIES;
 
-// 256 unions, and 170 bridges: a pocket has three full pairs, and a full pair names two regions.
-pub const MAX_PROPOSALS: usize = 426;
+// A union for each boundary, and 170 bridges: a pocket has three full pairs, and a full pair names two regions.
+pub const MAX_PROPOSALS: usize = MAX_ENTRIES + MAX_ENTRIES * 2 / 3;
 
 // Whether the boundary between two regions would go, or one of two that lead from a pocket to one region; with its number in the ranked list.
 // Unions go before bridges.
@@ -51,16 +52,12 @@ fn union_row(lists: &JunctionLists, i: usize) -> Option<Candidate>
     ensures { found_form result ≡ union_in lists.now i }
 {
     let union = lists.full[i]?;
-    if is_union(lists, i) {
-        Some(Candidate {
-            index: i as u8,
-            kind: Kind::Union,
-            first: union.lo,
-            second: union.hi,
-        })
-    } else {
-        None
-    }
+    is_union(lists, i, union).then_some(Candidate {
+        index: i as u8,
+        kind: Kind::Union,
+        first: union.lo,
+        second: union.hi,
+    })
 }
 
 // The bridge of region r, if there is one.
@@ -69,8 +66,9 @@ fn bridge_row(lists: &JunctionLists, r: u32) -> Option<Candidate>
     requires r_named { (1 ≤ r) × (r ≤ lists.now.regions) }
     ensures { found_form result ≡ bridge_in lists.now r }
 {
-    bridge_of(lists, r).map(|bridge| Candidate {
-        index: bridge.index,
+    let bridge = bridge_of(lists, r)?;
+    Some(Candidate {
+        index: bridge.index as u8,
         kind: Kind::Bridge,
         first: r,
         second: bridge.exterior,

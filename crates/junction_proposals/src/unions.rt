@@ -1,7 +1,6 @@
 // Unions of two regions, before their records are looked at.
 ghost use Rattle.std.specs.Prelude.{◌≡◌, ◌+◌, ◌-◌, ◌≤◌, ◌<◌, length, get_or, ltb, leb, Some};
 ghost use Rattle.definitions.specs.Scan.{count_below};
-ghost use Rattle.definitions.specs.Context.{holds};
 ghost use Rattle.definitions.specs.Junctions.{exterior_of};
 ghost use Rattle.context.specs.Rows.{pair_form};
 ghost use Rattle.junction_proposals.specs.Lent.{LentBoundaries, LentIn};
@@ -13,6 +12,7 @@ use crate::lists::JunctionLists;
 use crate::ports::{Divider, find_incidents, ports_fit};
 use context::pairs::Pair;
 use context::region_marks::is_anchored;
+use definitions::limits::MAX_ENTRIES;
 use geometry::boundaries::has_ramp;
 
 // The exteriors found: none, one, two, or more.
@@ -37,7 +37,12 @@ impl Exteriors {
     }
 
     // Looks at boundary j too, which names a region of the union and is a port if it is not the union's own.
-    fn with_incident(self, full: &[Option<Pair>; 256], divider: &Divider, j: u8) -> Exteriors
+    fn with_incident(
+        self,
+        full: &[Option<Pair>; MAX_ENTRIES],
+        divider: &Divider,
+        j: u8,
+    ) -> Exteriors
         ensures { result ≡ with_incident full.now divider.now.index (pair_form divider.now.union) self j }
     {
         let pair = full[j as usize];
@@ -101,7 +106,7 @@ fn has_few_incidents(counts: &[u32], union: Pair) -> bool
 }
 
 // Whether the regions of the full pair of boundary `index` and their ports have the shape of a union.
-fn has_union_shape(lists: &JunctionLists, index: usize, union: Pair) -> bool
+pub fn is_union(lists: &JunctionLists, index: usize, union: Pair) -> bool
     requires lent { LentIn lists.now }
     requires index_within { index < lists.now.count }
     requires union_full { pair_of lists.now.full.now index ≡ Some (pair_form union) }
@@ -120,7 +125,7 @@ fn has_union_shape(lists: &JunctionLists, index: usize, union: Pair) -> bool
     if has_few_incidents(lists.counts, union) {
         return false;
     }
-    let mut listed = [0u8; 256];
+    let mut listed = [0u8; MAX_ENTRIES];
     let n = find_incidents(lists.full, lists.count, union, &mut listed);
     let divider = Divider {
         index,
@@ -130,17 +135,4 @@ fn has_union_shape(lists: &JunctionLists, index: usize, union: Pair) -> bool
     ports_fit(lists, &divider)
         && has_three_exteriors(lists, &divider)
         && ports_pass(lists, &divider, lower != upper)
-}
-
-// Whether boundary `index` is a full pair that has the shape of a union.
-pub fn is_union(lists: &JunctionLists, index: usize) -> bool
-    requires lent { LentIn lists.now }
-    requires index_within { index < lists.now.count }
-    ensures { result ≡ holds (pair_of lists.now.full.now index) (λ p. shape_at lists.now.boundaries.now lists.now.full.now lists.now.count index p
-        lists.now.counts.now lists.now.marks.now) }
-{
-    match lists.full[index] {
-        None => false,
-        Some(union) => has_union_shape(lists, index, union),
-    }
 }

@@ -1,6 +1,6 @@
 -- What `is_allowed` reads of a row and of the lists is what the context says. Assumes nothing.
 use Prim.Native.Nat.{ℕ, ◌+◌, ◌*◌}
-use mathlib.Core.Path.{◌≡◌, sym, ap, ap₂, ◌∙◌, subst⁻¹}
+use mathlib.Core.Path.{◌≡◌, sym, ap, ap₂, ◌∙◌}
 use mathlib.Core.Bool.{Bool, true, false}
 use mathlib.Core.List.{List}
 use lib.Dec.{eqb}
@@ -9,14 +9,13 @@ use Rattle.definitions.specs.Scan.{bit}
 use Rattle.definitions.specs.Grid.{Segment, segment_at}
 use Rattle.definitions.specs.Junctions.{Proposal, union_regions}
 use Rattle.definitions.specs.Context.{Context}
-use Rattle.laws.specs.FloatLaws.Pixels.{PixelRegion, PixelSegment}
 use Rattle.context.specs.declared.Region.{Region}
-use Rattle.context.specs.Records.{record_of, Counted}
+use Rattle.context.specs.Records.{record_of}
 use Rattle.junction_proposals.specs.declared.proposals.Candidate.{Candidate}
 use Rattle.junction_proposals.specs.Unions.{mark_at}
 use Rattle.junction_proposals.specs.Rows.{form, is_allowed, bridge_region}
 use Rattle.junction_regions.specs.Tests.{is_local, union_of, bridge_of}
-use Rattle.junction_regions.specs.Asked.{OnMap, Asked}
+use Rattle.junction_regions.specs.Asked.{Asked}
 
 module _ {C : Context} {boundaries marks : List ℕ} {given : Candidate} {first second : Region} (h : Asked C boundaries marks given first second) where
   abbrev row : Proposal
@@ -25,19 +24,6 @@ module _ {C : Context} {boundaries marks : List ℕ} {given : Candidate} {first 
   -- s is what stands in the list as its boundary
   pub ends-are : {s : Segment} → s ≡ segment_at boundaries (numbers_per_boundary * row.index) → s ≡ (C.boundary row.index).endpoints
   ends-are e = e ∙ sym (ap (λ b. b.endpoints) (h.told.bounds.at row.index h.fits.index_in))
-
-  pub row-pixels : {s : Segment} → s ≡ (C.boundary row.index).endpoints → PixelSegment s
-  row-pixels e = subst⁻¹ PixelSegment e (h.told.pixels.ends row.index)
-
-  pub first_on : OnMap (record_of first)
-  first_on = record { edges = subst⁻¹ PixelRegion h.first_is (h.told.pixels.edges row.first); counted = subst⁻¹ Counted h.first_is (h.told.counted row.first) }
-
-  pub second_on : OnMap (record_of second)
-  second_on =
-      record {
-        edges = subst⁻¹ PixelRegion h.second_is (h.told.pixels.edges row.second);
-        counted = subst⁻¹ Counted h.second_is (h.told.counted row.second);
-      }
 
   module _ {s : Segment} (ends : s ≡ (C.boundary row.index).endpoints) where
     pub allowed-bridge : {r : Bool} → eqb row.kind 0 ≡ false → r ≡ bridge_of (record_of first) s → r ≡ is_allowed C row

@@ -10,7 +10,7 @@ ghost use Rattle.laws.specs.FloatLaws.DistanceRange.{DistanceInRange, nearest_po
 ghost use Rattle.laws.specs.FloatLaws.Pixels.{PixelRegion, HalfPixelPoint};
 ghost use Rattle.span_geometry.specs.Shapes.{InLimits};
 ghost use Rattle.elevations.specs.Forms.{share_form};
-ghost use Rattle.geometry.specs.Forms.{point_form, segment_from};
+ghost use Rattle.geometry.specs.Forms.{point_form, segment_form};
 ghost use Rattle.context.specs.Records.{record_of, Counted};
 ghost use Rattle.junction_proposals.specs.Rows.{form, is_allowed};
 ghost use Rattle.junction_regions.specs.Tests.{near_middle, near_span, accepted_of, is_local, union_of, bridge_of};
@@ -19,11 +19,10 @@ ghost use Rattle.junction_regions.specs.Asked.{OnMap, Asked};
 use context::Region;
 use context::region_marks::is_anchored;
 use elevations::Share;
-use geometry::Point;
 use geometry::boundaries::segment_of;
 use geometry::points::{center, point, point_segment_distance, within_distance};
+use geometry::{Point, Segment};
 use junction_proposals::proposals::Candidate;
-use span_geometry::PixelPosition;
 
 const MAX_UNION_RADIUS_PIXELS: f64 = 512.0;
 
@@ -54,28 +53,28 @@ pub fn within_radius(region: Region, middle: Point) -> bool
     (0 < region.cells) & near
 }
 
-pub fn within_span_radius(region: Region, a: PixelPosition, b: PixelPosition) -> bool
-    requires { PixelRegion (record_of region) × (InLimits a × InLimits b) }
-    ensures { result ≡ within_span_radius (record_of region) (segment_from a b) }
+pub fn within_span_radius(region: Region, span: Segment) -> bool
+    requires { PixelRegion (record_of region) × (InLimits span.a × InLimits span.b) }
+    ensures { result ≡ within_span_radius (record_of region) (segment_form span) }
 {
     let corners = region.corners();
-    let start = point(a);
-    let end = point(b);
+    let start = point(span.a);
+    let end = point(span.b);
     let near = corners.iter().all(|&corner| near_span(corner, start, end));
     (0 < region.cells) & near
 }
 
-// ---- the regions of a union and of a bridge; the boundary that would go runs from a to b
+// ---- the regions of a union and of a bridge; `ends` are those of the boundary that would go
 
 // Whether both regions of a union are near: the boundary where exactly one of them is anchored, and else its center.
-fn is_local(first: Region, second: Region, a: PixelPosition, b: PixelPosition, one: bool) -> bool
-    requires { PixelRegion (record_of first) × (PixelRegion (record_of second) × (InLimits a × InLimits b)) }
-    ensures { result ≡ is_local (record_of first) (record_of second) (segment_from a b) one }
+fn is_local(first: Region, second: Region, ends: Segment, one: bool) -> bool
+    requires { PixelRegion (record_of first) × (PixelRegion (record_of second) × (InLimits ends.a × InLimits ends.b)) }
+    ensures { result ≡ is_local (record_of first) (record_of second) (segment_form ends) one }
 {
     if one {
-        return within_span_radius(first, a, b) & within_span_radius(second, a, b);
+        return within_span_radius(first, ends) & within_span_radius(second, ends);
     }
-    let middle = center(a, b);
+    let middle = center(ends.a, ends.b);
     within_radius(first, middle) & within_radius(second, middle)
 }
 
@@ -92,11 +91,7 @@ fn accepted_elevation(region: Region) -> Option<usize>
     ensures { result ≡ accepted_of (record_of region) }
 {
     let dominance = region.dominance();
-    if is_accepted(dominance.share) {
-        Some(dominance.elevation)
-    } else {
-        None
-    }
+    is_accepted(dominance.share).then_some(dominance.elevation)
 }
 
 // Whether both regions have an elevation of an accepted share, and it is the same.
@@ -109,28 +104,22 @@ fn same_dominance(first: Region, second: Region) -> bool
     elevation.is_some() & (elevation == other)
 }
 
-pub fn union_regions(
-    first: Region,
-    second: Region,
-    a: PixelPosition,
-    b: PixelPosition,
-    one: bool,
-) -> bool
-    requires { OnMap (record_of first) × (OnMap (record_of second) × (InLimits a × InLimits b)) }
-    ensures { result ≡ union_of (record_of first) (record_of second) (segment_from a b) one }
+pub fn union_regions(first: Region, second: Region, ends: Segment, one: bool) -> bool
+    requires { OnMap (record_of first) × (OnMap (record_of second) × (InLimits ends.a × InLimits ends.b)) }
+    ensures { result ≡ union_of (record_of first) (record_of second) (segment_form ends) one }
 {
     (first.ramp_cells == 0)
         & (second.ramp_cells == 0)
-        & is_local(first, second, a, b, one)
+        & is_local(first, second, ends, one)
         & (first.is_strictly_flat(second) | (one & same_dominance(first, second)))
 }
 
-pub fn bridge_region(pocket: Region, a: PixelPosition, b: PixelPosition) -> bool
-    requires { PixelRegion (record_of pocket) × (InLimits a × InLimits b) }
-    ensures { result ≡ bridge_of (record_of pocket) (segment_from a b) }
+pub fn bridge_region(pocket: Region, ends: Segment) -> bool
+    requires { PixelRegion (record_of pocket) × (InLimits ends.a × InLimits ends.b) }
+    ensures { result ≡ bridge_of (record_of pocket) (segment_form ends) }
 {
     (pocket.ramp_cells == 0)
-        & (within_radius(pocket, center(a, b)) & pocket.is_strictly_flat(pocket))
+        & (within_radius(pocket, center(ends.a, ends.b)) & pocket.is_strictly_flat(pocket))
 }
 
 // ---- proposals
@@ -163,8 +152,8 @@ pub fn is_allowed(
 {
     let ends = segment_of(boundaries, row.index as usize);
     if !row.kind.is_union() {
-        return bridge_region(first, ends.a, ends.b);
+        return bridge_region(first, ends);
     }
     let one = is_anchored(marks, row.first) != is_anchored(marks, row.second);
-    union_regions(first, second, ends.a, ends.b, one)
+    union_regions(first, second, ends, one)
 }

@@ -51,9 +51,6 @@ order-front rows order m l =
     ap (λ n. collect n (λ k. Some (row_at rows (get_or (take m order) k 0)))) (length-take-le m order l)
     ∙ collect_ext m (λ k. Some (row_at rows (get_or (take m order) k 0))) (λ k. Some (row_at rows (get_or order k 0))) (λ k h. ap (λ x. Some (row_at rows x)) (get_or-take m order k 0 h))
 
-pub rows-front : (order : List ℕ) {m n : ℕ} → m ≤ length order → Rows order m n → (k : ℕ) → k < m → get_or (take m order) k 0 < n
-rows-front order {m} l rs k h = rw (get_or-take m order k 0 h) (rs k h)
-
 -- one more in the order
 order_more : (rows : List Candidate) (taken : List ℕ) (t p : ℕ) → t < length taken → order_of rows (set taken t p) (t + 1) ≡ order_of rows taken t ++ (row_at rows p ∷ [])
 unfolding order_of

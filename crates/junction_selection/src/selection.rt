@@ -1,6 +1,7 @@
 // `select_proposals`: a proposal is taken unless it conflicts with one taken before.
 ghost use Rattle.std.specs.Prelude.{◌≡◌, false, ◌&&◌, ◌||◌, cond, eqb, ℕ, ◌+◌, ◌≤◌, ◌<◌};
 ghost use Rattle.std.specs.Prelude.{List, [], ◌∷◌, ◌++◌, length, get_or};
+ghost use Rattle.definitions.specs.Limits.{max_entries};
 ghost use Rattle.definitions.specs.Scan.{any, any_below_lem};
 ghost use Rattle.definitions.specs.Junctions.{Proposal, region_conflict};
 ghost use Rattle.junction_proposals.specs.Rows.{form, row_at};
@@ -10,13 +11,14 @@ ghost use Rattle.junction_selection.specs.Taken.{Within, Selectable, Selecting, 
 use crate::found::FoundRows;
 use crate::ranks::rank_proposals;
 use context::pairs::Pair;
+use definitions::limits::MAX_ENTRIES;
 use junction_proposals::lists::JunctionLists;
 use junction_proposals::ports::names_region;
 use junction_proposals::proposals::{Candidate, MAX_PROPOSALS};
 
 // Whether a row reserves boundary j as a port.
-pub fn reserves(full: &[Option<Pair>; 256], row: Candidate, j: usize) -> bool
-    requires { j < 256 }
+pub fn reserves(full: &[Option<Pair>; MAX_ENTRIES], row: Candidate, j: usize) -> bool
+    requires { j < max_entries }
     ensures { result ≡ reserves_at full.now (form row) j }
 {
     let union = row.kind.is_union();
@@ -52,15 +54,14 @@ fn region_taken(rows: &[Candidate], taken: &[u32], p: usize) -> bool
 }
 
 // Marks the ports of a row.
-fn reserve_ports(lists: &JunctionLists, reserved: &mut [bool; 256], row: Candidate)
-    requires { lists.now.count ≤ 256 }
+fn reserve_ports(lists: &JunctionLists, reserved: &mut [bool; MAX_ENTRIES], row: Candidate)
+    requires { lists.now.count ≤ max_entries }
     ensures { (j : ℕ) →
         j < lists.now.count →
         get_or reserved.new j false ≡ (get_or reserved.old j false || reserves_at lists.now.full.now (form row) j) }
 {
-    // Kept: of what `iter_mut().enumerate()` lends a proof knows nothing behind the loop.
-    for j in 0..lists.count {
-        reserved[j] |= reserves(lists.full, row, j);
+    for (j, mark) in reserved[..lists.count].iter_mut().enumerate() {
+        *mark |= reserves(lists.full, row, j);
     }
 }
 
@@ -68,7 +69,7 @@ fn reserve_ports(lists: &JunctionLists, reserved: &mut [bool; 256], row: Candida
 #[derive(Drop)]
 struct Selection<'a> {
     removed: &'a mut [bool],
-    reserved: [bool; 256],
+    reserved: [bool; MAX_ENTRIES],
     taken: [u32; MAX_PROPOSALS],
     count: usize,
 }
@@ -141,7 +142,7 @@ fn select_ranked(found: &FoundRows, order: &[u32], removed: &mut [bool])
 {
     let mut selection = Selection {
         removed,
-        reserved: [false; 256],
+        reserved: [false; MAX_ENTRIES],
         taken: [0; MAX_PROPOSALS],
         count: 0,
     };

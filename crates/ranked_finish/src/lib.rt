@@ -11,9 +11,10 @@ ghost use Rattle.pass_lists.specs.Finished.{Finishes};
 ghost use Rattle.ranked_finish.specs.Ends.{ranked_form, ranked_of, RankedFinished};
 
 use areas::scratch::clear_scratch;
+use definitions::limits::MAX_ENTRIES;
 use pass_lists::finish;
 use ranked_rows::RankedRow;
-use refusals::{Cause, Refusal, ensure};
+use refusals::{Cause, Refusal};
 
 const NUMBERS_PER_RANKED: usize = 6;
 
@@ -76,6 +77,8 @@ fn put_listed(listed: &[RankedRow], lent: &mut [u32])
     requires { numbers_per_ranked * length listed.now ≤ length lent.old }
     ensures { lent.new ≡ overwrite (flat_ranked (map listed_form listed.now)) lent.old }
 {
+    // Kept: with `zip` over `lent.chunks_exact_mut(NUMBERS_PER_RANKED)` no place would be counted, but of what `chunks_exact_mut` lends a proof knows nothing
+    // behind the loop.
     for (k, &row) in listed.iter().enumerate() {
         let place = NUMBERS_PER_RANKED * k;
         lent[place..place + NUMBERS_PER_RANKED].copy_from_slice(&numbers_of(row));
@@ -84,11 +87,13 @@ fn put_listed(listed: &[RankedRow], lent: &mut [u32])
 
 // The list holds the rows of the proposals. Where the lent one has room for them, they are written there, the rows of the `count` boundaries that are not
 // removed go into the output, and masks and queue are cleared. Where it has not, 21: the lent list is zero, and so are masks and queue over the needed length.
+// Kept: the lists one by one, as `finish` of `pass_lists` takes them: a struct of those that are written would be made for this one call, and taken apart again
+// for that one.
 pub fn finish_ranked(
     needed: usize,
     count: usize,
     boundaries: &[u64],
-    removed: &[bool; 256],
+    removed: &[bool; MAX_ENTRIES],
     listed: &[RankedRow],
     masks: &mut [u16],
     queue: &mut [u32],
@@ -101,10 +106,13 @@ pub fn finish_ranked(
         (ranked_of result) masks.new queue.new output.new lent.new }
 {
     let room = lent.len() / NUMBERS_PER_RANKED;
-    if let Err(refusal) = ensure(listed.len() <= room, Cause::Ranked) {
+    if room < listed.len() {
         clear_scratch(masks, queue, needed);
         lent.fill(0);
-        return Err(refusal);
+        return Err(Refusal {
+            cause: Cause::Ranked,
+            place: 0,
+        });
     }
     let kept = finish(needed, count, boundaries, removed, masks, queue, output);
     put_listed(listed, lent);

@@ -1,12 +1,12 @@
 -- A row that is put behind those of the ranks before it gives the list with that row more, and so the list of an order comes about rank by rank. Assumes nothing.
-use Prim.Native.Nat.{ℕ, zero, suc, ◌+◌, ◌<◌}
+use Prim.Native.Nat.{ℕ, suc, ◌+◌, ◌<◌}
 use native.Mathlib.Numerals.{add-one}
 use native.Mathlib.Omega.{arith}
 use mathlib.Core.Path.{◌≡◌, refl, sym, ap, ap₂, ◌∙◌}
 use mathlib.Core.Bool.{Bool}
 use Rattle.std.specs.Prelude.{Option, None, Some}
 use mathlib.Core.List.{List, [], ◌∷◌, ◌++◌, map}
-use lib.ListN.{length, get_or, set, take, drop, length-append, length-map, get_or-map}
+use lib.ListN.{length, get_or, set, take, drop, length-map, get_or-map}
 use Rattle.std.proofs.lemmas.List.{map-append, drop-set-lt}
 use lib.Seq.{take-suc-set, drop-drop}
 use Rattle.definitions.specs.Scan.{collect}
@@ -22,16 +22,6 @@ use Rattle.ranked_rows.proofs.Judging.{judged_more, row_listed}
 use Rattle.region_pairs.specs.declared.Pair as declared
 
 -- ---- the rows that an order names
-
-module _ {A : Type 0} (f : ℕ → A) where
-  all-length : (n : ℕ) → length (collect n (λ k. Some (f k))) ≡ n
-  unfolding collect
-  all-length zero = refl
-  all-length (suc n) = omega (arith, length-append (collect n (λ k. Some (f k))) (f n ∷ []), all-length n)
-
-pub order-length : (rows : List Candidate) (order : List ℕ) (m : ℕ) → length (order_of rows order m) ≡ m
-unfolding order_of
-order-length rows order m = all-length (λ k. row_at rows (get_or order k 0)) m
 
 pub order_next : (rows : List Candidate) (order : List ℕ) (k : ℕ) → order_of rows order (k + 1) ≡ order_of rows order k ++ (row_at rows (get_or order k 0) ∷ [])
 unfolding order_of collect

@@ -3,6 +3,7 @@
 #![tactic(auto)]
 
 ghost use Rattle.std.specs.Prelude.{◌≡◌, ◌&&◌, ◌≤◌, length, map, take, drop};
+ghost use Rattle.definitions.specs.Limits.{max_entries};
 ghost use Rattle.definitions.specs.Scan.{any_below_lem};
 ghost use Rattle.junction_proposals.specs.Bridges.{FirstIn};
 ghost use Rattle.junction_proposals.specs.Rows.{max_proposals, form};
@@ -24,7 +25,7 @@ pub struct RankedRow {
 
 // Whether some boundary is a port of both proposals.
 fn share_port(lists: &JunctionLists, taken: Candidate, other: Candidate) -> bool
-    requires { lists.now.count ≤ 256 }
+    requires { lists.now.count ≤ max_entries }
     ensures { result ≡ any_below_lem lists.now.count (λ j. reserves_at lists.now.full.now (form other) j
         && reserves_at lists.now.full.now (form taken) j) }
 {
@@ -33,7 +34,7 @@ fn share_port(lists: &JunctionLists, taken: Candidate, other: Candidate) -> bool
 
 // Whether a proposal that was taken keeps another from being taken.
 fn conflicts(lists: &JunctionLists, taken: Candidate, other: Candidate) -> bool
-    requires { lists.now.count ≤ 256 }
+    requires { lists.now.count ≤ max_entries }
     ensures { result ≡ conflict_at lists.now.full.now lists.now.count (form taken) (form other) }
 {
     let own = reserves(lists.full, other, taken.index as usize);
@@ -44,7 +45,7 @@ fn conflicts(lists: &JunctionLists, taken: Candidate, other: Candidate) -> bool
 
 // Whether a row of the list was taken and conflicts with a proposal.
 fn blocks(lists: &JunctionLists, row: RankedRow, candidate: Candidate) -> bool
-    requires { lists.now.count ≤ 256 }
+    requires { lists.now.count ≤ max_entries }
     ensures { result ≡ blocks_at lists.now.full.now lists.now.count candidate row }
 {
     row.refused_by.is_none() && conflicts(lists, row.candidate, candidate)
@@ -52,14 +53,14 @@ fn blocks(lists: &JunctionLists, row: RankedRow, candidate: Candidate) -> bool
 
 // The rank of the first of the listed rows that was taken and conflicts with a proposal.
 fn refused_by(lists: &JunctionLists, listed: &[RankedRow], candidate: Candidate) -> Option<u16>
-    requires small { lists.now.count ≤ 256 }
+    requires small { lists.now.count ≤ max_entries }
     requires few { length listed.now ≤ max_proposals }
     ensures first { FirstIn (λ r. blocks_at lists.now.full.now lists.now.count candidate (row_of listed.now r)) 0 (length listed.now) result }
 {
-    let rank = listed
+    listed
         .iter()
-        .position(|&row| blocks(lists, row, candidate))?;
-    Some(rank as u16)
+        .position(|&row| blocks(lists, row, candidate))
+        .map(|rank| rank as u16)
 }
 
 // Lists the rows that the order names, by rank.

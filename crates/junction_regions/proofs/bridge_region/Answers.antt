@@ -4,7 +4,7 @@ use mathlib.Core.Bool.{◌&&◌}
 use Rattle.definitions.specs.Geometry.{center}
 use Rattle.definitions.specs.Junctions.{within_radius}
 use Rattle.laws.specs.FloatLaws.Pixels.{HalfPixelPoint, center-half}
-use Rattle.geometry.specs.Forms.{segment_from}
+use Rattle.geometry.specs.Forms.{segment_form}
 use Rattle.geometry.proofs.Ends.{pixel}
 use Rattle.context.specs.Records.{record_of}
 use Rattle.junction_regions.specs.Tests.{bridge_of}
@@ -19,5 +19,5 @@ pub returns : goal.returns
 unfolding bridge_of
 returns c =
     let s = record_of c.args.pocket in
-    let near : c.within_radius.result ≡ within_radius s (center (segment_from c.args.a c.args.b)) = c.within_radius.ensures ∙ ap (within_radius s) c.center.ensures in
+    let near : c.within_radius.result ≡ within_radius s (center (segment_form c.args.ends)) = c.within_radius.ensures ∙ ap (within_radius s) c.center.ensures in
     λ i. no_ramp_lem s.ramp_cells_lem i && (near i && c.is_strictly_flat.ensures i)

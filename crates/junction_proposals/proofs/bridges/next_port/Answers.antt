@@ -32,14 +32,6 @@ offset_bounds-lists-index c =
     first_from_Range _ _ _ (Some c.in_ok-index.index) (λ j. port j ≡ true) (λ j. port j ≡ false) c.in_ok-index.ensures.ran (λ x q k. search (rules, tests)) (λ x q k. search (rules, tests)) in
     record { fits = omega (arith, first.1, c.requires.few) }
 
-pub overflow_cast-result : goal.overflow_cast-result
-unfolding is_pocket_port names
-overflow_cast-result c =
-    let port : ℕ → Bool = is_pocket_port c.args.lists.now.full.now c.args.r c.args.lists.now.boundaries.now in
-    let first : FirstIn port c.args.from c.args.lists.now.count (Some c.in_ok-index.index) =
-    first_from_Range _ _ _ (Some c.in_ok-index.index) (λ j. port j ≡ true) (λ j. port j ≡ false) c.in_ok-index.ensures.ran (λ x q k. search (rules, tests)) (λ x q k. search (rules, tests)) in
-    record { fits = omega (arith, first.1, c.requires.few) }
-
 pub returns : goal.returns
 unfolding is_pocket_port names
 returns c =

@@ -1,4 +1,4 @@
--- `junction_proposals::unions::has_union_shape` meets its contract, from what its callees ensure: each return by the tests that led there. Assumes nothing.
+-- `junction_proposals::unions::is_union` meets its contract, from what its callees ensure: each return by the tests that led there. Assumes nothing.
 use Prim.Native.Nat.{◌<◌}
 use mathlib.Core.Path.{◌≡◌, sym, ap, ◌∙◌}
 use mathlib.Core.Bool.{true, true≢false}
@@ -6,8 +6,8 @@ use borrow.Author.Tests.{not-true, not-false, ltb-true}
 use Rattle.context.specs.Rows.{pair_form}
 use Rattle.junction_proposals.specs.Unions.{no_ramp_at, marks_of, ports_pass}
 use Rattle.junction_proposals.proofs.Shapes.{has_ramp_lem, both-anchored, few-incidents, both_marked, few_marked, one_marked, fit_fails, three_fail, by_ports}
-use Rattle.junction_proposals.proofs.unions.has_union_shape.Goals as goal
-use Rattle.junction_proposals.proofs.unions.has_union_shape.Goals.{then-ports_fit, else-ports_fit}
+use Rattle.junction_proposals.proofs.unions.is_union.Goals as goal
+use Rattle.junction_proposals.proofs.unions.is_union.Goals.{then-ports_fit, else-ports_fit}
 
 pub returns-then-has_ramp : goal.returns-then-has_ramp
 returns-then-has_ramp c =
