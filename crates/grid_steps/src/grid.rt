@@ -49,7 +49,8 @@ pub const SOUTH: Direction = Direction { dx: 1, dy: 2 };
 pub const SOUTH_EAST: Direction = Direction { dx: 2, dy: 2 };
 
 // The bit of each in a mask of cut steps.
-// Kept: by the formula of `Direction::bit`, since a constant's value cannot call a function, and the loops over cells are to have constants here.
+// Kept: by the formula of `Direction::bit`, since a constant's value cannot call a function, and the masks of `onward_mask` (cut_steps), made of these, are
+// constants themselves.
 pub const EAST_BIT: usize = EAST.dy * 3 + EAST.dx;
 
 pub const SOUTH_WEST_BIT: usize = SOUTH_WEST.dy * 3 + SOUTH_WEST.dx;
@@ -67,26 +68,16 @@ impl TerrainGrid<'_> {
         1 <= cell.x && 1 <= cell.y && cell.x + 1 < self.width && cell.y + 1 < self.height
     }
 
-    // Whether the position in a direction of a cell is in the grid; it is where `inner` says that every neighbour is.
-    pub fn is_inside(self, inner: bool, cell: WalkPosition, direction: Direction) -> bool
-        requires nearby { Nearby self.width self.height cell.x cell.y direction.dx direction.dy }
-        requires inner_cell { inner ≡ true → Inner self.width self.height cell.x cell.y }
+    // Whether the position in a direction of a cell is in the grid.
+    pub fn is_inside(self, cell: WalkPosition, direction: Direction) -> bool
+        requires { Nearby self.width self.height cell.x cell.y direction.dx direction.dy }
         ensures { Says result (Inside self.entry.width self.entry.height cell.x cell.y direction.dx direction.dy) }
     {
-        if inner {
-            return true;
-        }
         let Direction { dx, dy } = direction;
-        if cell.x + dx < 1 {
-            return false;
-        }
-        if cell.y + dy < 1 {
-            return false;
-        }
-        if self.width < cell.x + dx {
-            return false;
-        }
-        cell.y + dy <= self.height
+        1 <= cell.x + dx
+            && 1 <= cell.y + dy
+            && cell.x + dx <= self.width
+            && cell.y + dy <= self.height
     }
 
     // Whether a step joins a walkable cell and its neighbour in a direction. Of a straight step the two side cells are the two cells themselves.
@@ -97,12 +88,8 @@ impl TerrainGrid<'_> {
         let WalkPosition { x, y } = cell;
         let i = x + direction.dx - 1;
         let j = y + direction.dy - 1;
-        if !is_walkable(self.cells[j * self.width + i]) {
-            return false;
-        }
-        if !is_walkable(self.cells[y * self.width + i]) {
-            return false;
-        }
-        is_walkable(self.cells[j * self.width + x])
+        is_walkable(self.cells[j * self.width + i])
+            && is_walkable(self.cells[y * self.width + i])
+            && is_walkable(self.cells[j * self.width + x])
     }
 }
