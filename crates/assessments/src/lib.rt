@@ -17,7 +17,7 @@ ghost use Rattle.assessments.specs.Assess.{nothing, max_edges, Counting, Assesse
 ghost use Rattle.assessments.specs.Assessing.{Keeps, CountingIn, AssessesIn, AssessReady, AssessVisited, assess_laws};
 ghost use Rattle.assessments.specs.Contract.{AssessAsked, SpansAssessed};
 
-use ascending_rows::{Rows, put_pair};
+use ascending_rows::put_pair;
 use cut_steps::span_of;
 use cut_steps::walk::{SpanWalk, StepVisitor, walk_span};
 use definitions::limits::{NUMBERS_PER_PAIR, NUMBERS_PER_SPAN, TALLIES_PER_SPAN};
@@ -66,10 +66,7 @@ impl Assessing<'_> {
             lo: left.min(right),
             hi: left.max(right),
         };
-        let rows = Rows {
-            first: self.first,
-            end: self.found.end,
-        };
+        let rows = self.first..self.found.end;
         let put = put_pair(self.pairs, rows, self.found.row, self.span, pair);
         self.found.separated += 1;
         self.found.end = put.end;
