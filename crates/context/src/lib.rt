@@ -18,7 +18,7 @@ pub const MAX_APPROACH_RADIUS: f64 = 512.0;
 // The record of a region, as RegionStats of context.rs: SPECIFICATION 9, and with it how many of its cells are ramp cells. Edges are in pixels; bit e of
 // `elevations` says that a cell has elevation e.
 #[repr(C)]
-#[derive(Clone, Copy, Default)]
+#[derive(Clone, Copy)]
 pub struct Region {
     pub cells: usize,
     pub min_x: f64,

@@ -43,7 +43,16 @@ impl Region {
     pub fn empty() -> Self
         ensures { record_of result ≡ empty_region }
     {
-        Self::default()
+        Self {
+            cells: 0,
+            min_x: 0.0,
+            min_y: 0.0,
+            max_x: 0.0,
+            max_y: 0.0,
+            ramp_cells: 0,
+            elevations: 0,
+            elevation_counts: [0; 4],
+        }
     }
 
     // The record with the cells of a run added, which stand in row y from column x on. A run is added once, not cell by cell.

@@ -1,6 +1,6 @@
 // The grid of a map, as lent, its cells and the directions of its steps, those of `neighbors` of lib.rs.
-ghost use Rattle.std.specs.Prelude.{◌≡◌, true, ◌≤◌, ◌<◌};
-ghost use Rattle.definitions.specs.Grid.{at, is_step};
+ghost use Rattle.std.specs.Prelude.{◌≡◌, true, ◌*◌, ◌≤◌, ◌<◌, length};
+ghost use Rattle.definitions.specs.Grid.{at, walkable, is_step};
 ghost use Rattle.grid_steps.specs.Masks.{bit_of};
 ghost use Rattle.grid_steps.specs.Grids.{terrain_of};
 ghost use Rattle.grid_steps.specs.Inner.{Nearby, Inner, Inside, Says, Stepping};
@@ -60,6 +60,15 @@ pub const SOUTH_BIT: usize = SOUTH.dy * 3 + SOUTH.dx;
 pub const SOUTH_EAST_BIT: usize = SOUTH_EAST.dy * 3 + SOUTH_EAST.dx;
 
 impl TerrainGrid<'_> {
+    // Whether cell (x, y) is walkable.
+    pub fn walks(self, x: usize, y: usize) -> bool
+        requires sides { (self.width ≤ 1024) × (self.height ≤ 1024) × (length self.cells.now ≡ self.height * self.width) }
+        requires within { (x < self.width) × (y < self.height) }
+        ensures { result ≡ walkable (terrain_of self.entry) (at x y) }
+    {
+        is_walkable(self.cells[y * self.width + x])
+    }
+
     // Whether every neighbour of a cell is in the grid.
     pub fn is_inner(self, cell: WalkPosition) -> bool
         requires { (self.width ≤ 1024) × (self.height ≤ 1024) × (cell.x < self.width) × (cell.y < self.height) }
@@ -88,8 +97,6 @@ impl TerrainGrid<'_> {
         let WalkPosition { x, y } = cell;
         let i = x + direction.dx - 1;
         let j = y + direction.dy - 1;
-        is_walkable(self.cells[j * self.width + i])
-            && is_walkable(self.cells[y * self.width + i])
-            && is_walkable(self.cells[j * self.width + x])
+        self.walks(i, j) && self.walks(i, y) && self.walks(x, j)
     }
 }

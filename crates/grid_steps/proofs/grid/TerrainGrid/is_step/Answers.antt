@@ -4,26 +4,26 @@ use mathlib.Core.Path.{sym, ◌∙◌}
 use mathlib.Core.Bool.{true≢false}
 use Rattle.grid_steps.proofs.StepTests.{far-blocked, side-blocked, under-decides}
 use Rattle.grid_steps.proofs.grid.TerrainGrid.is_step.Goals as goal
-use Rattle.grid_steps.proofs.grid.TerrainGrid.is_step.Goals.{then-is_walkable, else-is_walkable}
+use Rattle.grid_steps.proofs.grid.TerrainGrid.is_step.Goals.{then-walks, else-walks}
 
-pub returns-then-is_walkable-2 : goal.returns-then-is_walkable-2
-returns-then-is_walkable-2 c =
+pub returns-then-walks-2 : goal.returns-then-walks-2
+returns-then-walks-2 c =
     let a = c.args in
-    elim c.if-is_walkable.branch [
-      then-is_walkable w ↦
-        c.is_walkable-then-is_walkable-2.ensures
+    elim c.if-walks.branch [
+      then-walks w ↦
+        c.walks-then-walks-2.ensures
         ∙ under-decides a.self.width a.self.height a.self.cells.now a.cell.x a.cell.y a.direction.dx a.direction.dy c.requires.nearby c.requires.inside c.requires.walks
-        (sym c.is_walkable.ensures ∙ w.if-is_walkable.true) (sym w.is_walkable-then-is_walkable.ensures ∙ sym w.value-is ∙ c.if-is_walkable-2.true)
-    | else-is_walkable w ↦ absurd (true≢false (sym c.if-is_walkable-2.true ∙ w.value-is ∙ w.if-is_walkable.false))
+        (sym c.walks.ensures ∙ w.if-walks.true) (sym w.walks-then-walks.ensures ∙ sym w.value-is ∙ c.if-walks-2.true)
+    | else-walks w ↦ absurd (true≢false (sym c.if-walks-2.true ∙ w.value-is ∙ w.if-walks.false))
     ]
 
-pub returns-else-is_walkable-2 : goal.returns-else-is_walkable-2
-returns-else-is_walkable-2 c =
+pub returns-else-walks-2 : goal.returns-else-walks-2
+returns-else-walks-2 c =
     let a = c.args in
-    c.if-is_walkable-2.false
-    ∙ (elim c.if-is_walkable.branch [
-      then-is_walkable w ↦
-        side-blocked a.self.width a.self.height a.self.cells.now a.cell.x a.cell.y a.direction.dx a.direction.dy (sym w.is_walkable-then-is_walkable.ensures ∙ sym w.value-is ∙ c.if-is_walkable-2.false)
-    | else-is_walkable w ↦
-        far-blocked a.self.width a.self.height a.self.cells.now a.cell.x a.cell.y a.direction.dx a.direction.dy (sym c.is_walkable.ensures ∙ w.if-is_walkable.false)
+    c.if-walks-2.false
+    ∙ (elim c.if-walks.branch [
+      then-walks w ↦
+        side-blocked a.self.width a.self.height a.self.cells.now a.cell.x a.cell.y a.direction.dx a.direction.dy (sym w.walks-then-walks.ensures ∙ sym w.value-is ∙ c.if-walks-2.false)
+    | else-walks w ↦
+        far-blocked a.self.width a.self.height a.self.cells.now a.cell.x a.cell.y a.direction.dx a.direction.dy (sym c.walks.ensures ∙ w.if-walks.false)
     ])
