@@ -58,20 +58,12 @@ fn is_far_eastward(g: SpanGeometry, cell: WalkPosition) -> bool
     exceeds(side_of(g, cell), PIXELS_PER_WALK_CELL * (g.max_y - g.min_y))
 }
 
-// Whether the cell (x, y) of the grid is walkable.
-fn is_walkable(grid: TerrainGrid, x: usize, y: usize) -> bool
-    requires { InGrid grid.width grid.height grid.cells.now x y }
-    ensures { result ≡ walkable (terrain_of grid.entry) (at x y) }
-{
-    grid_steps::is_walkable(grid.cells[y * grid.width + x])
-}
-
 // Whether the cell south of a cell is there and walkable. Every step to the next row asks for it.
 fn walks_south(grid: TerrainGrid, cell: WalkPosition) -> bool
     requires { InGrid grid.width grid.height grid.cells.now cell.x cell.y }
     ensures { result ≡ walkable (terrain_of grid.entry) (at cell.x (cell.y + 1)) }
 {
-    cell.y + 1 < grid.height && is_walkable(grid, cell.x, cell.y + 1)
+    cell.y + 1 < grid.height && grid.walks(cell.x, cell.y + 1)
 }
 
 // The value where the test holds, else 0.
@@ -106,11 +98,11 @@ fn steps_inside(grid: TerrainGrid, cell: WalkPosition) -> u16
     ensures { result ≡ steps_onward (terrain_of grid.entry) (at cell.x cell.y) }
 {
     let WalkPosition { x, y } = cell;
-    let east = is_walkable(grid, x + 1, y);
-    let south = is_walkable(grid, x, y + 1);
-    let west = is_walkable(grid, x - 1, y);
-    let south_west = is_walkable(grid, x - 1, y + 1);
-    let south_east = is_walkable(grid, x + 1, y + 1);
+    let east = grid.walks(x + 1, y);
+    let south = grid.walks(x, y + 1);
+    let west = grid.walks(x - 1, y);
+    let south_west = grid.walks(x - 1, y + 1);
+    let south_east = grid.walks(x + 1, y + 1);
     onward_mask(
         east,
         south_west & west & south,
@@ -196,7 +188,7 @@ impl SpanWalk<'_> {
         ensures where_true { result ≡ true → walkable (walk_map self.now) (at cell.x cell.y) ≡ true }
         ensures where_false { result ≡ false → CutIn self.now cell 0 }
     {
-        is_walkable(self.grid, cell.x, cell.y)
+        self.grid.walks(cell.x, cell.y)
             && !is_far(self.g, cell)
             && (walks_south(self.grid, cell) || !is_far_eastward(self.g, cell))
     }
@@ -250,7 +242,7 @@ impl SpanWalk<'_> {
         requires crossed { Crossed (segment_of self.now.g) (at cell.x cell.y) changes }
         ensures { CutIn self.now cell result }
     {
-        if !is_walkable(self.grid, cell.x, cell.y) {
+        if !self.grid.walks(cell.x, cell.y) {
             return 0;
         }
         changes & steps_onward(self.grid, cell)

@@ -5,16 +5,16 @@ use borrow.Author.Tests.{not-false}
 use Rattle.span_geometry.specs.Shapes.{segment_of}
 use Rattle.cut_steps.proofs.Cells.{no_directions, far-directions, east-directions}
 use Rattle.cut_steps.proofs.walk.SpanWalk.is_near.Goals as goal
-use Rattle.cut_steps.proofs.walk.SpanWalk.is_near.Goals.{then-is_walkable, else-is_walkable}
+use Rattle.cut_steps.proofs.walk.SpanWalk.is_near.Goals.{then-walks, else-walks}
 
 pub returns-else-not-is_far-clause-where_false : goal.returns-else-not-is_far-clause-where_false
 returns-else-not-is_far-clause-where_false c =
     let a = c.args in
-    λ e. elim c.if-is_walkable.branch [
-      then-is_walkable w ↦
+    λ e. elim c.if-walks.branch [
+      then-walks w ↦
         far-directions a.self.now.grid.width a.self.now.grid.height a.self.now.grid.cells.now (segment_of a.self.now.g) a.cell.x a.cell.y (w.is_far.ensures (not-false _ (sym w.value-is ∙ e)))
-    | else-is_walkable w ↦
-        no_directions a.self.now.grid.width a.self.now.grid.height a.self.now.grid.cells.now (segment_of a.self.now.g) a.cell.x a.cell.y (sym c.is_walkable.ensures ∙ w.if-is_walkable.false)
+    | else-walks w ↦
+        no_directions a.self.now.grid.width a.self.now.grid.height a.self.now.grid.cells.now (segment_of a.self.now.g) a.cell.x a.cell.y (sym c.walks.ensures ∙ w.if-walks.false)
     ]
 
 pub returns-else-walks_south-clause-where_false : goal.returns-else-walks_south-clause-where_false
