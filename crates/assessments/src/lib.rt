@@ -85,9 +85,9 @@ impl Assessing<'_> {
         if !is_set(mask, direction.bit()) {
             return;
         }
-        let Direction { dx, dy } = direction;
-        let WalkPosition { x, y } = cell;
-        self.step(y * grid.width + x, (y + dy - 1) * grid.width + (x + dx - 1));
+        let from = grid.index(cell);
+        let to = grid.index(cell.towards(direction));
+        self.step(from, to);
     }
 }
 
@@ -98,7 +98,7 @@ impl StepVisitor for Assessing<'_> {
 
     // Which of the changes of sides are of steps, the masks say.
     fn crossed_directions(&self, walk: SpanWalk, cell: WalkPosition, changes: u16) -> u16 {
-        changes & self.masks[cell.y * walk.grid.width + cell.x]
+        changes & self.masks[walk.grid.index(cell)]
     }
 
     fn visit(&mut self, walk: SpanWalk, cell: WalkPosition, directions: u16) {

@@ -1,5 +1,5 @@
 // The grid of a map, as lent, its cells and the directions of its steps, those of `neighbors` of lib.rs.
-ghost use Rattle.std.specs.Prelude.{◌≡◌, true, ◌*◌, ◌≤◌, ◌<◌, length};
+ghost use Rattle.std.specs.Prelude.{◌≡◌, true, ◌+◌, ◌-◌, ◌*◌, ◌≤◌, ◌<◌, length};
 ghost use Rattle.definitions.specs.Grid.{at, walkable, is_step};
 ghost use Rattle.grid_steps.specs.Masks.{bit_of};
 ghost use Rattle.grid_steps.specs.Grids.{terrain_of};
@@ -39,6 +39,20 @@ impl Direction {
     }
 }
 
+impl WalkPosition {
+    // The position in a direction.
+    pub fn towards(self, direction: Direction) -> WalkPosition
+        requires whole { (1 ≤ self.x + direction.dx) × (1 ≤ self.y + direction.dy) }
+        requires small { (self.x ≤ 1024) × (self.y ≤ 1024) × (direction.dx ≤ 2) × (direction.dy ≤ 2) }
+        ensures { (result.x ≡ self.x + direction.dx - 1) × (result.y ≡ self.y + direction.dy - 1) }
+    {
+        WalkPosition {
+            x: self.x + direction.dx - 1,
+            y: self.y + direction.dy - 1,
+        }
+    }
+}
+
 // The four directions to cells of larger number.
 pub const EAST: Direction = Direction { dx: 2, dy: 1 };
 
@@ -60,6 +74,14 @@ pub const SOUTH_BIT: usize = SOUTH.dy * 3 + SOUTH.dx;
 pub const SOUTH_EAST_BIT: usize = SOUTH_EAST.dy * 3 + SOUTH_EAST.dx;
 
 impl TerrainGrid<'_> {
+    // The number of a cell, row by row from 0.
+    pub fn index(self, cell: WalkPosition) -> usize
+        requires { (self.width ≤ 1024) × (self.height ≤ 1024) × (cell.x < self.width) × (cell.y < self.height) }
+        ensures { result ≡ cell.y * self.entry.width + cell.x }
+    {
+        cell.y * self.width + cell.x
+    }
+
     // Whether cell (x, y) is walkable.
     pub fn walks(self, x: usize, y: usize) -> bool
         requires sides { (self.width ≤ 1024) × (self.height ≤ 1024) × (length self.cells.now ≡ self.height * self.width) }
