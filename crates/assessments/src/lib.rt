@@ -29,7 +29,7 @@ use span_geometry::SpanGeometry;
 // What is found of a span so far: the counts of its removed and separated edges, the end of its rows in the list of pairs, and the row of the last pair, a
 // hint that is never relied on.
 #[derive(Clone, Copy)]
-pub struct BoundaryAssessment {
+struct BoundaryAssessment {
     pub removed: u32,
     pub separated: u32,
     pub end: usize,

@@ -203,12 +203,7 @@ impl SpanWalk<'_> {
         let Direction { dx, dy } = direction;
         (inner || self.grid.is_inside(cell, direction))
             && self.grid.is_step(cell, direction)
-            && self.g.cuts(
-                x as u64,
-                y as u64,
-                (x + dx - 1) as u64,
-                (y + dy - 1) as u64,
-            )
+            && self.g.cuts(x as u64, y as u64, (x + dx - 1) as u64, (y + dy - 1) as u64)
     }
 
     // Whether the step east from a walkable cell is there and is cut. Beside a flat span most are ruled out by the first test.

@@ -17,7 +17,8 @@ fn join_pair(grid: CutGrid, parents: &mut [u32], queue: &[u32], up: usize, marke
         Forest n name parents.old →
         up + grid.entry.terrain.width + grid.entry.terrain.width ≤ n →
         EastLevel grid.entry.terrain.cells.now grid.entry.masks.now up (up + grid.entry.terrain.width) name →
-        EastLevel grid.entry.terrain.cells.now grid.entry.masks.now (up + grid.entry.terrain.width) (up + grid.entry.terrain.width + grid.entry.terrain.width) name →
+        EastLevel grid.entry.terrain.cells.now grid.entry.masks.now (up + grid.entry.terrain.width)
+        (up + grid.entry.terrain.width + grid.entry.terrain.width) name →
         PairJoined grid.entry.terrain.width grid.entry.terrain.cells.now grid.entry.masks.now n name up parents.old parents.new }
 {
     join_rows(grid, parents, queue, up);

@@ -9,6 +9,8 @@ use grid_steps::grid::{EAST_BIT, SOUTH_BIT};
 use grid_steps::{is_cut, is_walkable};
 
 // Whether a step from a cell of the row is cut. Of most rows none is.
+// Kept: `fold` and not `any(|&mask| mask != 0)`, of which, since it may end early, the compiler makes no vector code: of a row of zeros it takes eight times
+// the instructions.
 pub fn has_marks(masks: &[u16], from: usize, end: usize) -> bool
     requires { (from ≤ end) × (end ≤ length masks.now) }
     ensures { result ≡ false → Clear masks.now from end }
@@ -27,6 +29,8 @@ fn alike_rest(cells: &[u8], from: usize, end: usize, walkable: bool) -> usize
 }
 
 // The same, eight at a time while there are eight.
+// Kept: words by their number and no `as_chunks::<8>()`: what is asked for is a place in the grid, so that of chunks the number, eight cells each, and the
+// place in the chunk would be added up here again, and the place in the rest as well.
 fn alike_end(cells: &[u8], from: usize, end: usize, walkable: bool) -> usize
     requires { (from ≤ end) × (end ≤ length cells.now) }
     ensures { Until (walks_as walkable cells.now) from end result }

@@ -48,7 +48,8 @@ pub fn join_rows(grid: CutGrid, parents: &mut [u32], queue: &[u32], up: usize)
         Forest n name parents.old →
         up + grid.entry.terrain.width + grid.entry.terrain.width ≤ n →
         EastLevel grid.entry.terrain.cells.now grid.entry.masks.now up (up + grid.entry.terrain.width) name →
-        EastLevel grid.entry.terrain.cells.now grid.entry.masks.now (up + grid.entry.terrain.width) (up + grid.entry.terrain.width + grid.entry.terrain.width) name →
+        EastLevel grid.entry.terrain.cells.now grid.entry.masks.now (up + grid.entry.terrain.width)
+        (up + grid.entry.terrain.width + grid.entry.terrain.width) name →
         RowsJoined grid.entry.terrain.width grid.entry.terrain.cells.now grid.entry.masks.now n name up parents.old parents.new }
 {
     let width = grid.terrain.width;

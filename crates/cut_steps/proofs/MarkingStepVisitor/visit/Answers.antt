@@ -15,5 +15,5 @@ returns c =
     let was = a.self.now.masks.now in (
       refl,
       subst⁻¹ (λ k. Marked (walk_map a.walk) was (set was k (bit_or (get_or was k 0) a.directions)) (cell_steps a.walk a.cell)) c.index-c.ensures
-      (cell-marked c.requires.asked c.requires.directions was c.requires.is_ready),
+          (cell-marked c.requires.asked c.requires.directions was c.requires.is_ready),
     )

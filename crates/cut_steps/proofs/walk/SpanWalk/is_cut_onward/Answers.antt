@@ -13,10 +13,10 @@ pub returns-then-is_step : goal.returns-then-is_step
 returns-then-is_step c =
     let a = c.args in
     elim c.if-is_inside.branch [
-      then-is_inside w ↦
-        c.cuts.ensures
-        ∙ onward-cut (grid_of a.self.now.grid.width a.self.now.grid.height a.self.now.grid.cells.now) (segment_of a.self.now.g) (at a.cell.x a.cell.y) (at a.direction.dx a.direction.dy) (sym w.is_step.ensures ∙ sym w.value-is ∙ c.if-is_step.true) c.requires.asked.onward
-    | else-is_inside w ↦ absurd (true≢false (sym c.if-is_step.true ∙ w.value-is ∙ w.if-is_inside.false))
+      | then-is_inside w ↦
+          c.cuts.ensures
+          ∙ onward-cut (grid_of a.self.now.grid.width a.self.now.grid.height a.self.now.grid.cells.now) (segment_of a.self.now.g) (at a.cell.x a.cell.y) (at a.direction.dx a.direction.dy) (sym w.is_step.ensures ∙ sym w.value-is ∙ c.if-is_step.true) c.requires.asked.onward
+      | else-is_inside w ↦ absurd (true≢false (sym c.if-is_step.true ∙ w.value-is ∙ w.if-is_inside.false))
     ]
 
 pub returns-else-is_step : goal.returns-else-is_step
@@ -24,12 +24,12 @@ returns-else-is_step c =
     let a = c.args in
     c.if-is_step.false
     ∙ (elim c.if-is_inside.branch [
-      then-is_inside w ↦
-        blocked (grid_of a.self.now.grid.width a.self.now.grid.height a.self.now.grid.cells.now) (segment_of a.self.now.g) (at a.cell.x a.cell.y) (at a.direction.dx a.direction.dy) (sym w.is_step.ensures ∙ sym w.value-is ∙ c.if-is_step.false)
-    | else-is_inside w ↦
-        elim c.if-inner.branch [
-          then-inner v ↦ absurd (true≢false (sym v.if-inner.true ∙ sym v.value-is ∙ w.if-is_inside.false))
-        | else-inner v ↦
-            outside a.self.now.grid.width a.self.now.grid.height a.self.now.grid.cells.now (segment_of a.self.now.g) a.cell.x a.cell.y a.direction.dx a.direction.dy (v.is_inside.ensures.1 (sym v.value-is ∙ w.if-is_inside.false))
-        ]
+      | then-is_inside w ↦
+          blocked (grid_of a.self.now.grid.width a.self.now.grid.height a.self.now.grid.cells.now) (segment_of a.self.now.g) (at a.cell.x a.cell.y) (at a.direction.dx a.direction.dy) (sym w.is_step.ensures ∙ sym w.value-is ∙ c.if-is_step.false)
+      | else-is_inside w ↦
+          elim c.if-inner.branch [
+            | then-inner v ↦ absurd (true≢false (sym v.if-inner.true ∙ sym v.value-is ∙ w.if-is_inside.false))
+            | else-inner v ↦
+                outside a.self.now.grid.width a.self.now.grid.height a.self.now.grid.cells.now (segment_of a.self.now.g) a.cell.x a.cell.y a.direction.dx a.direction.dy (v.is_inside.ensures.1 (sym v.value-is ∙ w.if-is_inside.false))
+          ]
     ])

@@ -11,10 +11,10 @@ pub returns-else-not-is_far-clause-where_false : goal.returns-else-not-is_far-cl
 returns-else-not-is_far-clause-where_false c =
     let a = c.args in
     λ e. elim c.if-walks.branch [
-      then-walks w ↦
-        far-directions a.self.now.grid.width a.self.now.grid.height a.self.now.grid.cells.now (segment_of a.self.now.g) a.cell.x a.cell.y (w.is_far.ensures (not-false _ (sym w.value-is ∙ e)))
-    | else-walks w ↦
-        no_directions a.self.now.grid.width a.self.now.grid.height a.self.now.grid.cells.now (segment_of a.self.now.g) a.cell.x a.cell.y (sym c.walks.ensures ∙ w.if-walks.false)
+      | then-walks w ↦
+          far-directions a.self.now.grid.width a.self.now.grid.height a.self.now.grid.cells.now (segment_of a.self.now.g) a.cell.x a.cell.y (w.is_far.ensures (not-false _ (sym w.value-is ∙ e)))
+      | else-walks w ↦
+          no_directions a.self.now.grid.width a.self.now.grid.height a.self.now.grid.cells.now (segment_of a.self.now.g) a.cell.x a.cell.y (sym c.walks.ensures ∙ w.if-walks.false)
     ]
 
 pub returns-else-walks_south-clause-where_false : goal.returns-else-walks_south-clause-where_false

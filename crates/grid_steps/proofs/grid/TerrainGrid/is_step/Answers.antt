@@ -10,11 +10,11 @@ pub returns-then-walks-2 : goal.returns-then-walks-2
 returns-then-walks-2 c =
     let a = c.args in
     elim c.if-walks.branch [
-      then-walks w ↦
-        c.walks-then-walks-2.ensures
-        ∙ under-decides a.self.width a.self.height a.self.cells.now a.cell.x a.cell.y a.direction.dx a.direction.dy c.requires.nearby c.requires.inside c.requires.walks
-        (sym c.walks.ensures ∙ w.if-walks.true) (sym w.walks-then-walks.ensures ∙ sym w.value-is ∙ c.if-walks-2.true)
-    | else-walks w ↦ absurd (true≢false (sym c.if-walks-2.true ∙ w.value-is ∙ w.if-walks.false))
+      | then-walks w ↦
+          c.walks-then-walks-2.ensures
+          ∙ under-decides a.self.width a.self.height a.self.cells.now a.cell.x a.cell.y a.direction.dx a.direction.dy c.requires.nearby c.requires.inside c.requires.walks
+          (sym c.walks.ensures ∙ w.if-walks.true) (sym w.walks-then-walks.ensures ∙ sym w.value-is ∙ c.if-walks-2.true)
+      | else-walks w ↦ absurd (true≢false (sym c.if-walks-2.true ∙ w.value-is ∙ w.if-walks.false))
     ]
 
 pub returns-else-walks-2 : goal.returns-else-walks-2
@@ -22,8 +22,8 @@ returns-else-walks-2 c =
     let a = c.args in
     c.if-walks-2.false
     ∙ (elim c.if-walks.branch [
-      then-walks w ↦
-        side-blocked a.self.width a.self.height a.self.cells.now a.cell.x a.cell.y a.direction.dx a.direction.dy (sym w.walks-then-walks.ensures ∙ sym w.value-is ∙ c.if-walks-2.false)
-    | else-walks w ↦
-        far-blocked a.self.width a.self.height a.self.cells.now a.cell.x a.cell.y a.direction.dx a.direction.dy (sym c.walks.ensures ∙ w.if-walks.false)
+      | then-walks w ↦
+          side-blocked a.self.width a.self.height a.self.cells.now a.cell.x a.cell.y a.direction.dx a.direction.dy (sym w.walks-then-walks.ensures ∙ sym w.value-is ∙ c.if-walks-2.false)
+      | else-walks w ↦
+          far-blocked a.self.width a.self.height a.self.cells.now a.cell.x a.cell.y a.direction.dx a.direction.dy (sym c.walks.ensures ∙ w.if-walks.false)
     ])
