@@ -17,7 +17,7 @@ ghost use Rattle.assessments.specs.Assess.{nothing, max_edges, Counting, Assesse
 ghost use Rattle.assessments.specs.Assessing.{Keeps, CountingIn, AssessesIn, AssessReady, AssessVisited, assess_laws};
 ghost use Rattle.assessments.specs.Contract.{AssessAsked, SpansAssessed};
 
-use ascending_rows::{Rows, put_pair};
+use ascending_rows::put_pair;
 use cut_steps::span_of;
 use cut_steps::walk::{SpanWalk, StepVisitor, walk_span};
 use definitions::limits::{NUMBERS_PER_PAIR, NUMBERS_PER_SPAN, TALLIES_PER_SPAN};
@@ -29,7 +29,7 @@ use span_geometry::SpanGeometry;
 // What is found of a span so far: the counts of its removed and separated edges, the end of its rows in the list of pairs, and the row of the last pair, a
 // hint that is never relied on.
 #[derive(Clone, Copy)]
-pub struct BoundaryAssessment {
+struct BoundaryAssessment {
     pub removed: u32,
     pub separated: u32,
     pub end: usize,
@@ -66,10 +66,7 @@ impl Assessing<'_> {
             lo: left.min(right),
             hi: left.max(right),
         };
-        let rows = Rows {
-            first: self.first,
-            end: self.found.end,
-        };
+        let rows = self.first..self.found.end;
         let put = put_pair(self.pairs, rows, self.found.row, self.span, pair);
         self.found.separated += 1;
         self.found.end = put.end;
@@ -88,9 +85,9 @@ impl Assessing<'_> {
         if !is_set(mask, direction.bit()) {
             return;
         }
-        let Direction { dx, dy } = direction;
-        let WalkPosition { x, y } = cell;
-        self.step(y * grid.width + x, (y + dy - 1) * grid.width + (x + dx - 1));
+        let from = grid.index(cell);
+        let to = grid.index(cell.towards(direction));
+        self.step(from, to);
     }
 }
 
@@ -101,7 +98,7 @@ impl StepVisitor for Assessing<'_> {
 
     // Which of the changes of sides are of steps, the masks say.
     fn crossed_directions(&self, walk: SpanWalk, cell: WalkPosition, changes: u16) -> u16 {
-        changes & self.masks[cell.y * walk.grid.width + cell.x]
+        changes & self.masks[walk.grid.index(cell)]
     }
 
     fn visit(&mut self, walk: SpanWalk, cell: WalkPosition, directions: u16) {

@@ -8,13 +8,15 @@ pub mod incidents;
 pub mod pairs;
 pub mod records;
 pub mod region_marks;
-pub mod runs;
+mod runs;
+
+use definitions::limits::MAX_ENTRIES;
 
 // How far the corners of a region that is approached may be from a boundary's center, in pixels, as passes 1 and 2 ask it.
 pub const MAX_APPROACH_RADIUS: f64 = 512.0;
 
-// The record of a region, as RegionStats of context.rs: SPECIFICATION 9; its ramp cells are counted. Edges are in pixels; bit e of `elevations` says that a
-// cell has elevation e.
+// The record of a region, as RegionStats of context.rs: SPECIFICATION 9, and with it how many of its cells are ramp cells. Edges are in pixels; bit e of
+// `elevations` says that a cell has elevation e.
 #[repr(C)]
 #[derive(Clone, Copy)]
 pub struct Region {
@@ -35,6 +37,6 @@ pub struct PartitionContext<'a> {
     pub boundaries: &'a [u64],
     pub tallies: &'a [u32],
     pub pairs: &'a [u32],
-    pub starts: &'a [usize; 257],
+    pub starts: &'a [usize; MAX_ENTRIES + 1],
     pub count: usize,
 }

@@ -7,7 +7,7 @@ ghost use Rattle.context.specs.Shown.{ShownTallies, ShownPairs, ShownFullPairs};
 ghost use Rattle.context.specs.Rows.{PairRows, SpanEnd, Stretch};
 
 use crate::PartitionContext;
-use definitions::limits::{NUMBERS_PER_PAIR, TALLIES_PER_SPAN};
+use definitions::limits::{MAX_ENTRIES, NUMBERS_PER_PAIR, TALLIES_PER_SPAN};
 pub use region_pairs::{Pair, row_at};
 use std::ops::Range;
 
@@ -23,7 +23,7 @@ fn span_end(pairs: &[u32], rows: usize, first: usize, span: usize) -> usize
 }
 
 // The first row of each span, and the end of the last.
-pub fn pair_starts(pairs: &[u32], rows: usize, count: usize, starts: &mut [usize; 257])
+pub fn pair_starts(pairs: &[u32], rows: usize, count: usize, starts: &mut [usize; MAX_ENTRIES + 1])
     requires pairs_room { numbers_per_pair * rows ≤ length pairs.now }
     requires sizes { (count ≤ max_entries) × (length starts.old ≡ max_entries + 1) }
     ensures { (C : Context) → PairRows C pairs.now rows count → ShownPairs C pairs.now starts.new }
@@ -72,7 +72,7 @@ impl PartitionContext<'_> {
     }
 
     // The full pair of each boundary.
-    pub fn full_pairs(self, full: &mut [Option<Pair>; 256])
+    pub fn full_pairs(self, full: &mut [Option<Pair>; MAX_ENTRIES])
         requires sizes { (self.count ≤ max_entries) × (tallies_per_span * self.count ≤ length self.tallies.now) }
         requires room { length full.old ≡ max_entries }
         requires stretches { (i : ℕ) → i < self.count → Stretch self.pairs.now self.starts.now i }

@@ -39,8 +39,8 @@ pub fn run_counts(run: &[u8]) -> RunCounts
     RunCounts { ramps, elevations }
 }
 
-// 1 where there is one, else 0.
-fn some(count: usize) -> u8
+// 1 where a cell is counted, else 0.
+fn any_bit(count: usize) -> u8
     ensures { (result ≡ bit (ltb 0 count)) × (result ≤ 1) }
 {
     u8::from(count > 0)
@@ -50,7 +50,7 @@ fn some(count: usize) -> u8
 pub fn mask_of(counts: [usize; 4]) -> u8
     ensures { result ≡ mask_of (λ e. ltb 0 (get_or counts e 0)) }
 {
-    some(counts[0]) + 2 * some(counts[1]) + 4 * some(counts[2]) + 8 * some(counts[3])
+    any_bit(counts[0]) + 2 * any_bit(counts[1]) + 4 * any_bit(counts[2]) + 8 * any_bit(counts[3])
 }
 
 pub fn sums(old: [usize; 4], more: [usize; 4]) -> [usize; 4]

@@ -2,6 +2,7 @@
 -- of sides (`crossing_at`, `unchanged`), and the four of them joined (`column-crossed`). Assumes nothing.
 use Prim.Native.Nat.{ℕ, ◌+◌, ◌-◌, ◌≤◌, ◌<◌}
 use native.Mathlib.Omega.{arith}
+use Rattle.std.specs.Prelude.{Option, None, Some}
 use mathlib.Core.Path.{◌≡◌, refl, sym, ap, ◌∙◌, subst, subst⁻¹}
 use mathlib.Core.Bool.{Bool, true, false, ◌&&◌, cond}
 use mathlib.Core.List.{List, [], ◌++◌}
@@ -31,6 +32,18 @@ use Rattle.cut_steps.proofs.Marks.{no_cut}
 
 pub is_placed_as : (t : Strip) (w h b : ℕ) {n : ℕ} {r v : Bool} → n ≡ cond t.columns h w → r ≡ (leb 2 b && ltb (b - 2) n) → r ≡ v → (leb 2 b && ltb (b - 2) (minor_side t w h)) ≡ v
 is_placed_as t w h b e f g = ap (λ n. leb 2 b && ltb (b - 2) n) (sym e) ∙ sym f ∙ g
+
+-- what `place_before` answers
+none_some : {m : ℕ} → None ≡ Some m → ⊥
+none_some e = let z : ◌≡◌ {A = ℕ} 0 1 = cc in omega arith
+
+pub is_placed : (v : Bool) (x m : ℕ) {r : Option ℕ} → r ≡ cond v (Some x) None → r ≡ Some m → (v ≡ true) × (m ≡ x)
+is_placed true x m e f = (refl, ap (λ o. elim o [ None ↦ m | Some y ↦ y ]) (sym f ∙ e))
+is_placed false x m e f = absurd (none_some (sym e ∙ f))
+
+pub not_placed : (v : Bool) (x : ℕ) {r : Option ℕ} → r ≡ cond v (Some x) None → ((m : ℕ) → r ≡ Some m → ⊥) → v ≡ false
+not_placed true x e f = absurd (f x e)
+not_placed false x e f = refl
 
 placed : (b limit : ℕ) → (leb 2 b && ltb (b - 2) limit) ≡ true → (2 ≤ b) × (b - 2 < limit)
 placed b limit e =

@@ -58,23 +58,12 @@ fn is_far_eastward(g: SpanGeometry, cell: WalkPosition) -> bool
     exceeds(side_of(g, cell), PIXELS_PER_WALK_CELL * (g.max_y - g.min_y))
 }
 
-// Whether the cell (x, y) of the grid is walkable.
-fn is_walkable(grid: TerrainGrid, x: usize, y: usize) -> bool
-    requires { InGrid grid.width grid.height grid.cells.now x y }
-    ensures { result ≡ walkable (terrain_of grid.entry) (at x y) }
-{
-    grid_steps::is_walkable(grid.cells[y * grid.width + x])
-}
-
 // Whether the cell south of a cell is there and walkable. Every step to the next row asks for it.
 fn walks_south(grid: TerrainGrid, cell: WalkPosition) -> bool
     requires { InGrid grid.width grid.height grid.cells.now cell.x cell.y }
     ensures { result ≡ walkable (terrain_of grid.entry) (at cell.x (cell.y + 1)) }
 {
-    if grid.height <= cell.y + 1 {
-        return false;
-    }
-    is_walkable(grid, cell.x, cell.y + 1)
+    cell.y + 1 < grid.height && grid.walks(cell.x, cell.y + 1)
 }
 
 // The value where the test holds, else 0.
@@ -109,11 +98,11 @@ fn steps_inside(grid: TerrainGrid, cell: WalkPosition) -> u16
     ensures { result ≡ steps_onward (terrain_of grid.entry) (at cell.x cell.y) }
 {
     let WalkPosition { x, y } = cell;
-    let east = is_walkable(grid, x + 1, y);
-    let south = is_walkable(grid, x, y + 1);
-    let west = is_walkable(grid, x - 1, y);
-    let south_west = is_walkable(grid, x - 1, y + 1);
-    let south_east = is_walkable(grid, x + 1, y + 1);
+    let east = grid.walks(x + 1, y);
+    let south = grid.walks(x, y + 1);
+    let west = grid.walks(x - 1, y);
+    let south_west = grid.walks(x - 1, y + 1);
+    let south_east = grid.walks(x + 1, y + 1);
     onward_mask(
         east,
         south_west & west & south,
@@ -128,10 +117,7 @@ fn is_there(grid: TerrainGrid, cell: WalkPosition, direction: Direction) -> bool
     requires near { (direction.dx ≤ 2) × (direction.dy ≤ 2) }
     ensures { result ≡ is_step (terrain_of grid.entry) (at cell.x cell.y) (at direction.dx direction.dy) }
 {
-    if !grid.is_inside(false, cell, direction) {
-        return false;
-    }
-    grid.is_step(cell, direction)
+    grid.is_inside(cell, direction) && grid.is_step(cell, direction)
 }
 
 // The steps from a walkable cell to cells of larger number, a bit for each.
@@ -166,13 +152,11 @@ fn column_word(back: usize) -> u64
     requires { back ≤ 3 }
     ensures { SideWord true back result }
 {
-    if back <= 1 {
-        return ABOVE_BEFORE;
+    match back {
+        0 | 1 => ABOVE_BEFORE,
+        2 => LEVEL_BEFORE,
+        _ => BELOW_BEFORE,
     }
-    if back <= 2 {
-        return LEVEL_BEFORE;
-    }
-    BELOW_BEFORE
 }
 
 // The word of changes of sides.
@@ -181,9 +165,10 @@ fn side_word(columns: bool, back: usize) -> u64
     ensures { SideWord columns back result }
 {
     if columns {
-        return column_word(back);
+        column_word(back)
+    } else {
+        ALONG_ROWS
     }
-    ALONG_ROWS
 }
 
 // Which steps to cells of larger number change sides, a bit for each, from the cell that is j - 2 beyond the first place past the line in its column,
@@ -203,16 +188,9 @@ impl SpanWalk<'_> {
         ensures where_true { result ≡ true → walkable (walk_map self.now) (at cell.x cell.y) ≡ true }
         ensures where_false { result ≡ false → CutIn self.now cell 0 }
     {
-        if !is_walkable(self.grid, cell.x, cell.y) {
-            return false;
-        }
-        if is_far(self.g, cell) {
-            return false;
-        }
-        if walks_south(self.grid, cell) {
-            return true;
-        }
-        !is_far_eastward(self.g, cell)
+        self.grid.walks(cell.x, cell.y)
+            && !is_far(self.g, cell)
+            && (walks_south(self.grid, cell) || !is_far_eastward(self.g, cell))
     }
 
     // Whether the step from a walkable cell in a direction to cells of larger number is there and is cut.
@@ -221,19 +199,11 @@ impl SpanWalk<'_> {
         requires inner_cell { inner ≡ true → Inner self.now.grid.width self.now.grid.height cell.x cell.y }
         ensures { result ≡ is_cut_onward (walk_map self.now) (segment_of self.now.g) (at cell.x cell.y) (at direction.dx direction.dy) }
     {
-        if !self.grid.is_inside(inner, cell, direction) {
-            return false;
-        }
-        if !self.grid.is_step(cell, direction) {
-            return false;
-        }
         let WalkPosition { x, y } = cell;
-        self.g.cuts(
-            x as u64,
-            y as u64,
-            (x + direction.dx - 1) as u64,
-            (y + direction.dy - 1) as u64,
-        )
+        let Direction { dx, dy } = direction;
+        (inner || self.grid.is_inside(cell, direction))
+            && self.grid.is_step(cell, direction)
+            && self.g.cuts(x as u64, y as u64, (x + dx - 1) as u64, (y + dy - 1) as u64)
     }
 
     // Whether the step east from a walkable cell is there and is cut. Beside a flat span most are ruled out by the first test.
@@ -242,10 +212,7 @@ impl SpanWalk<'_> {
         requires inner_cell { inner ≡ true → Inner self.now.grid.width self.now.grid.height cell.x cell.y }
         ensures { result ≡ is_cut_onward (walk_map self.now) (segment_of self.now.g) (at cell.x cell.y) (at 2 1) }
     {
-        if is_far_eastward(self.g, cell) {
-            return false;
-        }
-        self.is_cut_onward(inner, cell, EAST)
+        !is_far_eastward(self.g, cell) && self.is_cut_onward(inner, cell, EAST)
     }
 
     // The directions of a walkable cell in which a step leads to a cell of larger number and is cut, a bit for each.
@@ -270,7 +237,7 @@ impl SpanWalk<'_> {
         requires crossed { Crossed (segment_of self.now.g) (at cell.x cell.y) changes }
         ensures { CutIn self.now cell result }
     {
-        if !is_walkable(self.grid, cell.x, cell.y) {
+        if !self.grid.walks(cell.x, cell.y) {
             return 0;
         }
         changes & steps_onward(self.grid, cell)

@@ -39,8 +39,8 @@ impl StepVisitor for Marking<'_> {
 
     // Each cut step has its bit at this cell, the smaller of its two.
     fn visit(&mut self, walk: SpanWalk, cell: WalkPosition, directions: u16) {
-        let c = cell.y * walk.grid.width + cell.x;
-        self.masks[c] = self.masks[c] | directions;
+        let c = walk.grid.index(cell);
+        self.masks[c] |= directions;
     }
 
     ghost laws = { mark_laws };

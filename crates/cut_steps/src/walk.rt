@@ -1,6 +1,6 @@
 // The walk of the cut steps of a span: columns, or rows, one after the other, and in each the cells near the span's line. What is done with the cut steps of a
 // cell, a `StepVisitor` says: they are marked (`Marking`), or assessed by a crate above.
-ghost use Rattle.std.specs.Prelude.{◌≡◌, ◌&&◌, cond, ◌+◌, ◌-◌, ◌*◌, ◌≤◌, ◌<◌, List, leb, ltb, ℕ};
+ghost use Rattle.std.specs.Prelude.{◌≡◌, ◌&&◌, cond, Some, None, ◌+◌, ◌-◌, ◌*◌, ◌≤◌, ◌<◌, List, leb, ltb, ℕ};
 ghost use Rattle.definitions.specs.Limits.{max_side};
 ghost use Rattle.definitions.specs.Grid.{Map, Pair, at};
 ghost use Rattle.span_geometry.specs.Shapes.{segment_of};
@@ -119,14 +119,11 @@ fn walk_column<V: StepVisitor>(walk: SpanWalk, visitor: &mut V, k: usize)
     }
 }
 
-// Whether there is a place at two less than `beyond`, below the limit.
-fn is_placed(beyond: usize, limit: usize) -> bool
-    ensures { result ≡ (leb 2 beyond && ltb (beyond - 2) limit) }
+// The place two before `beyond`, where there is one and it is below the limit.
+fn place_before(beyond: usize, limit: usize) -> Option<usize>
+    ensures { result ≡ cond (leb 2 beyond && ltb (beyond - 2) limit) (Some (beyond - 2)) None }
 {
-    if beyond < 2 {
-        return false;
-    }
-    beyond - 2 < limit
+    beyond.checked_sub(2).filter(|&m| m < limit)
 }
 
 // Visits the cut steps of the cell at `beyond` - 2 across column, or row, k, if there is one. Its changes of sides are given. Whether the strip goes by columns
@@ -148,10 +145,10 @@ fn walk_across<V: StepVisitor, const COLUMNS: bool>(
     if changes == 0 {
         return;
     }
-    if !is_placed(beyond, walk.breadth(COLUMNS)) {
+    let Some(m) = place_before(beyond, walk.breadth(COLUMNS)) else {
         return;
-    }
-    let cell = walk.cell(COLUMNS, k, beyond - 2);
+    };
+    let cell = walk.cell(COLUMNS, k, m);
     let directions = visitor.crossed_directions(walk, cell, changes);
     visitor.visit(walk, cell, directions);
 }
@@ -195,9 +192,9 @@ fn walk_between<V: StepVisitor, const COLUMNS: bool>(
     let strip = walk.strip;
     let tie = tie_of(walk.g, strip);
     let mut before = first_place(strip, tie, from as u64 - 1);
-    let mut here = next_place(strip, tie, from as u64 - 1, before);
+    let mut here = next_place(strip, before);
     for k in from..to {
-        let after = next_place(strip, tie, k as u64, here);
+        let after = next_place(strip, here);
         walk_crossing::<V, COLUMNS>(
             walk,
             visitor,
@@ -245,12 +242,11 @@ fn part_end(parts: Parts, k: usize) -> usize
     requires { k < max_side }
     ensures { EndsPart parts.from parts.to k result }
 {
-    if k == parts.from {
-        if k < parts.to {
-            return parts.to;
-        }
+    if k == parts.from && k < parts.to {
+        parts.to
+    } else {
+        k + 1
     }
-    k + 1
 }
 
 // Visits the cut steps of a part: by the line between the span's ends, and of a single column, or row, those of every candidate.

@@ -13,7 +13,7 @@ pub struct Share {
     pub remainder: usize,
 }
 
-// The elevation of most cells, and the share of its count, which no cells have none of; `share_form` of specs/Forms.antt gives what it says.
+// The elevation of most cells, and the share of all cells that have it, or none where there are no cells; `share_form` of specs/Forms.antt gives what it says.
 #[derive(Clone, Copy, PartialEq, Eq)]
 pub struct Dominance {
     pub elevation: usize,

@@ -61,31 +61,15 @@ module _ (w h : ℕ) (cells : List ℕ) where
   walkable_at_lem x y a b = rw (lt-ltb x w a, lt-ltb y h b) refl
 
   module _ (x y dx dy : ℕ) where
-    pub far-blocked : is_walkable (get_or cells ((y + dy - 1) * w + (x + dx - 1)) 0) ≡ false → false ≡ is_step (grid_of w h cells) (at x y) (at dx dy)
-    far-blocked n = not_step (grid_of w h cells) (at x y) (at dx dy) (λ f. true≢false (sym (walkable_in (grid_of w h cells) _ f.far).walks ∙ n))
+    pub far-blocked : walkable (grid_of w h cells) (at (x + dx - 1) (y + dy - 1)) ≡ false → false ≡ is_step (grid_of w h cells) (at x y) (at dx dy)
+    far-blocked n = not_step (grid_of w h cells) (at x y) (at dx dy) (λ f. true≢false (sym f.far ∙ n))
 
-    pub side-blocked : is_walkable (get_or cells (y * w + (x + dx - 1)) 0) ≡ false → false ≡ is_step (grid_of w h cells) (at x y) (at dx dy)
-    side-blocked n = not_step (grid_of w h cells) (at x y) (at dx dy) (λ f. true≢false (sym (walkable_in (grid_of w h cells) _ f.side).walks ∙ n))
+    pub side-blocked : walkable (grid_of w h cells) (at (x + dx - 1) y) ≡ false → false ≡ is_step (grid_of w h cells) (at x y) (at dx dy)
+    side-blocked n = not_step (grid_of w h cells) (at x y) (at dx dy) (λ f. true≢false (sym f.side ∙ n))
 
-    pub under-decides : Nearby w h x y dx dy → Inside w h x y dx dy → walkable (grid_of w h cells) (at x y) ≡ true → is_walkable (get_or cells ((y + dy - 1) * w + (x + dx - 1)) 0) ≡ true → is_walkable (get_or cells (y * w + (x + dx - 1)) 0) ≡ true → is_walkable (get_or cells ((y + dy - 1) * w + x) 0) ≡ is_step (grid_of w h cells) (at x y) (at dx dy)
+    pub under-decides : Nearby w h x y dx dy → Inside w h x y dx dy → walkable (grid_of w h cells) (at x y) ≡ true → walkable (grid_of w h cells) (at (x + dx - 1) (y + dy - 1)) ≡ true → walkable (grid_of w h cells) (at (x + dx - 1) y) ≡ true → walkable (grid_of w h cells) (at x (y + dy - 1)) ≡ is_step (grid_of w h cells) (at x y) (at dx dy)
     unfolding is_step
-    under-decides N I near far side =
-        rw (
-          le-leb dx 2 N.near_x,
-          le-leb dy 2 N.near_y,
-          le-leb 1 (x + dx) I.left,
-          le-leb 1 (y + dy) I.up,
-          walkable_at_lem (x + dx - 1) (y + dy - 1) x_in y_in ∙ far,
-          near,
-          walkable_at_lem (x + dx - 1) y x_in N.in_y ∙ side,
-        )
-        (sym (walkable_at_lem x (y + dy - 1) N.in_x y_in))
-      where
-        x_in : x + dx - 1 < w
-        x_in = omega (arith, I.left, I.right)
-
-        y_in : y + dy - 1 < h
-        y_in = omega (arith, I.up, I.down)
+    under-decides N I near far side = rw (le-leb dx 2 N.near_x, le-leb dy 2 N.near_y, le-leb 1 (x + dx) I.left, le-leb 1 (y + dy) I.up, far, near, side) refl
 
 -- ---- the position of a cell
 

@@ -12,8 +12,9 @@ ghost use Rattle.grid_steps.specs.Inner.{placed};
 
 // The eight directions, in the order of `neighbors` of lib.rs, the first in the lowest byte: 1, 3, 5, 7, 0, 2, 6, 8. Each is its place in the three by three
 // square around the cell, row by row from 0, which is also its bit in a mask of cut steps.
-// Kept: one word and no array of eight places, with which a walk over the steps took twice the instructions (docs/REQUESTS.md, request 5). No walk of this
-// library reads it today; `place_at` stays for whoever walks all eight, since docs/DECISIONS.md and the promise `directions_as_bytes` tell of it.
+// Kept: one word and no array of eight places, with which a walk over the steps took twice the instructions (docs/REQUESTS.md, request 5); and kept though the
+// walks of this library ask for four steps by name: the promise `directions_as_bytes` speaks of this word, and only here is it code that is checked against it
+// (must-fail/two_directions_exchanged): without `place_at` the promise would be one of a number that stands in no code.
 const DIRECTIONS: u64 = 0x08_06_02_00_07_05_03_01;
 
 // The place of direction d.

@@ -34,6 +34,13 @@ pub record Crossing (t : Strip) (tie k m rest : ℕ) : Type 0 where
 abbrev pub Gentle : Strip → Type 0
 Gentle t = distance_between t.minor0 t.minor1 ≤ run_of t
 
+-- m and `rest` are those of column, or row, k, and the next is between the ends as well
+pub record NextAsked (t : Strip) (tie k m rest : ℕ) : Type 0 where
+  pub few : tie ≤ 1
+  pub here : Between t k
+  pub next : Between t (k + 1)
+  pub crossing : Crossing t tie k m rest
+
 -- two first places that follow one another differ by one at most
 pub record Close (m n : ℕ) : Type 0 where
   pub up : n ≤ m + 1

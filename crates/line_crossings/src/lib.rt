@@ -2,11 +2,11 @@
 
 #![tactic(auto)]
 
-ghost use Rattle.std.specs.Prelude.{◌≡◌, ◌+◌, ◌≤◌, ◌<◌};
+ghost use Rattle.std.specs.Prelude.{◌≡◌, ℕ, ◌+◌, ◌≤◌, ◌<◌};
 ghost use Rattle.definitions.specs.Limits.{max_side};
 ghost use Rattle.span_geometry.specs.Shapes.{segment_of};
 ghost use Rattle.span_geometry.specs.Strips.{Usable, strip_of};
-ghost use Rattle.line_crossings.specs.Crossings.{Between, tie_of, Crossing, Gentle, Close};
+ghost use Rattle.line_crossings.specs.Crossings.{Between, tie_of, Crossing, NextAsked, Gentle, Close};
 
 use definitions::limits::PIXELS_PER_WALK_CELL;
 use span_geometry::SpanGeometry;
@@ -44,11 +44,11 @@ pub fn first_place(strip: Strip, tie: u64, k: u64) -> Place
     }
 }
 
-// The first place past the line in column, or row, k + 1, from that of k.
-pub fn next_place(strip: Strip, tie: u64, k: u64, place: Place) -> Place
-    requires line { Usable strip × Gentle strip × (tie ≤ 1) }
-    requires between { Between strip k × Between strip (k + 1) × Crossing strip tie k place.first place.rest }
-    ensures crossing { Crossing strip tie (k + 1) result.first result.rest }
+// The first place past the line in the next column, or row, from that of a column, or row, before it.
+pub fn next_place(strip: Strip, place: Place) -> Place
+    requires line { Usable strip × Gentle strip }
+    requires some { (tie k : ℕ) × NextAsked strip tie k place.first place.rest }
+    ensures crossing { (tie k : ℕ) → NextAsked strip tie k place.first place.rest → Crossing strip tie (k + 1) result.first result.rest }
     ensures close { Close place.first result.first }
 {
     let step = PIXELS_PER_WALK_CELL * (strip.major1 - strip.major0);

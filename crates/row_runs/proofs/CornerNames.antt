@@ -35,21 +35,12 @@ module _ (w : ℕ) (cells : List ℕ) (c : ℕ) where
   unfolding is_square
   square-whole a b d e = ap₂ ◌&&◌ (ap₂ ◌&&◌ (ap₂ ◌&&◌ a b) d) e
 
-  pub square_first : walks cells c ≡ false → false ≡ is_square w cells c
-  unfolding is_square
-  square_first e = sym (ap (λ b. b && walks cells (c + 1) && walks cells (c + w) && walks cells (c + w + 1)) e)
+-- tests joined one after the other: where those before hold the next decides, and where they do not it is not asked
+pub test-passed : {x v r : Bool} (y : Bool) → x ≡ true → v ≡ r → r ≡ y → v ≡ (x && y)
+test-passed y e f g = f ∙ g ∙ sym (ap (λ b. b && y) e)
 
-  pub square-second : walks cells c ≡ true → walks cells (c + 1) ≡ false → false ≡ is_square w cells c
-  unfolding is_square
-  square-second a e = sym (ap₂ (λ x b. x && b && walks cells (c + w) && walks cells (c + w + 1)) a e)
-
-  pub square-third : walks cells c ≡ true → walks cells (c + 1) ≡ true → walks cells (c + w) ≡ false → false ≡ is_square w cells c
-  unfolding is_square
-  square-third a b e = sym (ap₂ (λ x y. x && y && walks cells (c + w + 1)) (ap₂ ◌&&◌ a b) e)
-
-  pub square_last : walks cells c ≡ true → walks cells (c + 1) ≡ true → walks cells (c + w) ≡ true → (r : Bool) → r ≡ walks cells (c + w + 1) → r ≡ is_square w cells c
-  unfolding is_square
-  square_last a b d r e = e ∙ sym (ap (λ x. x && walks cells (c + w + 1)) (ap₂ ◌&&◌ (ap₂ ◌&&◌ a b) d))
+pub test_failed : {x v r : Bool} (y : Bool) → r ≡ x → r ≡ false → v ≡ r → v ≡ (x && y)
+test_failed y e f g = g ∙ f ∙ sym (ap (λ b. b && y) (sym e ∙ f))
 
 -- ---- a square without marks
 

@@ -12,13 +12,14 @@ use crate::south::join_rows;
 
 // The rows from `up` and from `up` + `width` on. Where no step from the upper row is cut, its straight steps have joined the diagonal ones already.
 fn join_pair(grid: CutGrid, parents: &mut [u32], queue: &[u32], up: usize, marked: bool)
-    requires { PairAsked grid.width grid.cells.now grid.masks.now parents.old queue.now up marked }
+    requires { PairAsked grid.terrain.width grid.terrain.cells.now grid.masks.now parents.old queue.now up marked }
     ensures { (n : ℕ) (name : ℕ → ℕ) →
         Forest n name parents.old →
-        up + grid.entry.width + grid.entry.width ≤ n →
-        EastLevel grid.entry.cells.now grid.entry.masks.now up (up + grid.entry.width) name →
-        EastLevel grid.entry.cells.now grid.entry.masks.now (up + grid.entry.width) (up + grid.entry.width + grid.entry.width) name →
-        PairJoined grid.entry.width grid.entry.cells.now grid.entry.masks.now n name up parents.old parents.new }
+        up + grid.entry.terrain.width + grid.entry.terrain.width ≤ n →
+        EastLevel grid.entry.terrain.cells.now grid.entry.masks.now up (up + grid.entry.terrain.width) name →
+        EastLevel grid.entry.terrain.cells.now grid.entry.masks.now (up + grid.entry.terrain.width)
+        (up + grid.entry.terrain.width + grid.entry.terrain.width) name →
+        PairJoined grid.entry.terrain.width grid.entry.terrain.cells.now grid.entry.masks.now n name up parents.old parents.new }
 {
     join_rows(grid, parents, queue, up);
     if !marked {
@@ -29,32 +30,32 @@ fn join_pair(grid: CutGrid, parents: &mut [u32], queue: &[u32], up: usize, marke
 
 // Row y, where the rows before it are joined. Whether the row above has marks is known; the result says it of row y.
 fn join_row(grid: CutGrid, parents: &mut [u32], queue: &mut [u32], y: usize, above: bool) -> bool
-    requires { RowAsked grid.width grid.cells.now grid.masks.now parents.old queue.old y above }
+    requires { RowAsked grid.terrain.width grid.terrain.cells.now grid.masks.now parents.old queue.old y above }
     ensures { (n : ℕ) →
-        y * grid.entry.width + grid.entry.width ≤ n →
-        Done grid.entry.width n y above grid.entry.cells.now grid.entry.masks.now parents.old queue.old →
-        RowDone grid.entry.width n y result grid.entry.cells.now grid.entry.masks.now parents.old queue.old
+        y * grid.entry.terrain.width + grid.entry.terrain.width ≤ n →
+        Done grid.entry.terrain.width n y above grid.entry.terrain.cells.now grid.entry.masks.now parents.old queue.old →
+        RowDone grid.entry.terrain.width n y result grid.entry.terrain.cells.now grid.entry.masks.now parents.old queue.old
         parents.new queue.new }
 {
-    let from = y * grid.width;
-    let end = from + grid.width;
+    let from = y * grid.terrain.width;
+    let end = from + grid.terrain.width;
     let marked = has_marks(grid.masks, from, end);
     scan_row(grid, parents, queue, from, end, marked);
     if y == 0 {
         return marked;
     }
-    join_pair(grid, parents, &*queue, from - grid.width, above);
+    join_pair(grid, parents, &*queue, from - grid.terrain.width, above);
     marked
 }
 
 // All rows. Parents lead to one name for the cells that uncut steps join; the queue has the stretches of each row.
-pub fn join_cells(grid: CutGrid, height: usize, parents: &mut [u32], queue: &mut [u32])
-    requires { CellsAsked grid.width height grid.cells.now grid.masks.now parents.old queue.old }
-    ensures { CellsJoined grid.entry.width height grid.entry.cells.now grid.entry.masks.now parents.old queue.old
+pub fn join_cells(grid: CutGrid, parents: &mut [u32], queue: &mut [u32])
+    requires { CellsAsked grid.terrain.width grid.terrain.height grid.terrain.cells.now grid.masks.now parents.old queue.old }
+    ensures { CellsJoined grid.entry.terrain.width grid.entry.terrain.height grid.entry.terrain.cells.now grid.entry.masks.now parents.old queue.old
         parents.new queue.new }
 {
     let mut marked = false;
-    for y in 0..height {
+    for y in 0..grid.terrain.height {
         marked = join_row(grid, parents, queue, y, marked);
     }
 }

@@ -6,7 +6,7 @@ ghost use Rattle.row_runs.specs.South.{SouthLevel};
 ghost use Rattle.row_runs.specs.Corners.{is_square, StepAsked, StepJoined, CornersAsked, CornersJoined, DiagonalsAsked, DiagonalsJoined};
 
 use crate::grid::CutGrid;
-use grid_steps::grid::{SOUTH_EAST_BIT, SOUTH_WEST_BIT};
+use grid_steps::grid::{SOUTH_EAST_BIT, SOUTH_WEST_BIT, TerrainGrid};
 use grid_steps::{is_cut, is_walkable};
 use parents::join;
 
@@ -20,20 +20,14 @@ fn is_plain(masks: &[u16], c: usize) -> bool
 
 // Whether the four cells of the square whose upper left is c are walkable.
 fn is_square(grid: CutGrid, c: usize) -> bool
-    requires { c + grid.width + 1 < length grid.cells.now }
-    ensures { result ≡ is_square grid.entry.width grid.entry.cells.now c }
+    requires { c + grid.terrain.width + 1 < length grid.terrain.cells.now }
+    ensures { result ≡ is_square grid.entry.terrain.width grid.entry.terrain.cells.now c }
 {
-    let CutGrid { width, cells, .. } = grid;
-    if !is_walkable(cells[c]) {
-        return false;
-    }
-    if !is_walkable(cells[c + 1]) {
-        return false;
-    }
-    if !is_walkable(cells[c + width]) {
-        return false;
-    }
-    is_walkable(cells[c + width + 1])
+    let TerrainGrid { width, cells, .. } = grid.terrain;
+    is_walkable(cells[c])
+        && is_walkable(cells[c + 1])
+        && is_walkable(cells[c + width])
+        && is_walkable(cells[c + width + 1])
 }
 
 // Joins a and b, the cells of the step with bit k of a's mask, where it is not cut.
@@ -53,11 +47,11 @@ fn join_step(masks: &[u16], parents: &mut [u32], a: usize, k: usize, b: usize)
 
 // The two diagonal steps of the square whose upper left is c.
 fn join_corners(grid: CutGrid, parents: &mut [u32], c: usize)
-    requires { CornersAsked grid.width grid.cells.now grid.masks.now parents.old c }
+    requires { CornersAsked grid.terrain.width grid.terrain.cells.now grid.masks.now parents.old c }
     ensures { (n : ℕ) (name : ℕ → ℕ) →
         Forest n name parents.old →
-        c + grid.entry.width + 1 < n →
-        CornersJoined grid.entry.width grid.entry.cells.now grid.entry.masks.now n name c parents.old parents.new }
+        c + grid.entry.terrain.width + 1 < n →
+        CornersJoined grid.entry.terrain.width grid.entry.terrain.cells.now grid.entry.masks.now n name c parents.old parents.new }
 {
     if is_plain(grid.masks, c) {
         return;
@@ -65,22 +59,22 @@ fn join_corners(grid: CutGrid, parents: &mut [u32], c: usize)
     if !is_square(grid, c) {
         return;
     }
-    let below = c + grid.width;
+    let below = c + grid.terrain.width;
     join_step(grid.masks, parents, c, SOUTH_EAST_BIT, below + 1);
     join_step(grid.masks, parents, c + 1, SOUTH_WEST_BIT, below);
 }
 
 // All squares of the rows from `up` and from `up` + `width` on.
 pub fn join_diagonals(grid: CutGrid, parents: &mut [u32], up: usize)
-    requires { DiagonalsAsked grid.width grid.cells.now grid.masks.now parents.old up }
+    requires { DiagonalsAsked grid.terrain.width grid.terrain.cells.now grid.masks.now parents.old up }
     ensures { (n : ℕ) (name : ℕ → ℕ) →
         Forest n name parents.old →
-        up + grid.entry.width + grid.entry.width ≤ n →
-        EastLevel grid.entry.cells.now grid.entry.masks.now up (up + grid.entry.width) name →
-        SouthLevel grid.entry.width grid.entry.cells.now grid.entry.masks.now up (up + grid.entry.width) name →
-        DiagonalsJoined grid.entry.width grid.entry.cells.now grid.entry.masks.now n name up parents.old parents.new }
+        up + grid.entry.terrain.width + grid.entry.terrain.width ≤ n →
+        EastLevel grid.entry.terrain.cells.now grid.entry.masks.now up (up + grid.entry.terrain.width) name →
+        SouthLevel grid.entry.terrain.width grid.entry.terrain.cells.now grid.entry.masks.now up (up + grid.entry.terrain.width) name →
+        DiagonalsJoined grid.entry.terrain.width grid.entry.terrain.cells.now grid.entry.masks.now n name up parents.old parents.new }
 {
-    for c in up..(up + grid.width).saturating_sub(1) {
+    for c in up..(up + grid.terrain.width).saturating_sub(1) {
         join_corners(grid, parents, c);
     }
 }

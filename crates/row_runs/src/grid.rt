@@ -1,8 +1,8 @@
-// The cells of a grid with the masks of its cut steps, row by row, as every function on rows reads them.
+// The grid of a map with the masks of its cut steps, row by row, as every function on rows reads them.
+use grid_steps::grid::TerrainGrid;
 
 #[derive(Clone, Copy)]
 pub struct CutGrid<'a> {
-    pub width: usize,
-    pub cells: &'a [u8],
+    pub terrain: TerrainGrid<'a>,
     pub masks: &'a [u16],
 }

@@ -31,11 +31,10 @@ pub fn label_cells(grid: TerrainGrid, masks: &[u16], labels: &mut [u32], queue: 
 {
     let n = grid.height * grid.width;
     let cut = CutGrid {
-        width: grid.width,
-        cells: grid.cells,
+        terrain: grid,
         masks,
     };
     alone(labels, n);
-    join_cells(cut, grid.height, labels, queue);
+    join_cells(cut, labels, queue);
     number(grid.cells, labels, &*queue, n)
 }

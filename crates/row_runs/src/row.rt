@@ -9,6 +9,8 @@ use grid_steps::grid::{EAST_BIT, SOUTH_BIT};
 use grid_steps::{is_cut, is_walkable};
 
 // Whether a step from a cell of the row is cut. Of most rows none is.
+// Kept: `fold` and not `any(|&mask| mask != 0)`, of which, since it may end early, the compiler makes no vector code: of a row of zeros it takes eight times
+// the instructions.
 pub fn has_marks(masks: &[u16], from: usize, end: usize) -> bool
     requires { (from ≤ end) × (end ≤ length masks.now) }
     ensures { result ≡ false → Clear masks.now from end }
@@ -27,6 +29,8 @@ fn alike_rest(cells: &[u8], from: usize, end: usize, walkable: bool) -> usize
 }
 
 // The same, eight at a time while there are eight.
+// Kept: words by their number and no `as_chunks::<8>()`: what is asked for is a place in the grid, so that of chunks the number, eight cells each, and the
+// place in the chunk would be added up here again, and the place in the rest as well.
 fn alike_end(cells: &[u8], from: usize, end: usize, walkable: bool) -> usize
     requires { (from ≤ end) × (end ≤ length cells.now) }
     ensures { Until (walks_as walkable cells.now) from end result }
@@ -39,19 +43,16 @@ fn alike_end(cells: &[u8], from: usize, end: usize, walkable: bool) -> usize
 
 // Whether the run of the cell to the west has cell c: c is walkable, and the step to it is not cut.
 fn goes_on(grid: CutGrid, c: usize) -> bool
-    requires { (1 ≤ c) × (c < length grid.cells.now) × (c < length grid.masks.now) }
-    ensures { result ≡ goes_on grid.entry.cells.now grid.entry.masks.now c }
+    requires { (1 ≤ c) × (c < length grid.terrain.cells.now) × (c < length grid.masks.now) }
+    ensures { result ≡ goes_on grid.entry.terrain.cells.now grid.entry.masks.now c }
 {
-    if !is_walkable(grid.cells[c]) {
-        return false;
-    }
-    !is_cut(grid.masks, c - 1, EAST_BIT)
+    is_walkable(grid.terrain.cells[c]) && !is_cut(grid.masks, c - 1, EAST_BIT)
 }
 
 // The first cell from `from` on that the run of the cell before `from` has not.
 fn run_end(grid: CutGrid, from: usize, end: usize) -> usize
-    requires { (1 ≤ from) × (from ≤ end) × (end ≤ length grid.cells.now) × (end ≤ length grid.masks.now) }
-    ensures { Until (goes_on grid.entry.cells.now grid.entry.masks.now) from end result }
+    requires { (1 ≤ from) × (from ≤ end) × (end ≤ length grid.terrain.cells.now) × (end ≤ length grid.masks.now) }
+    ensures { Until (goes_on grid.entry.terrain.cells.now grid.entry.masks.now) from end result }
 {
     (from..end).find(|&c| !goes_on(grid, c)).unwrap_or(end)
 }
@@ -68,12 +69,12 @@ pub fn south_end(masks: &[u16], from: usize, end: usize) -> usize
 
 // The end of the stretch that begins at `from`, in a row that ends at `end` and may have cut steps.
 pub fn stretch_end(grid: CutGrid, from: usize, end: usize, marked: bool) -> usize
-    requires { StretchAsked grid.cells.now grid.masks.now from end marked }
-    ensures { Stretch grid.entry.cells.now grid.entry.masks.now end from result }
+    requires { StretchAsked grid.terrain.cells.now grid.masks.now from end marked }
+    ensures { Stretch grid.entry.terrain.cells.now grid.entry.masks.now end from result }
 {
-    let walkable = is_walkable(grid.cells[from]);
+    let walkable = is_walkable(grid.terrain.cells[from]);
     if walkable & marked {
         return run_end(grid, from + 1, end);
     }
-    alike_end(grid.cells, from, end, walkable)
+    alike_end(grid.terrain.cells, from, end, walkable)
 }

@@ -51,12 +51,12 @@ pub fn scan_row(
     end: usize,
     marked: bool,
 )
-    requires { ScanAsked grid.cells.now grid.masks.now parents.old queue.old from end marked }
+    requires { ScanAsked grid.terrain.cells.now grid.masks.now parents.old queue.old from end marked }
     ensures { (n : ℕ) (name : ℕ → ℕ) →
         Forest n name parents.old →
         Fresh n from parents.old →
         end ≤ n →
-        RowScanned grid.entry.cells.now grid.entry.masks.now n name from end parents.old queue.old
+        RowScanned grid.entry.terrain.cells.now grid.entry.masks.now n name from end parents.old queue.old
         parents.new queue.new }
 {
     let mut c = from;
@@ -64,7 +64,7 @@ pub fn scan_row(
     while c < end {
         let e = stretch_end(grid, c, end, marked);
         queue[c] = e as u32;
-        put_stretch(grid.cells, parents, c, e);
+        put_stretch(grid.terrain.cells, parents, c, e);
         c = e;
     }
 }

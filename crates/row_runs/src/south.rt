@@ -22,36 +22,37 @@ fn end_at(queue: &[u32], c: usize, known: usize) -> usize
 
 // The cells from `from` up to `end` lie in one stretch, and those below them in another: where both are runs, one uncut step between them joins the two.
 fn join_overlap(grid: CutGrid, parents: &mut [u32], from: usize, end: usize)
-    requires { OverlapAsked grid.width grid.cells.now grid.masks.now parents.old from end }
+    requires { OverlapAsked grid.terrain.width grid.terrain.cells.now grid.masks.now parents.old from end }
     ensures { (n : ℕ) (name : ℕ → ℕ) →
         Forest n name parents.old →
-        end + grid.entry.width ≤ n →
-        OverlapJoined grid.entry.width grid.entry.cells.now grid.entry.masks.now n name from end parents.old parents.new }
+        end + grid.entry.terrain.width ≤ n →
+        OverlapJoined grid.entry.terrain.width grid.entry.terrain.cells.now grid.entry.masks.now n name from end parents.old parents.new }
 {
-    if !is_walkable(grid.cells[from]) {
+    if !is_walkable(grid.terrain.cells[from]) {
         return;
     }
-    if !is_walkable(grid.cells[from + grid.width]) {
+    if !is_walkable(grid.terrain.cells[from + grid.terrain.width]) {
         return;
     }
     let c = south_end(grid.masks, from, end);
     if end <= c {
         return;
     }
-    join(parents, c, c + grid.width);
+    join(parents, c, c + grid.terrain.width);
 }
 
 // The rows from `up` and from `up` + `width` on, from one end of a stretch to the next.
 pub fn join_rows(grid: CutGrid, parents: &mut [u32], queue: &[u32], up: usize)
-    requires { RowsAsked grid.width grid.cells.now grid.masks.now parents.old queue.now up }
+    requires { RowsAsked grid.terrain.width grid.terrain.cells.now grid.masks.now parents.old queue.now up }
     ensures { (n : ℕ) (name : ℕ → ℕ) →
         Forest n name parents.old →
-        up + grid.entry.width + grid.entry.width ≤ n →
-        EastLevel grid.entry.cells.now grid.entry.masks.now up (up + grid.entry.width) name →
-        EastLevel grid.entry.cells.now grid.entry.masks.now (up + grid.entry.width) (up + grid.entry.width + grid.entry.width) name →
-        RowsJoined grid.entry.width grid.entry.cells.now grid.entry.masks.now n name up parents.old parents.new }
+        up + grid.entry.terrain.width + grid.entry.terrain.width ≤ n →
+        EastLevel grid.entry.terrain.cells.now grid.entry.masks.now up (up + grid.entry.terrain.width) name →
+        EastLevel grid.entry.terrain.cells.now grid.entry.masks.now (up + grid.entry.terrain.width)
+        (up + grid.entry.terrain.width + grid.entry.terrain.width) name →
+        RowsJoined grid.entry.terrain.width grid.entry.terrain.cells.now grid.entry.masks.now n name up parents.old parents.new }
 {
-    let width = grid.width;
+    let width = grid.terrain.width;
     let row = up + width;
     let mut c = up;
     let mut a = up;

@@ -9,10 +9,10 @@ use Rattle.cut_steps.proofs.cell.steps_inside.Goals as goal
 pub returns : goal.returns
 returns c =
     let a = c.args in
-    let east = c.is_walkable-east.ensures in
-    let south = c.is_walkable-south.ensures in
-    let west = c.is_walkable-west.ensures in
-    let south-west = c.is_walkable-south_west.ensures in
-    let south-east = c.is_walkable-south_east.ensures in
+    let east = c.walks-east.ensures in
+    let south = c.walks-south.ensures in
+    let west = c.walks-west.ensures in
+    let south-west = c.walks-south_west.ensures in
+    let south-east = c.walks-south_east.ensures in
     c.onward_mask.ensures ∙ (λ i. onward_mask (east i) (south-west i && west i && south i) (south i) (south-east i && east i && south i))
     ∙ inside-steps (grid_of a.grid.width a.grid.height a.grid.cells.now) a.cell.x a.cell.y c.requires.asked.1 c.requires.inside.0

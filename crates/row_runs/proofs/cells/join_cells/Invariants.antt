@@ -4,7 +4,7 @@ use Rattle.row_runs.proofs.AllRows.{Joining}
 use Rattle.row_runs.proofs.cells.join_cells.Given as goal
 
 abbrev pub invariant-loop-y : goal.invariant-loop-y
-invariant-loop-y l = Joining l.grid.width l.height l.grid.cells.now l.grid.masks.now l.initial.parents l.initial.queue l.parents l.queue l.y l.marked
+invariant-loop-y l = Joining l.grid.terrain.width l.grid.terrain.height l.grid.terrain.cells.now l.grid.masks.now l.initial.parents l.initial.queue l.parents l.queue l.y l.marked
 
 abbrev pub decreases-loop-y : goal.decreases-loop-y
-decreases-loop-y l = l.height - l.y
+decreases-loop-y l = l.grid.terrain.height - l.y

@@ -3,4 +3,4 @@ use Rattle.row_runs.proofs.CornerNames.{Cornering}
 use Rattle.row_runs.proofs.corners.join_diagonals.Given as goal
 
 abbrev pub invariant-loop-c : goal.invariant-loop-c
-invariant-loop-c l = Cornering l.grid.width l.grid.cells.now l.grid.masks.now l.up l.initial.parents l.parents l.c
+invariant-loop-c l = Cornering l.grid.terrain.width l.grid.terrain.cells.now l.grid.masks.now l.up l.initial.parents l.parents l.c

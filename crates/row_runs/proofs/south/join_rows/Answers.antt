@@ -9,25 +9,25 @@ loop-c-init c = southing_starts _ _ _ _ _ _ c.requires
 
 pub overflow_sub-b : goal.overflow_sub-b
 overflow_sub-b c =
-    let lower : let arg = c.args in Reach arg.grid.cells.now arg.grid.masks.now (arg.up + arg.grid.width) (arg.up + arg.grid.width + arg.grid.width) arg.queue.now (c.loop-c.c + arg.grid.width) c.end_at-b.result = lower-reach c.loop-c.invariant c.loop-c-test.true c.end_at-b.result c.end_at-b.ensures in
+    let lower : let arg = c.args in Reach arg.grid.terrain.cells.now arg.grid.masks.now (arg.up + arg.grid.terrain.width) (arg.up + arg.grid.terrain.width + arg.grid.terrain.width) arg.queue.now (c.loop-c.c + arg.grid.terrain.width) c.end_at-b.result = lower-reach c.loop-c.invariant c.loop-c-test.true c.end_at-b.result c.end_at-b.ensures in
     omega (arith, lower.high)
 
 pub join_overlap-requires : goal.join_overlap-requires
 join_overlap-requires c =
-    let upper : let arg = c.args in Reach arg.grid.cells.now arg.grid.masks.now arg.up (arg.up + arg.grid.width) arg.queue.now c.loop-c.c c.end_at-a.result = upper-reach c.loop-c.invariant c.loop-c-test.true c.end_at-a.result c.end_at-a.ensures in
-    let lower : let arg = c.args in Reach arg.grid.cells.now arg.grid.masks.now (arg.up + arg.grid.width) (arg.up + arg.grid.width + arg.grid.width) arg.queue.now (c.loop-c.c + arg.grid.width) c.end_at-b.result = lower-reach c.loop-c.invariant c.loop-c-test.true c.end_at-b.result c.end_at-b.ensures in
+    let upper : let arg = c.args in Reach arg.grid.terrain.cells.now arg.grid.masks.now arg.up (arg.up + arg.grid.terrain.width) arg.queue.now c.loop-c.c c.end_at-a.result = upper-reach c.loop-c.invariant c.loop-c-test.true c.end_at-a.result c.end_at-a.ensures in
+    let lower : let arg = c.args in Reach arg.grid.terrain.cells.now arg.grid.masks.now (arg.up + arg.grid.terrain.width) (arg.up + arg.grid.terrain.width + arg.grid.terrain.width) arg.queue.now (c.loop-c.c + arg.grid.terrain.width) c.end_at-b.result = lower-reach c.loop-c.invariant c.loop-c-test.true c.end_at-b.result c.end_at-b.ensures in
     overlap-asked c.loop-c.invariant c.loop-c-test.true upper lower c.min-e.ensures c.requires
 
 pub loop-c-smaller : goal.loop-c-smaller
 loop-c-smaller c =
-    let upper : let arg = c.args in Reach arg.grid.cells.now arg.grid.masks.now arg.up (arg.up + arg.grid.width) arg.queue.now c.loop-c.c c.end_at-a.result = upper-reach c.loop-c.invariant c.loop-c-test.true c.end_at-a.result c.end_at-a.ensures in
-    let lower : let arg = c.args in Reach arg.grid.cells.now arg.grid.masks.now (arg.up + arg.grid.width) (arg.up + arg.grid.width + arg.grid.width) arg.queue.now (c.loop-c.c + arg.grid.width) c.end_at-b.result = lower-reach c.loop-c.invariant c.loop-c-test.true c.end_at-b.result c.end_at-b.ensures in
+    let upper : let arg = c.args in Reach arg.grid.terrain.cells.now arg.grid.masks.now arg.up (arg.up + arg.grid.terrain.width) arg.queue.now c.loop-c.c c.end_at-a.result = upper-reach c.loop-c.invariant c.loop-c-test.true c.end_at-a.result c.end_at-a.ensures in
+    let lower : let arg = c.args in Reach arg.grid.terrain.cells.now arg.grid.masks.now (arg.up + arg.grid.terrain.width) (arg.up + arg.grid.terrain.width + arg.grid.terrain.width) arg.queue.now (c.loop-c.c + arg.grid.terrain.width) c.end_at-b.result = lower-reach c.loop-c.invariant c.loop-c-test.true c.end_at-b.result c.end_at-b.ensures in
     omega (arith, c.loop-c-test.true, (overlap c.loop-c.invariant c.loop-c-test.true upper lower c.min-e.ensures).some)
 
 pub loop-c-preserved : goal.loop-c-preserved
 loop-c-preserved c =
-    let upper : let arg = c.args in Reach arg.grid.cells.now arg.grid.masks.now arg.up (arg.up + arg.grid.width) arg.queue.now c.loop-c.c c.end_at-a.result = upper-reach c.loop-c.invariant c.loop-c-test.true c.end_at-a.result c.end_at-a.ensures in
-    let lower : let arg = c.args in Reach arg.grid.cells.now arg.grid.masks.now (arg.up + arg.grid.width) (arg.up + arg.grid.width + arg.grid.width) arg.queue.now (c.loop-c.c + arg.grid.width) c.end_at-b.result = lower-reach c.loop-c.invariant c.loop-c-test.true c.end_at-b.result c.end_at-b.ensures in
+    let upper : let arg = c.args in Reach arg.grid.terrain.cells.now arg.grid.masks.now arg.up (arg.up + arg.grid.terrain.width) arg.queue.now c.loop-c.c c.end_at-a.result = upper-reach c.loop-c.invariant c.loop-c-test.true c.end_at-a.result c.end_at-a.ensures in
+    let lower : let arg = c.args in Reach arg.grid.terrain.cells.now arg.grid.masks.now (arg.up + arg.grid.terrain.width) (arg.up + arg.grid.terrain.width + arg.grid.terrain.width) arg.queue.now (c.loop-c.c + arg.grid.terrain.width) c.end_at-b.result = lower-reach c.loop-c.invariant c.loop-c-test.true c.end_at-b.result c.end_at-b.ensures in
     southing_goes_on c.loop-c.invariant c.loop-c-test.true upper lower c.min-e.ensures c.join_overlap.ensures
 
 pub returns : goal.returns

@@ -9,11 +9,11 @@ use Rattle.cut_steps.proofs.Onward.{no_step, no_bits}
 use Rattle.cut_steps.proofs.Changes.{crossed-cell}
 use Rattle.cut_steps.proofs.walk.SpanWalk.crossed_directions.Goals as goal
 
-pub returns-then-not-is_walkable : goal.returns-then-not-is_walkable
-returns-then-not-is_walkable c =
+pub returns-then-not-walks : goal.returns-then-not-walks
+returns-then-not-walks c =
     let a = c.args in
     let M = grid_of a.self.now.grid.width a.self.now.grid.height a.self.now.grid.cells.now in
-    record { small = omega arith; bits = no_bits M (segment_of a.self.now.g) (at a.cell.x a.cell.y) (no_step M (segment_of a.self.now.g) (at a.cell.x a.cell.y) (sym c.is_walkable.ensures ∙ not-true _ c.if-not-is_walkable.true-raw)) }
+    record { small = omega arith; bits = no_bits M (segment_of a.self.now.g) (at a.cell.x a.cell.y) (no_step M (segment_of a.self.now.g) (at a.cell.x a.cell.y) (sym c.walks.ensures ∙ not-true _ c.if-not-walks.true-raw)) }
 
 pub returns : goal.returns
 returns c = crossed-cell c.requires.crossed c.steps_onward.ensures refl

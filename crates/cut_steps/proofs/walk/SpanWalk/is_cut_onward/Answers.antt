@@ -1,32 +1,35 @@
--- `SpanWalk::is_cut_onward` meets its contract: where one of the two tests ends it there is no step, and past them `cuts` decides. Assumes nothing.
-use native.Mathlib.Omega.{arith}
+-- `SpanWalk::is_cut_onward` meets its contract: where one of the first two tests fails there is no step, and past them `cuts` decides. Assumes nothing.
 use mathlib.Core.Path.{sym, ◌∙◌}
-use borrow.Author.Tests.{not-true, not-false}
+use mathlib.Core.Bool.{true≢false, false≢true}
 use Rattle.definitions.specs.Grid.{at}
 use Rattle.span_geometry.specs.Shapes.{segment_of}
 use Rattle.grid_steps.specs.Walk.{grid_of}
-use Rattle.grid_steps.specs.Inner.{Inside}
 use Rattle.cut_steps.proofs.Onward.{blocked, onward-cut}
 use Rattle.cut_steps.proofs.Cells.{outside}
 use Rattle.cut_steps.proofs.walk.SpanWalk.is_cut_onward.Goals as goal
+use Rattle.cut_steps.proofs.walk.SpanWalk.is_cut_onward.Goals.{then-inner, else-inner, then-is_inside, else-is_inside}
 
-pub returns-then-not-is_inside : goal.returns-then-not-is_inside
-returns-then-not-is_inside c = let a = c.args in outside a.self.now.grid.width a.self.now.grid.height a.self.now.grid.cells.now (segment_of a.self.now.g) a.cell.x a.cell.y a.direction.dx a.direction.dy (c.is_inside.ensures.1 (not-true _ c.if-not-is_inside.true-raw))
-
-pub returns-then-not-is_step : goal.returns-then-not-is_step
-returns-then-not-is_step c =
+pub returns-then-is_step : goal.returns-then-is_step
+returns-then-is_step c =
     let a = c.args in
-    blocked (grid_of a.self.now.grid.width a.self.now.grid.height a.self.now.grid.cells.now) (segment_of a.self.now.g) (at a.cell.x a.cell.y) (at a.direction.dx a.direction.dy) (sym c.is_step.ensures ∙ not-true _ c.if-not-is_step.true-raw)
+    elim c.if-is_inside.branch [
+      | then-is_inside w ↦
+          c.cuts.ensures
+          ∙ onward-cut (grid_of a.self.now.grid.width a.self.now.grid.height a.self.now.grid.cells.now) (segment_of a.self.now.g) (at a.cell.x a.cell.y) (at a.direction.dx a.direction.dy) (sym w.is_step.ensures ∙ sym w.value-is ∙ c.if-is_step.true) c.requires.asked.onward
+      | else-is_inside w ↦ absurd (true≢false (sym c.if-is_step.true ∙ w.value-is ∙ w.if-is_inside.false))
+    ]
 
-pub cuts-requires : goal.cuts-requires
-cuts-requires c =
-    let inside : let a = c.args in Inside a.self.now.grid.width a.self.now.grid.height a.cell.x a.cell.y a.direction.dx a.direction.dy = c.is_inside.ensures.0 (not-false _ c.if-not-is_inside.false-raw) in
-    let A = c.requires.asked in
-    let i = inside in
-    (A.cell.sound, omega (arith, A.cell.in_x, A.cell.narrow), omega (arith, A.cell.in_y, A.cell.short), omega (arith, i.left, i.right, A.cell.narrow), omega (arith, i.up, i.down, A.cell.short))
-
-pub returns : goal.returns
-returns c =
+pub returns-else-is_step : goal.returns-else-is_step
+returns-else-is_step c =
     let a = c.args in
-    c.cuts.ensures
-    ∙ onward-cut (grid_of a.self.now.grid.width a.self.now.grid.height a.self.now.grid.cells.now) (segment_of a.self.now.g) (at a.cell.x a.cell.y) (at a.direction.dx a.direction.dy) (sym c.is_step.ensures ∙ not-false _ c.if-not-is_step.false-raw) c.requires.asked.onward
+    c.if-is_step.false
+    ∙ (elim c.if-is_inside.branch [
+      | then-is_inside w ↦
+          blocked (grid_of a.self.now.grid.width a.self.now.grid.height a.self.now.grid.cells.now) (segment_of a.self.now.g) (at a.cell.x a.cell.y) (at a.direction.dx a.direction.dy) (sym w.is_step.ensures ∙ sym w.value-is ∙ c.if-is_step.false)
+      | else-is_inside w ↦
+          elim c.if-inner.branch [
+            | then-inner v ↦ absurd (true≢false (sym v.if-inner.true ∙ sym v.value-is ∙ w.if-is_inside.false))
+            | else-inner v ↦
+                outside a.self.now.grid.width a.self.now.grid.height a.self.now.grid.cells.now (segment_of a.self.now.g) a.cell.x a.cell.y a.direction.dx a.direction.dy (v.is_inside.ensures.1 (sym v.value-is ∙ w.if-is_inside.false))
+          ]
+    ])
