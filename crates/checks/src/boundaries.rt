@@ -20,7 +20,7 @@ fn ramp_fits(boundary: &[u64; NUMBERS_PER_BOUNDARY]) -> bool
 {
     let [_, _, _, _, _, kind, id, lower, upper] = *boundary;
     (kind <= 2)
-        & (id < 0x1_0000_0000)
+        & u32::try_from(id).is_ok()
         & (lower <= 7)
         & (upper <= 7)
         & ((kind != 0) | ((id == 0) & (lower == 0) & (upper == 0)))

@@ -25,7 +25,7 @@ fn endpoints_differ(span: &[u64; NUMBERS_PER_SPAN]) -> bool
     ensures { result ≡ endpoints_differ (segment_at span.now 0) }
 {
     let [x0, y0, x1, y1] = *span;
-    !((x0 == x1) & (y0 == y1))
+    (x0, y0) != (x1, y1)
 }
 
 // Both, of the span at this place: "Numbers 5 and 6 are tested span by span, 5 first."
