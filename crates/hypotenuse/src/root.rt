@@ -5,8 +5,8 @@ ghost use Rattle.hypotenuse.specs.Roots.{IsRoot};
 
 // The steps start so far below the guess.
 const MARGIN: u64 = 32;
-// They are tried where the number is above the start's square by less than this, 2^62.
-const MAX_REST: u128 = 4611686018427387904;
+// They are tried where the number is above the start's square by less than this.
+const MAX_REST: u128 = 1 << 62;
 
 // t * t
 pub fn square(t: u64) -> u128
