@@ -13,9 +13,9 @@ use crate::root::{floor_root, square};
 use crate::short::short_root;
 
 // The pattern of 2^-64.
-const LEAST: u64 = 4318952042648305664;
+const LEAST: u64 = 959 << 52;
 // The pattern of 2^15.
-const MOST: u64 = 4674736413210574848;
+const MOST: u64 = 1038 << 52;
 // From here on a root has 55 digits.
 const LONG_ROOT: u64 = 1 << 54;
 // Exponents that are further apart leave the larger double as it is.
@@ -35,7 +35,7 @@ pub fn bits_of(x: f64) -> u64
 pub fn in_range(b: u64) -> bool
     ensures { result ≡ pattern_in_range b }
 {
-    b == 0 || (LEAST <= b && b <= MOST)
+    b == 0 || (LEAST..=MOST).contains(&b)
 }
 
 // A guess at twice the root of the two doubles' squares, in units of the last place of the larger, by two of Halley's steps in floats. All that is claimed of
@@ -50,7 +50,7 @@ fn guess(larger: u64, smaller: u64) -> u64
     // The larger of two lines is within 3 in 100 of the root.
     let a = x + y * 0.125;
     let b = x * 0.875 + y * 0.53;
-    let first = if a < b { b } else { a };
+    let first = a.max(b);
     let p = first * first;
     let second = first * (p + 3.0 * s) / (3.0 * p + s);
     let q = second * second;

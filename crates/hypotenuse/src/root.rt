@@ -74,12 +74,12 @@ pub fn floor_root(f: u128, guess: u64) -> Rooted
     ensures { IsRoot f result.root result.rest }
 {
     let low = guess - MARGIN;
-    if let Some(rest) = f.checked_sub(square(low)) {
-        if rest < MAX_REST {
-            let found = single_steps(division_step(low, rest as u64));
-            if found.rest <= 2 * found.root {
-                return found;
-            }
+    if let Some(rest) = f.checked_sub(square(low))
+        && rest < MAX_REST
+    {
+        let found = single_steps(division_step(low, rest as u64));
+        if found.rest <= 2 * found.root {
+            return found;
         }
     }
     digit_root(f)

@@ -62,7 +62,7 @@ fn steps(b: u64, e: u64) -> u64
 fn nearest_root(m: u64, fraction: u64) -> Option<u64>
     ensures { IfSome result (NearestWhole (m * 2 ^ 44)) }
 {
-    if fraction < 2 || fraction > LEADING - 2 {
+    if !(2..=LEADING - 2).contains(&fraction) {
         return None;
     }
     let b = fraction + (LEADING - 1);
