@@ -134,7 +134,13 @@ fn root_pattern(larger: u64, smaller: u64) -> u64
         return short;
     }
     let start = guess(larger, smaller);
-    near_pattern(top - 1, significand(larger), significand(smaller), gap, start)
+    near_pattern(
+        top - 1,
+        significand(larger),
+        significand(smaller),
+        gap,
+        start,
+    )
 }
 
 // The same of two patterns in any order.

@@ -1,4 +1,5 @@
--- `patterns::guess` meets its contract: no pattern is a NaN's, no NaN is asked for its bits, and each answer is twice a number of 53 digits, or four times. Assumes nothing.
+-- `patterns::guess` meets its contract: no pattern is a NaN's, no NaN is asked for its bits, and each answer is twice a number of 53 digits, or four times.
+-- Assumes nothing.
 use Prim.Native.Nat.{ℕ, ◌+◌, ◌*◌, ◌^◌, ◌≤◌, ◌<◌}
 use native.Mathlib.Nat.{mul-le-mul_left}
 use native.Mathlib.Omega.{arith}

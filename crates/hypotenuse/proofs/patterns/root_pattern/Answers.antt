@@ -1,4 +1,5 @@
--- `patterns::root_pattern` meets its contract: both are zero, or far apart, or both have their leading digit, and the root is that of `short_root` or of `near_pattern`. Assumes nothing.
+-- `patterns::root_pattern` meets its contract: both are zero, or far apart, or both have their leading digit, and the root is that of `short_root` or of
+-- `near_pattern`. Assumes nothing.
 use mathlib.Core.Path.{◌≡◌, refl, sym, ap, ◌∙◌}
 use mathlib.Core.Logic.{⊎_elim}
 use Prim.Native.Nat.{ℕ, ◌+◌, ◌-◌, ◌*◌, ◌/◌, ◌%◌, ◌^◌, ◌≤◌}

@@ -1,4 +1,5 @@
--- `short::squares` meets its contract: no shift loses a digit. With the exponents at most `up` apart both numbers are below 2 ^ (17 + up), and the sum of their squares below 2 ^ (35 + 2 * up). Assumes nothing.
+-- `short::squares` meets its contract: no shift loses a digit. With the exponents at most `up` apart both numbers are below 2 ^ (17 + up), and the sum of their
+-- squares below 2 ^ (35 + 2 * up). Assumes nothing.
 use mathlib.Core.Path.{◌≡◌, sym, ap, ◌∙◌}
 use Prim.Native.Nat.{ℕ, suc, ◌+◌, ◌-◌, ◌*◌, ◌/◌, ◌%◌, ◌^◌, ◌≤◌, ◌<◌}
 use native.Mathlib.Omega.{arith}
