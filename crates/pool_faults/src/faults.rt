@@ -32,7 +32,7 @@ fn passes(term: Term, ends: &[u64; SLOTS]) -> bool
 {
     let latest = ends[slot_of::<SLOTS>(term.on_map)];
     term.days()
-        .is_some_and(|days| days.from < days.to && latest <= days.from)
+        .is_some_and(|days| !days.is_empty() && latest <= days.from)
 }
 
 // How many of the first terms pass, one after the other: all that come in the order of their days.
@@ -56,7 +56,7 @@ fn passing_terms(terms: &[u64]) -> usize
 fn is_sound(term: Term) -> bool
     ensures { result ≡ ltb (first_in (days_of (term_as term))) (end_in (days_of (term_as term))) }
 {
-    term.days().is_some_and(|days| days.from < days.to)
+    term.days().is_some_and(|days| !days.is_empty())
 }
 
 // How many of the first terms are sound, where those below `known` are known to be.
