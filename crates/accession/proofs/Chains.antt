@@ -11,7 +11,7 @@ use Rattle.std.specs.Prelude.{Option, None, Some}
 use Rattle.std.specs.Iterator.Adapters.{rev_source}
 use Rattle.std.specs.declared.ops.Range.{Range}
 use Rattle.std.specs.declared.iter.Rev.{Rev}
-use Rattle.catalogue.specs.Accession.{accession_at, accession_count, on_same_map}
+use Rattle.catalogue.specs.Accession.{accession_at, on_same_map}
 use Rattle.catalogue.specs.AccessionLaws.Last.{last_below, last_here, last_not}
 use Rattle.catalogue.specs.AccessionLaws.Chain.{previous}
 use Rattle.catalogue.specs.AccessionLaws.MapLine.{is_of_map}

@@ -1,8 +1,8 @@
 -- What chains over records in chunks of four give: a record with an own number, or that there is none (`found`), and how many are of a map (`counted`). Assumes
 -- nothing.
-use Prim.Native.Nat.{ℕ, zero, suc, ◌+◌, ◌/◌, ◌≤◌, ◌<◌}
+use Prim.Native.Nat.{ℕ, suc, ◌+◌, ◌/◌, ◌<◌}
 use native.Mathlib.Omega.{arith}
-use mathlib.Core.Path.{◌≡◌, refl, sym, ap, ◌∙◌}
+use mathlib.Core.Path.{◌≡◌, sym, ap, ◌∙◌}
 use mathlib.Core.Bool.{Bool, true, false}
 use mathlib.Core.List.{List, [], ◌∷◌}
 use lib.ListN.{length, get_or}
@@ -13,7 +13,7 @@ use Rattle.std.specs.List.{filter, AllWithin, HoldsAt}
 use Rattle.std.specs.Simd.{first_chunks}
 use Rattle.definitions.specs.Scan.{bit, count_below}
 use Rattle.laws.specs.ListLaws.ScanSteps.{count_next}
-use Rattle.catalogue.specs.Accession.{accession_at, accession_count}
+use Rattle.catalogue.specs.Accession.{accession_count}
 use Rattle.catalogue.specs.AccessionLaws.MapLine.{is_of_map}
 use Rattle.catalogue.proofs.Chunks.{record-at}
 use Rattle.accession.specs.Contract.{Finds}

@@ -1,5 +1,5 @@
 -- What the steps of the listing promise: entries that show no record yet, and entries in which a record is shown. Definitions only; assumes nothing.
-use Rattle.std.specs.Prelude.{ℕ, ◌≤◌, ◌<◌, ◌≡◌, cond, List, length, get_or, eqb, Option, None, Some}
+use Rattle.std.specs.Prelude.{ℕ, ◌<◌, ◌≡◌, cond, List, length, get_or, eqb, Option, None, Some}
 use Rattle.definitions.specs.Scan.{only_if, concat_map}
 use Rattle.catalogue.specs.Terms.{term_at, days_of, contains}
 use Rattle.catalogue.specs.Accession.{Accession, accession_count}

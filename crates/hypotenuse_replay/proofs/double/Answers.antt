@@ -4,7 +4,7 @@ use mathlib.Core.Bool.{Bool, true, not, true≢false}
 use Prim.Native.Nat.{ℕ, ◌*◌, ◌%◌, ◌^◌, ◌≤◌, ◌<◌}
 use borrow.Author.Tests.{lt-ltb, le-ltb}
 use lib.Dec.{T}
-use lib.Ieee.{Float, nan, inf, fin, binary64, is_nan, div, of_bits, nan_bits}
+use lib.Ieee.{Float, nan, inf, fin, binary64, is_nan, of_bits, nan_bits}
 use lib.Ieee.Bits.{nan_bits_is, nan_bits_above}
 use Rattle.hypotenuse_replay.proofs.double.Goals as goal
 

@@ -1,9 +1,8 @@
 -- `accession::line::report_kept` meets its contract: where a record has the own number, the line is that of its map. Assumes nothing.
 use Prim.Native.Nat.{ℕ}
-use mathlib.Core.Path.{◌≡◌, sym, ap, ◌∙◌}
+use mathlib.Core.Path.{sym, ap, ◌∙◌}
 use mathlib.Core.List.{List}
 use lib.ListN.{length}
-use Rattle.catalogue.specs.Line.{line_of}
 use Rattle.catalogue.specs.AccessionLaws.MapLine.{map_line}
 use Rattle.catalogue.proofs.AccessionLaws.MapLine.{line-of-record, line-unknown}
 use Rattle.refusals.specs.Answers.{answer_of}

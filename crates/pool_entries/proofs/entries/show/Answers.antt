@@ -1,5 +1,5 @@
 -- `entries::show` meets its contract: the record is shown in the entry of its map, or there is none. Assumes nothing.
-use Rattle.std.proofs.Common.{◌*◌, ◌∙◌}
+use Rattle.std.proofs.Common.{◌*◌}
 use Rattle.pool_entries.specs.Steps.{record_in}
 use Rattle.pool_entries.proofs.Showing.{none_shown, its_map, three-stored}
 use Rattle.pool_entries.proofs.entries.show.Goals as goal
