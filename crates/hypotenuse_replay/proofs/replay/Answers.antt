@@ -29,7 +29,7 @@ loop-i-preserved g c =
     elim c.if-b-eq10.branch [
       | then-b-eq10+in_ok-ours w ↦
           at_end s _ _ l.tally.0 l.tally.1.0 l.start l.i l.invariant h w.if-b-eq10.true r.tally.0 r.tally.1.0 r.start (ap (λ t. t.0) w.tally-is)
-              (sum_is _ _ _ _ _ (ap (λ t. t.1.0) w.tally-is) w.from.ensures w.in_ok-ours.ensures) w.start-is
+          (sum_is _ _ _ _ _ (ap (λ t. t.1.0) w.tally-is) w.from.ensures w.in_ok-ours.ensures) w.start-is
       | else-b-eq10 w ↦ within s _ _ l.tally.0 l.tally.1.0 l.start l.i l.invariant h w.if-b-eq10.false r.tally.0 r.tally.1.0 r.start (ap (λ t. t.0) w.tally-is) (ap (λ t. t.1.0) w.tally-is) w.start-is
     ]
 
