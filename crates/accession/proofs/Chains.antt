@@ -1,4 +1,4 @@
--- What the searches of the records give: a record that was found, or that there is none (`found`), and the last of a map before record i (`behind`). Assumes nothing.
+-- What a search of the records from the back gives: the last of a map before record i (`behind`). Assumes nothing.
 use Prim.Native.Nat.{ℕ, zero, suc, ◌≤◌, ◌<◌}
 use native.Mathlib.Omega.{arith}
 use mathlib.Core.Path.{◌≡◌, refl, sym, ap, ◌∙◌}
@@ -11,17 +11,10 @@ use Rattle.std.specs.Prelude.{Option, None, Some}
 use Rattle.std.specs.Iterator.Adapters.{rev_source}
 use Rattle.std.specs.declared.ops.Range.{Range}
 use Rattle.std.specs.declared.iter.Rev.{Rev}
-use Rattle.catalogue.specs.Accession.{accession_at, accession_count, on_same_map}
+use Rattle.catalogue.specs.Accession.{accession_at, on_same_map}
 use Rattle.catalogue.specs.AccessionLaws.Last.{last_below, last_here, last_not}
 use Rattle.catalogue.specs.AccessionLaws.Chain.{previous}
 use Rattle.catalogue.specs.AccessionLaws.MapLine.{is_of_map}
-use Rattle.accession.specs.Contract.{Finds}
-
-pub found : (l : List ℕ) (own n : ℕ) (r : Option ℕ) → n ≡ accession_count l
-    → MatchOption r ((k : ℕ) → 0 ≤ k → k < n → (accession_at l k).own ≡ own → ⊥) (λ i. (0 ≤ i) × (i < n) × ((accession_at l i).own ≡ own) × ((k : ℕ) → 0 ≤ k → k < i → (accession_at l k).own ≡ own → ⊥))
-    → Finds l own r
-found l own n None e h = λ j b. h j (omega arith) (omega arith)
-found l own n (Some i) e h = (omega arith, h.2)
 
 -- ---- from the back
 

@@ -6,3 +6,4 @@ pub mod Putting
 pub mod Reporting
 pub mod Chains
 pub mod Turning
+pub mod Searching

@@ -1,5 +1,6 @@
 -- What the answers of this crate say, by cases. Assumes nothing.
-use Rattle.std.specs.Prelude.{ℕ, zero, suc, ◌*◌, ◌<◌, ◌≡◌, List, [], ◌∷◌, length, leb, Option, None, Some}
+use Rattle.std.specs.Prelude.{ℕ, zero, suc, ◌*◌, ◌<◌, ◌≡◌, List, [], ◌∷◌, length, get_or, leb, Option, None, Some}
+use denote.Ref.{Bor}
 use Rattle.definitions.specs.Lists.{overwrite}
 use Rattle.definitions.specs.Refusals.{unless}
 use Rattle.definitions.specs.Verdict.{Answer, refusal, first_refusal}
@@ -16,9 +17,9 @@ one_more None = 0
 one_more (Some k) = suc k
 
 -- a record with this own number, or that there is none
-abbrev pub Finds : List ℕ → ℕ → Option ℕ → Type 0
+abbrev pub Finds : List ℕ → ℕ → Option (Bor (List ℕ)) → Type 0
 Finds l own None = (j : ℕ) → j < accession_count l → (accession_at l j).own ≡ own → ⊥
-Finds l own (Some i) = (i < accession_count l) × ((accession_at l i).own ≡ own)
+Finds l own (Some r) = (i : ℕ) × (i < accession_count l) × ((accession_at l i).own ≡ own) × (get_or r.now 1 0 ≡ (accession_at l i).on_map)
 
 -- ---- once the list is known to keep the rules
 

@@ -12,7 +12,7 @@ use catalogue::slots::slot_of;
 
 // The first `count` records, each in the slot of its map: the slot's last record, and of each record the one before it in its slot.
 // Kept: positions are one more than they are, and 0 says that there is none. The tables stand on the stack, where there is no heap, and those of the long list
-// have 640 KiB; `Option<u32>` takes eight bytes where u32 takes four, so that they would have 1,280 KiB.
+// have 640 KiB; `Option<u32>` takes eight bytes where u32 takes four, and so does `Option<NonZeroU32>` as it is compiled here: they would have 1,280 KiB.
 #[derive(Drop)]
 pub struct Held<const SLOTS: usize, const ROOM: usize> {
     count: usize,

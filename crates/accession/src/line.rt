@@ -8,24 +8,23 @@ ghost use Rattle.catalogue.specs.AccessionLaws.MapLine.{is_of_map, map_line};
 ghost use Rattle.refusals.specs.Answers.{answer_of};
 ghost use Rattle.accession.specs.Contract.{Finds, room_verdict, room_exit};
 
-use crate::records::{accession_at, record_count};
 use crate::rules::first_broken;
 use catalogue::sizes::NUMBERS_PER_ACCESSION;
 use refusals::{Cause, Refusal, ensure, no_fault};
 
-// The position of a record with an own number.
-fn find_own(records: &[u64], own: u64) -> Option<usize>
+// A record with an own number.
+fn find_own(records: &[u64], own: u64) -> Option<&[u64; NUMBERS_PER_ACCESSION]>
     ensures { Finds records.now own result }
 {
-    (0..record_count(records)).find(|&i| accession_at(records, i).own == own)
+    let (records, _) = records.as_chunks::<NUMBERS_PER_ACCESSION>();
+    records.iter().find(|record| record[0] == own)
 }
 
 fn count_of_map(records: &[u64], number: u64) -> usize
     ensures { result ≡ count_below (accession_count records.now) (is_of_map records.now number) }
 {
-    (0..record_count(records))
-        .filter(|&i| accession_at(records, i).on_map == number)
-        .count()
+    let (records, _) = records.as_chunks::<NUMBERS_PER_ACCESSION>();
+    records.iter().filter(|record| record[1] == number).count()
 }
 
 // Every record of the map, newest first.
@@ -63,7 +62,7 @@ fn report_kept(records: &[u64], own: u64, output: &mut [u64]) -> Result<usize, R
 {
     match find_own(records, own) {
         None => Ok(0),
-        Some(i) => report_map(records, accession_at(records, i).on_map, output),
+        Some(&[_, on_map, _, _]) => report_map(records, on_map, output),
     }
 }
 

@@ -1,4 +1,5 @@
 // The rules of accession records: 17. A record keeps them exactly when it goes on from the last record of its map before it (Chain.antt of `catalogue`).
+// `&` joins tests here: no test has an effect, and without a branch each is its definition as it stands.
 ghost use Rattle.std.specs.Prelude.{◌≡◌, ◌≤◌, ◌<◌, ◌^◌};
 ghost use Rattle.catalogue.specs.Accession.{accession_count, own_ascends, accessions_fault};
 ghost use Rattle.catalogue.specs.AccessionLaws.Chain.{follows};
@@ -50,7 +51,7 @@ fn first_broken_with<const SLOTS: usize, const ROOM: usize>(records: &[u64]) -> 
     ensures { result ≡ accessions_fault records.now }
 {
     let mut held = Held::<SLOTS, ROOM>::new();
-    // Kept: each record is asked about by the table of those before it, which a closure of `find` would have to change as it asks.
+    // Kept: each record is asked about by the table of those before it. A closure of `find` would ask and hold the record in one, and be no plainer.
     for i in 0..record_count(records) {
         let before = held.last_of_map(records, i);
         if !(own_ascends(records, i) & goes_on(records, i, before)) {

@@ -11,7 +11,6 @@ use replay_lists::{LentRoom, Opening, length_within, replay_cases, write_partiti
 use sheet::{CELLS_MOST, read_sheet};
 use std::io;
 use std::io::Write;
-use streams::write_bytes;
 
 // A cell more than a sheet that is run has, and a span more than a list may have, so that a case can pass on too many.
 const CELLS: usize = CELLS_MOST as usize + 1;
@@ -42,7 +41,7 @@ fn replay<W: Write>(out: &mut W, opening: &Opening, bytes: &[u8]) -> io::Result<
     let mut anchors = [0u64; NUMBERS_PER_ANCHOR * MAX_ENTRIES];
     match read_sheet(bytes, &mut cells, &mut spans, &mut boundaries, &mut anchors) {
         Ok(_) => lend(out, opening, &cells, &spans),
-        Err(_) => write_bytes(out, b"no sheet\n"),
+        Err(_) => out.write_all(b"no sheet\n"),
     }
 }
 

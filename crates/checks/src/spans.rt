@@ -1,5 +1,5 @@
 // The checks of spans: numbers 5 and 6.
-ghost use Rattle.std.specs.Prelude.{◌≡◌, ◌+◌, ◌≤◌, ◌<◌, length};
+ghost use Rattle.std.specs.Prelude.{◌≡◌, ◌≤◌};
 ghost use Rattle.definitions.specs.Limits.{max_side};
 ghost use Rattle.definitions.specs.Grid.{segment_at};
 ghost use Rattle.definitions.specs.Refusals.{both_on_map, endpoints_differ, spans_refusal};
@@ -9,15 +9,15 @@ ghost use Rattle.checks.specs.Contract.{segment_refusal};
 use definitions::limits::{NUMBERS_PER_SPAN, PIXELS_PER_WALK_CELL};
 use refusals::{Cause, Refusal};
 
-// 5: "span endpoint above 8 × width or 8 × height", of the four numbers from k on, a span's or a boundary's.
-pub(crate) fn both_on_map(width: u64, height: u64, list: &[u64], k: usize) -> bool
-    requires { (width ≤ max_side) × (height ≤ max_side) × (k + 3 < length list.now) }
-    ensures { result ≡ both_on_map width height (segment_at list.now k) }
+// 5: "span endpoint above 8 × width or 8 × height", of a span's four numbers or a boundary's first four.
+pub(crate) fn both_on_map(width: u64, height: u64, line: &[u64; NUMBERS_PER_SPAN]) -> bool
+    requires { (width ≤ max_side) × (height ≤ max_side) }
+    ensures { result ≡ both_on_map width height (segment_at line.now 0) }
 {
+    let [x0, y0, x1, y1] = *line;
     let right = PIXELS_PER_WALK_CELL * width;
     let bottom = PIXELS_PER_WALK_CELL * height;
-    ((list[k] <= right) & (list[k + 1] <= bottom))
-        & ((list[k + 2] <= right) & (list[k + 3] <= bottom))
+    ((x0 <= right) & (y0 <= bottom)) & ((x1 <= right) & (y1 <= bottom))
 }
 
 // 6: "span endpoints equal"
@@ -25,7 +25,7 @@ fn endpoints_differ(span: &[u64; NUMBERS_PER_SPAN]) -> bool
     ensures { result ≡ endpoints_differ (segment_at span.now 0) }
 {
     let [x0, y0, x1, y1] = *span;
-    !((x0 == x1) & (y0 == y1))
+    (x0, y0) != (x1, y1)
 }
 
 // Both, of the span at this place: "Numbers 5 and 6 are tested span by span, 5 first."
@@ -38,7 +38,7 @@ fn check_span(
     requires { (width ≤ max_side) × (height ≤ max_side) }
     ensures { refusal_in result ≡ segment_refusal width height (segment_at span.now 0) place }
 {
-    if !both_on_map(width, height, span, 0) {
+    if !both_on_map(width, height, span) {
         return Err(Refusal {
             cause: Cause::SpanOutside,
             place,

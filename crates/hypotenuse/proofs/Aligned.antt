@@ -1,5 +1,5 @@
--- The squares of two doubles of 17 digits at most: with U the unit of the 17th digit of the smaller, they are whole numbers of U * U, and U * U is a power of two times the square of the root's
--- unit. Assumes nothing.
+-- The squares of two doubles of 17 digits at most: with U the unit of the 17th digit of the smaller, they are whole numbers of U * U, and U * U is a power of
+-- two times the square of the root's unit. Assumes nothing.
 use mathlib.Core.Path.{◌≡◌, sym, ap, ◌∙◌}
 use Prim.Native.Nat.{ℕ, ◌+◌, ◌-◌, ◌*◌, ◌/◌, ◌%◌, ◌^◌, ◌≤◌}
 use native.Mathlib.Nat.{add-mul, mul_assoc, mul-mul-mul_comm}

@@ -1,5 +1,6 @@
--- Two magnitudes that are far apart: where the second is at most 2 ^ 25 units of the last place of the first, the nearest double is the first. With q digits at the exponent k the sum of the
--- squares is above the square of q by 2 ^ 50 square units at most, and that of the middle, q and a half, is above it by more than q, which is 2 ^ 52 at least. Assumes nothing.
+-- Two magnitudes that are far apart: where the second is at most 2 ^ 25 units of the last place of the first, the nearest double is the first. With q digits at
+-- the exponent k the sum of the squares is above the square of q by 2 ^ 50 square units at most, and that of the middle, q and a half, is above it by more than
+-- q, which is 2 ^ 52 at least. Assumes nothing.
 use mathlib.Core.Path.{◌≡◌, refl, sym, ap, ◌∙◌}
 use mathlib.Core.Bool.{false}
 use Prim.Native.Nat.{ℕ, ◌+◌, ◌-◌, ◌*◌, ◌/◌, ◌%◌, ◌^◌, ◌≤◌, ◌<◌}

@@ -1,5 +1,6 @@
--- The numbers of `near_pattern`: x * 2 ^ k and y * 2 ^ (k - gap), the sum F of their squares in quarters of 4 ^ k, without what is below one of these, and the whole root t of F, of 54 or 55 digits.
--- With P = 2 ^ gap and U = 2 ^ (k - gap), the unit is P * U = 2 ^ k, and what was cut off counts squares of U. Assumes nothing.
+-- The numbers of `near_pattern`: x * 2 ^ k and y * 2 ^ (k - gap), the sum F of their squares in quarters of 4 ^ k, without what is below one of these, and the
+-- whole root t of F, of 54 or 55 digits. With P = 2 ^ gap and U = 2 ^ (k - gap), the unit is P * U = 2 ^ k, and what was cut off counts squares of U. Assumes
+-- nothing.
 use mathlib.Core.Path.{◌≡◌, refl, sym, ap, ◌∙◌, subst}
 use mathlib.Core.Logic.{◌⊎◌, inl, inr}
 use Prim.Native.Nat.{ℕ, ◌+◌, ◌-◌, ◌*◌, ◌%◌, ◌^◌, ◌≤◌, ◌<◌}

@@ -1,5 +1,5 @@
--- The root of N squares of 2 ^ K, by the whole number r nearest to the root of N: where r is not above the root, r has its digits, and else the number below r has them and the rest is above
--- a half. There are no ties, since the square of a half more than a whole number is not whole. Assumes nothing.
+-- The root of N squares of 2 ^ K, by the whole number r nearest to the root of N: where r is not above the root, r has its digits, and else the number below r
+-- has them and the rest is above a half. There are no ties, since the square of a half more than a whole number is not whole. Assumes nothing.
 use mathlib.Core.Path.{◌≡◌, sym, ap, ◌∙◌, subst}
 use mathlib.Core.Logic.{inl, inr}
 use mathlib.Core.Bool.{false}

@@ -1,5 +1,6 @@
--- How `root_of S` rounds, told by a whole root. 4 * S is F squares of a unit P * U and L more of U, fewer than one such square, and t is the whole root of F. So the squares of t units and fewer
--- are not above 4 * S, and those of more than t units are above it: the L below the unit change no comparison but that with an exact square of t units. Assumes nothing.
+-- How `root_of S` rounds, told by a whole root. 4 * S is F squares of a unit P * U and L more of U, fewer than one such square, and t is the whole root of F.
+-- So the squares of t units and fewer are not above 4 * S, and those of more than t units are above it: the L below the unit change no comparison but that with
+-- an exact square of t units. Assumes nothing.
 use mathlib.Core.Path.{◌≡◌, refl, sym, ap, ◌∙◌, subst}
 use mathlib.Core.Logic.{◌⊎◌, inl, inr}
 use mathlib.Core.Bool.{false}

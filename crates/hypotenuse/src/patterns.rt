@@ -8,16 +8,16 @@ ghost use Rattle.laws.specs.FloatLaws.Patterns.{pattern_of};
 ghost use Rattle.laws.specs.FloatLaws.PatternOrder.{pattern_in_range};
 ghost use Rattle.hypotenuse.specs.Rounding.{Rounded};
 
-use crate::layout::{LEADING, SIGN};
+use crate::layout::{LEADING, SIGN, exponent, significand};
 use crate::root::{floor_root, square};
 use crate::short::short_root;
 
 // The pattern of 2^-64.
-const LEAST: u64 = 4318952042648305664;
+const LEAST: u64 = 959 << 52;
 // The pattern of 2^15.
-const MOST: u64 = 4674736413210574848;
-// 2^54: from here on a root has 55 digits.
-const LONG_ROOT: u64 = 18014398509481984;
+const MOST: u64 = 1038 << 52;
+// From here on a root has 55 digits.
+const LONG_ROOT: u64 = 1 << 54;
 // Exponents that are further apart leave the larger double as it is.
 const MAX_GAP: u64 = 27;
 
@@ -25,7 +25,7 @@ const MAX_GAP: u64 = 27;
 pub fn bits_of(x: f64) -> u64
     ensures { result ≡ pattern_of x }
 {
-    if x != x {
+    if x.is_nan() {
         return SIGN;
     }
     f64::to_bits(x) % SIGN
@@ -35,7 +35,7 @@ pub fn bits_of(x: f64) -> u64
 pub fn in_range(b: u64) -> bool
     ensures { result ≡ pattern_in_range b }
 {
-    b == 0 || (LEAST <= b && b <= MOST)
+    b == 0 || (LEAST..=MOST).contains(&b)
 }
 
 // A guess at twice the root of the two doubles' squares, in units of the last place of the larger, by two of Halley's steps in floats. All that is claimed of
@@ -50,25 +50,23 @@ fn guess(larger: u64, smaller: u64) -> u64
     // The larger of two lines is within 3 in 100 of the root.
     let a = x + y * 0.125;
     let b = x * 0.875 + y * 0.53;
-    let first = if a < b { b } else { a };
+    let first = a.max(b);
     let p = first * first;
     let second = first * (p + 3.0 * s) / (3.0 * p + s);
     let q = second * second;
     let third = second * (q + 3.0 * s) / (3.0 * q + s);
-    if third != third {
+    if third.is_nan() {
         return LONG_ROOT;
     }
     let bits = f64::to_bits(third);
-    let exponent = bits / LEADING;
-    let digits = bits % LEADING + LEADING;
-    let top = larger / LEADING;
-    if exponent >= top {
-        if exponent - top <= 1 {
-            return 2 * digits + 2 * digits * (exponent - top);
-        }
+    let digits = significand(bits);
+    if let Some(above) = exponent(bits).checked_sub(exponent(larger))
+        && above <= 1
+    {
+        return 2 * digits + 2 * digits * above;
     }
     // The root of a power of two and a far smaller number may come out a little below that power.
-    2 * (larger % LEADING + LEADING)
+    2 * significand(larger)
 }
 
 // The pattern of the double nearest to a root, ties to the even significand. The root is t halves of 2^k, and a little more where `extra` is not 0; t has 54
@@ -127,8 +125,8 @@ fn root_pattern(larger: u64, smaller: u64) -> u64
     if larger == 0 {
         return 0;
     }
-    let top = larger / LEADING;
-    let gap = top - smaller / LEADING;
+    let top = exponent(larger);
+    let gap = top - exponent(smaller);
     if gap > MAX_GAP {
         return larger;
     }
@@ -138,8 +136,8 @@ fn root_pattern(larger: u64, smaller: u64) -> u64
     let start = guess(larger, smaller);
     near_pattern(
         top - 1,
-        larger % LEADING + LEADING,
-        smaller % LEADING + LEADING,
+        significand(larger),
+        significand(smaller),
         gap,
         start,
     )

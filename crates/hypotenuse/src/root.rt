@@ -5,8 +5,8 @@ ghost use Rattle.hypotenuse.specs.Roots.{IsRoot};
 
 // The steps start so far below the guess.
 const MARGIN: u64 = 32;
-// They are tried where the number is above the start's square by less than this, 2^62.
-const MAX_REST: u128 = 4611686018427387904;
+// They are tried where the number is above the start's square by less than this.
+const MAX_REST: u128 = 1 << 62;
 
 // t * t
 pub fn square(t: u64) -> u128
@@ -74,12 +74,12 @@ pub fn floor_root(f: u128, guess: u64) -> Rooted
     ensures { IsRoot f result.root result.rest }
 {
     let low = guess - MARGIN;
-    if let Some(rest) = f.checked_sub(square(low)) {
-        if rest < MAX_REST {
-            let found = single_steps(division_step(low, rest as u64));
-            if found.rest <= 2 * found.root {
-                return found;
-            }
+    if let Some(rest) = f.checked_sub(square(low))
+        && rest < MAX_REST
+    {
+        let found = single_steps(division_step(low, rest as u64));
+        if found.rest <= 2 * found.root {
+            return found;
         }
     }
     digit_root(f)

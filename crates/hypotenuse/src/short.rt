@@ -7,13 +7,13 @@ ghost use Rattle.definitions.specs.Hypotenuse.{root_of};
 ghost use Rattle.definitions.specs.Nearest.{pattern_magnitude};
 ghost use Rattle.hypotenuse.specs.Short.{short_squares, Steps, NearestWhole};
 
-use crate::layout::{LEADING, SIGN};
+use crate::layout::{LEADING, SIGN, exponent, significand};
 use crate::root::square;
 
-// 2^36: the place of the last of 17 digits.
-const LAST_PLACE: u64 = 68719476736;
-// 2^44: the unit of a sum of squares.
-const SQUARE_UNIT: u128 = 17592186044416;
+// The place of the last of 17 digits.
+const LAST_PLACE: u64 = 1 << 36;
+// The unit of a sum of squares.
+const SQUARE_UNIT: u128 = 1 << 44;
 // This less half the pattern of s is the pattern of 0.73 divided by the root of s, to 5 in 100.
 const START: u64 = 6908488151547772928;
 
@@ -25,7 +25,7 @@ fn guess(larger: u64, smaller: u64) -> Option<u64>
     let x = f64::from_bits(larger);
     let y = f64::from_bits(smaller);
     let s = x * x + y * y;
-    if s != s {
+    if s.is_nan() {
         return None;
     }
     let a = f64::from_bits(START - f64::to_bits(s) % SIGN / 2);
@@ -34,7 +34,7 @@ fn guess(larger: u64, smaller: u64) -> Option<u64>
     let r = s * c;
     let d = 1.0 - r * c;
     let near = r + r * d * (0.5 + 0.375 * d);
-    if near != near {
+    if near.is_nan() {
         return None;
     }
     Some(f64::to_bits(near))
@@ -62,7 +62,7 @@ fn steps(b: u64, e: u64) -> u64
 fn nearest_root(m: u64, fraction: u64) -> Option<u64>
     ensures { IfSome result (NearestWhole (m * 2 ^ 44)) }
 {
-    if fraction < 2 || fraction > LEADING - 2 {
+    if !(2..=LEADING - 2).contains(&fraction) {
         return None;
     }
     let b = fraction + (LEADING - 1);
@@ -78,9 +78,9 @@ fn squares(larger: u64, smaller: u64, up: u64) -> u64
     requires { (smaller / 2 ^ 52 ≤ larger / 2 ^ 52) × (larger / 2 ^ 52 - smaller / 2 ^ 52 ≤ up) × (up ≤ 14) }
     ensures { result ≡ short_squares larger smaller * 2 ^ (28 - 2 * up) }
 {
-    let gap = larger / LEADING - smaller / LEADING;
-    let x = ((larger % LEADING + LEADING) / LAST_PLACE) << gap;
-    let y = (smaller % LEADING + LEADING) / LAST_PLACE;
+    let gap = exponent(larger) - exponent(smaller);
+    let x = (significand(larger) / LAST_PLACE) << gap;
+    let y = significand(smaller) / LAST_PLACE;
     (x * x + y * y) << (28 - 2 * up)
 }
 
@@ -95,11 +95,11 @@ pub fn short_root(larger: u64, smaller: u64) -> Option<u64>
         return None;
     }
     let near = guess(larger, smaller)?;
-    let top = near / LEADING;
-    if top < larger / LEADING {
+    let top = exponent(near);
+    if top < exponent(larger) {
         return None;
     }
-    let up = top - smaller / LEADING;
+    let up = top - exponent(smaller);
     if up > 14 {
         return None;
     }

@@ -16,17 +16,15 @@ use std::io::{Read, Write};
 use streams::read_full;
 
 // The pattern of the infinity; larger ones are NaNs.
-const INFINITY: u64 = 9218868437227405312;
+const INFINITY: u64 = 2047 << 52;
 // A line whose number has one digit.
 const SHORTEST_LINE: usize = 52;
 // A line whose number has nine.
 const LONGEST_LINE: usize = 60;
-// A line ends so.
-const NEWLINE: u8 = 10;
 // So many lines with another answer are listed.
 const LISTED: u64 = 8;
 // Reading ends after so many turns at the latest.
-const TURNS: u64 = 1048576;
+const TURNS: u64 = 1 << 20;
 
 // A digit from 0 to 9 or a to f.
 fn digit(b: u8) -> u64
@@ -52,7 +50,7 @@ fn double(bits: u64) -> f64
     ensures { result ≡ of_bits binary64 bits }
 {
     if bits % SIGN > INFINITY {
-        return 0.0 / 0.0;
+        return f64::NAN;
     }
     f64::from_bits(bits)
 }
@@ -109,18 +107,16 @@ fn report<W: Write>(output: &mut W, line: u64) -> io::Result<()> {
     writeln!(output, "not our answer: line {line}")
 }
 
-// Counts a line, the last of so many of which so many have our answer, and lists it where it is one of the first that have another.
-fn replay_line<W: Write>(output: &mut W, s: &[u8], lines: u64, answers: u64) -> io::Result<u64>
-    requires { answers < lines }
-    ensures { IfOk result (λ n. n ≡ bit (is_answer_line s.now)) }
+// Whether a line has our answer. It is listed where it is one of the first that have another, with those before it.
+fn replay_line<W: Write>(output: &mut W, s: &[u8], before: Tally) -> io::Result<bool>
+    requires { before.lines + 1 < 2 ^ 64 }
+    ensures { IfOk result (λ ours. ours ≡ is_answer_line s.now) }
 {
-    if is_answer_line(s) {
-        return Ok(1);
+    let ours = is_answer_line(s);
+    if !ours && before.lines - before.answers < LISTED {
+        report(output, before.lines + 1)?;
     }
-    if lines - answers <= LISTED {
-        report(output, lines)?;
-    }
-    Ok(0)
+    Ok(ours)
 }
 
 // Counts the lines of s on top of those before, and lists the first that have another answer. Answers the counts, and how many bytes there are up to the last
@@ -130,17 +126,19 @@ fn replay<W: Write>(output: &mut W, s: &[u8], before: Tally) -> io::Result<(Tall
     ensures { IfOk result (λ r. (r.0.lines ≡ before.lines + lines_in s.now) × (r.0.answers ≡ before.answers + answers_in [] s.now)
         × (r.0.lines ≤ before.lines + length s.now) × (r.1 ≤ length s.now)) }
 {
-    let mut lines = before.lines;
-    let mut answers = before.answers;
+    let mut tally = before;
     let mut start = 0;
     for (i, &b) in s.iter().enumerate() {
-        if b == NEWLINE {
-            lines += 1;
-            answers += replay_line(output, &s[start..i], lines, answers)?;
+        if b == b'\n' {
+            let ours = replay_line(output, &s[start..i], tally)?;
+            tally = Tally {
+                lines: tally.lines + 1,
+                answers: tally.answers + u64::from(ours),
+            };
             start = i + 1;
         }
     }
-    Ok((Tally { lines, answers }, start))
+    Ok((tally, start))
 }
 
 // What is known between two turns of reading: the counts, and how many bytes of a line that has begun stand at the buffer's start.

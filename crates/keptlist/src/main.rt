@@ -5,12 +5,13 @@
 
 use sheet_answer::{input_room, keptlist, output_room};
 use std::io;
-use streams::{read_full, write_bytes};
+use std::io::Write;
+use streams::read_full;
 
 fn main(rt: HostRuntime) -> io::Result<()> {
     let mut input = input_room();
     let count = read_full(&mut rt.stdin(), &mut input)?;
     let mut output = output_room();
     let end = keptlist(&input[..count], &mut output);
-    write_bytes(&mut rt.stdout(), &output[..end])
+    rt.stdout().write_all(&output[..end])
 }

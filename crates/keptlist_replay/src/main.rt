@@ -8,7 +8,7 @@ ghost use Rattle.std.specs.Prelude.{◌≤◌, length};
 use sheet_answer::{INPUT_ROOM, input_room, keptlist, output_room};
 use std::io;
 use std::io::{Read, Write};
-use streams::{read_full, write_bytes};
+use streams::read_full;
 
 // Reading ends after so many sheets at the latest.
 const SHEETS: u64 = 65536;
@@ -26,7 +26,7 @@ fn answer_to<R: Read, W: Write>(input: &mut R, output: &mut W, sheet: &mut [u8])
     let count = read_full(input, &mut *sheet)?;
     let mut out = output_room();
     let end = keptlist(&sheet[0..count], &mut out);
-    write_bytes(output, &out[..end])
+    output.write_all(&out[..end])
 }
 
 // Replays the next sheet, if there is one.

@@ -23,6 +23,7 @@ use refusals::{Cause, Refusal, ensure, no_fault};
 fn check_lists(terms: &[u64], records: &[u64]) -> Result<(), Refusal>
     ensures { refusal_in result ≡ lists_refusal terms.now records.now }
 {
+    // `&` joins the tests: neither has an effect, and without a branch they are their definition as it stands.
     let finished = (terms.len() % NUMBERS_PER_TERM == 0)
         & (records.len() % NUMBERS_PER_ACCESSION == 0);
     ensure(finished, Cause::Entries)?;

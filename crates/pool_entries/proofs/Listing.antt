@@ -1,13 +1,14 @@
 -- The maps of the terms that have the day, counted and put one behind the other as the loops go (`Putting`). Assumes nothing.
-use Prim.Native.Nat.{ℕ, zero, suc, ◌+◌, ◌≤◌, ◌<◌}
+use Prim.Native.Nat.{ℕ, zero, suc, ◌+◌, ◌/◌, ◌≤◌, ◌<◌}
 use native.Mathlib.Omega.{arith}
 use native.Mathlib.Nat.{le_antisymm}
 use mathlib.Core.Path.{◌≡◌, refl, sym, ap, ap₂, ◌∙◌}
 use mathlib.Core.Bool.{Bool, true, false}
 use Rattle.std.specs.Prelude.{Option}
-use Rattle.std.specs.List.{filter, range_with_len}
+use Rattle.std.specs.List.{filter}
+use Rattle.std.specs.Simd.{first_chunks}
 use mathlib.Core.List.{List, [], ◌∷◌, ◌++◌}
-use lib.ListN.{length, set, length-append}
+use lib.ListN.{length, get_or, set, length-append}
 use lib.Seq.{sets, length-sets}
 use lib.Dec.{ltb}
 use borrow.Author.Tests.{ltb-true, ltb-false}
@@ -15,7 +16,8 @@ use Rattle.definitions.specs.Lists.{overwrite}
 use Rattle.definitions.specs.Scan.{bit, count_below, to_list, only_if, collect}
 use Rattle.laws.specs.ListLaws.ScanSteps.{count_next, collect_next}
 use Rattle.laws.specs.ListLaws.Overwritten.{overwrite_more}
-use Rattle.range_laws.specs.Ranges.{counted_range}
+use Rattle.pool_terms.specs.Contract.{term_in}
+use Rattle.pool_terms.proofs.Chunks.{term_in-chunk}
 use Rattle.catalogue.specs.Terms.{Term, term_at, term_count, days_of, contains}
 use Rattle.catalogue.specs.Pool.{maps_in}
 use Rattle.pool_entries.specs.Steps.{map_at_lem}
@@ -52,11 +54,35 @@ module _ {A : Type 0} (f : ℕ → Bool) (g : ℕ → A) where
       next true p q r = omega arith
       next false p q r = omega arith
 
-pub all-counted : (terms : List ℕ) (day : ℕ) → length (filter (λ i. contains day (days_of (term_at terms i))) (range_with_len 0 (term_count terms))) ≡ length (maps_in terms day)
-unfolding maps_in
-all-counted terms day =
-    let f : ℕ → Bool = λ i. contains day (days_of (term_at terms i)) in
-    counted_range f (term_count terms) ∙ as_many f (λ i. (term_at terms i).on_map) (term_count terms)
+module _ (terms : List ℕ) (day : ℕ) {chunks : List (List ℕ)} (E : chunks ≡ first_chunks 7 (length terms / 7) terms) (many : length chunks ≡ length terms / 7) where
+  abbrev has : List ℕ → Bool
+  has e = contains day (days_of (term_in e))
+
+  abbrev has_lem : ℕ → Bool
+  has_lem i = contains day (days_of (term_at terms i))
+
+  one_more : (b : Bool) (x : List ℕ) (xs : List (List ℕ)) → b ≡ has x → length (filter has (x ∷ xs)) ≡ bit b + length (filter has xs)
+  one_more true x xs e = rw (sym e) (omega arith)
+  one_more false x xs e = rw (sym e) (omega arith)
+
+  counted_from : (a : ℕ) (xs : List (List ℕ)) → ((i : ℕ) → i < length xs → has (get_or xs i []) ≡ has_lem (a + i))
+      → count_below a has_lem + length (filter has xs) ≡ count_below (a + length xs) has_lem
+  counted_from a [] h = let same : a ≡ a + 0 = omega arith in omega (arith, ap (λ n. count_below n has_lem) same)
+  counted_from a (x ∷ xs) h =
+      let here : a + 0 ≡ a = omega arith in
+      let more : a + 1 + length xs ≡ a + suc (length xs) = omega arith in
+      let step : (i : ℕ) → a + suc i ≡ a + 1 + i = λ i. omega arith in
+      let rest = counted_from (a + 1) xs (λ i b. h (suc i) (omega arith) ∙ ap has_lem (step i)) in
+      let first = one_more (has_lem a) x xs (sym (h 0 (omega arith) ∙ ap has_lem here)) in
+      omega (arith, rest, first, count_next has_lem a, ap (λ n. count_below n has_lem) more)
+
+  pub all-counted : length (filter has chunks) ≡ length (maps_in terms day)
+  unfolding maps_in count_below
+  all-counted =
+      let plain : (i : ℕ) → i ≡ 0 + i = λ i. omega arith in
+      let all = counted_from 0 chunks (λ i b. ap (λ t. contains day (days_of t)) (term_in-chunk terms i E (omega (arith, b, many))) ∙ ap has_lem (plain i)) in
+      let end : 0 + length chunks ≡ term_count terms = omega (arith, many) in
+      omega (arith, all, ap (λ n. count_below n has_lem) end) ∙ as_many has_lem (λ i. (term_at terms i).on_map) (term_count terms)
 
 -- ---- putting
 

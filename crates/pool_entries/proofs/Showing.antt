@@ -1,6 +1,6 @@
--- A record shown in the entry of its map: the entries' maps rise, so that a place is behind those up to the record's, and no other entry is of that map. Over the whole list of
--- records each entry then shows the last that is of its map and of the day or earlier (`Showing`). Assumes nothing.
-use Prim.Native.Nat.{ℕ, zero, suc, ◌+◌, ◌-◌, ◌*◌, ◌≤◌, ◌<◌}
+-- A record shown in the entry of its map: the entries' maps rise, so that no other entry is of that map. Over the whole list of records each entry then shows
+-- the last that is of its map and of the day or earlier (`Showing`). Assumes nothing.
+use Prim.Native.Nat.{ℕ, zero, suc, ◌+◌, ◌*◌, ◌≤◌, ◌<◌}
 use native.Mathlib.Omega.{arith}
 use native.Mathlib.Numerals.{add-one}
 use mathlib.Core.Path.{◌≡◌, refl, sym, ap, ap₂, subst, ◌∙◌}
@@ -10,12 +10,12 @@ use mathlib.Core.List.{List, [], ◌∷◌, ◌++◌, append-nil}
 use lib.ListN.{length, get_or, set}
 use lib.Seq.{sets}
 use lib.Dec.{eqb, leb}
-use borrow.Author.Tests.{eq-eqb, ne_eqb, eqb-true, eqb-false, le-leb, lt-leb, leb-true, leb-false}
+use borrow.Author.Tests.{eq-eqb, ne_eqb, le-leb, lt-leb, leb-true, leb-false}
 use Rattle.definitions.specs.Scan.{concat_map}
 use Rattle.catalogue.specs.Accession.{Accession, accession_at, accession_count}
 use Rattle.catalogue.specs.Pool.{entry_of, newest, entries_of}
 use Rattle.catalogue.specs.PoolLaws.{Rising}
-use Rattle.pool_entries.specs.Steps.{entries_by, blank, Behind, Found, Shown}
+use Rattle.pool_entries.specs.Steps.{entries_by, blank, Found, Shown}
 use Rattle.pool_entries.proofs.Spreading.{entries-length}
 
 -- ---- entries, one by one
@@ -82,58 +82,30 @@ with_record r f m = cond (eqb r.on_map m) (Some r) (f m)
 pub map_in_entry : {entries : List ℕ} (f : ℕ → Option Accession) (M : List ℕ) → entries ≡ entries_by f M → (k : ℕ) → k < length M → get_or entries (4 * k) 0 ≡ get_or M k 0
 map_in_entry f M e k h = ap (λ l. get_or l (4 * k) 0) (e ∙ sym (append-nil (entries_by f M))) ∙ map_at f M [] k h
 
-module _ (old : List ℕ) (r : Accession) (p : ℕ) (F : Found old r.on_map p) where
-  module _ (M : List ℕ) (f : ℕ → Option Accession) (rising : Rising M) (B : old ≡ entries_by f M) where
-    abbrev T : Behind M r.on_map p
-    T = F M f rising B
-
-    -- an entry that is not the one in front of the place is of another map
-    other : (k : ℕ) → k < length M → (suc k ≡ p → ⊥) → get_or M k 0 ≡ r.on_map → ⊥
-    other k h d e = go (leb p k) refl
-      where
-        go : (t : Bool) → leb p k ≡ t → ⊥
-        go true t = omega (arith, T.back k (leb-true p k t) h, e)
-        go false t =
-            let b : k < p = leb-false p k t in
-            omega (arith, e, rising k (p - 1) (omega arith) (omega (arith, T.within)), T.front (p - 1) (omega arith))
-
-    none_shown : ((k : ℕ) → k < length M → get_or M k 0 ≡ r.on_map → ⊥) → old ≡ entries_by (with_record r f) M
-    unfolding with_record
-    none_shown h =
-        B ∙ entries_ext f (with_record r f) M (λ k b. sym (rw (ne_eqb r.on_map (get_or M k 0) (λ e. h k b (sym e))) refl))
-
-    one_shown : {new : List ℕ} → 0 < p → get_or old (4 * (p - 1)) 0 ≡ r.on_map → new ≡ sets old (4 * (p - 1) + 1) (r.own ∷ r.day ∷ r.superseded ∷ [])
-        → new ≡ entries_by (with_record r f) M
-    unfolding with_record
-    one_shown h e s =
-        let q = p - 1 in
-        let inside : q < length M = omega (arith, T.within) in
-        let found : get_or M q 0 ≡ r.on_map = sym (map_in_entry f M B q inside) ∙ e in
-        s
-        ∙ ap (λ l. sets l (4 * q + 1) (r.own ∷ r.day ∷ r.superseded ∷ [])) B
-        ∙ shown_at f (with_record r f) r M q inside (rw (eq-eqb r.on_map (get_or M q 0) (sym found)) refl)
-        (λ k b d. rw (ne_eqb r.on_map (get_or M k 0) (λ z. other k b (λ y. d (omega arith)) (sym z))) refl)
-
-  -- no entry in front of the place
-  pub first_place_lem : p ≡ 0 → Shown old r old
+module _ (old : List ℕ) (r : Accession) where
+  -- no entry is of the record's map
+  pub none_shown : Found old r.on_map None → Shown old r old
   unfolding with_record
-  first_place_lem z M f R B = none_shown M f R B (λ k b. other M f R B k b (λ e. omega arith))
+  none_shown F M f R B =
+      B ∙ entries_ext f (with_record r f) M (λ k b. sym (rw (ne_eqb r.on_map (get_or M k 0) (λ e. F M f R B k b (sym e))) refl))
 
-  -- the entry in front of the place is of another map
-  pub other-map : 0 < p → (get_or old (4 * (p - 1)) 0 ≡ r.on_map → ⊥) → Shown old r old
+  -- entry q is
+  pub its_map : {new : List ℕ} (q : ℕ) → Found old r.on_map (Some q) → new ≡ sets old (4 * q + 1) (r.own ∷ r.day ∷ r.superseded ∷ []) → Shown old r new
   unfolding with_record
-  other-map h d M f R B =
-      none_shown M f R B (λ k b e. go k b e (eqb (suc k) p) refl)
+  its_map q F s M f R B =
+      let at = F M f R B in
+      s
+      ∙ ap (λ l. sets l (4 * q + 1) (r.own ∷ r.day ∷ r.superseded ∷ [])) B
+      ∙ shown_at f (with_record r f) r M q at.0 (rw (eq-eqb r.on_map (get_or M q 0) (sym at.1)) refl)
+      (λ k b d. rw (ne_eqb r.on_map (get_or M k 0) (λ z. other M R k q b at.0 d (sym z ∙ sym at.1))) refl)
     where
-      go : (k : ℕ) → k < length M → get_or M k 0 ≡ r.on_map → (t : Bool) → eqb (suc k) p ≡ t → ⊥
-      go k b e true t =
-          let here : k ≡ p - 1 = omega (arith, eqb-true (suc k) p t) in
-          d (ap (λ j. get_or old (4 * j) 0) (sym here) ∙ map_in_entry f M B k b ∙ e)
-      go k b e false t = other M f R B k b (eqb-false (suc k) p t) e
-
-  pub its_map : {new : List ℕ} → 0 < p → get_or old (4 * (p - 1)) 0 ≡ r.on_map → new ≡ sets old (4 * (p - 1) + 1) (r.own ∷ r.day ∷ r.superseded ∷ []) → Shown old r new
-  unfolding with_record
-  its_map h e s M f R B = one_shown M f R B h e s
+      -- maps that rise have no entry twice
+      other : (M : List ℕ) → Rising M → (k q : ℕ) → k < length M → q < length M → (k ≡ q → ⊥) → get_or M k 0 ≡ get_or M q 0 → ⊥
+      other M R k q a b d e = go (leb q k) refl
+        where
+          go : (t : Bool) → leb q k ≡ t → ⊥
+          go true t = let low : q ≤ k = leb-true q k t in omega (arith, e, R q k (omega (arith, low, λ (z : k ≡ q). d z)) a)
+          go false t = omega (arith, e, R k q (leb-false q k t) b)
 
 pub three-stored : (l : List ℕ) (k v w x : ℕ) → set (set (set l (k + 1) v) (k + 2) w) (k + 3) x ≡ sets l (k + 1) (v ∷ w ∷ x ∷ [])
 three-stored l k v w x =

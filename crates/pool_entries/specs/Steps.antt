@@ -1,5 +1,5 @@
 -- What the steps of the listing promise: entries that show no record yet, and entries in which a record is shown. Definitions only; assumes nothing.
-use Rattle.std.specs.Prelude.{ℕ, ◌≤◌, ◌<◌, ◌≡◌, cond, List, length, get_or, eqb, Option, None, Some}
+use Rattle.std.specs.Prelude.{ℕ, ◌<◌, ◌≡◌, cond, List, length, get_or, eqb, Option, None, Some}
 use Rattle.definitions.specs.Scan.{only_if, concat_map}
 use Rattle.catalogue.specs.Terms.{term_at, days_of, contains}
 use Rattle.catalogue.specs.Accession.{Accession, accession_count}
@@ -23,14 +23,13 @@ entries_by f maps = concat_map (λ m. entry_of m (f m)) maps
 abbrev pub blank : List ℕ → List ℕ
 blank maps = entries_by (λ m. None) maps
 
--- where these are the entries of rising maps, the place is behind those of the maps up to this one
-pub record Behind (maps : List ℕ) (map place : ℕ) : Type 0 where
-  pub within : place ≤ length maps
-  pub front : (k : ℕ) → k < place → get_or maps k 0 ≤ map
-  pub back : (k : ℕ) → place ≤ k → k < length maps → map < get_or maps k 0
+-- where these are the entries of rising maps, the place is this map's, or none has it
+abbrev pub IsPlace : List ℕ → ℕ → Option ℕ → Type 0
+IsPlace maps map None = (k : ℕ) → k < length maps → get_or maps k 0 ≡ map → ⊥
+IsPlace maps map (Some p) = (p < length maps) × (get_or maps p 0 ≡ map)
 
-abbrev pub Found : List ℕ → ℕ → ℕ → Type 0
-Found entries map place = (M : List ℕ) (f : ℕ → Option Accession) → Rising M → entries ≡ entries_by f M → Behind M map place
+abbrev pub Found : List ℕ → ℕ → Option ℕ → Type 0
+Found entries map place = (M : List ℕ) (f : ℕ → Option Accession) → Rising M → entries ≡ entries_by f M → IsPlace M map place
 
 -- the record is shown in the entry of its map
 abbrev pub Shown : List ℕ → Accession → List ℕ → Type 0

@@ -1,18 +1,17 @@
 // The records that entries show: the records are gone through once, in their order, and each one of the day or earlier is shown in its map's entry, over what
 // stood there.
-ghost use Rattle.std.specs.Prelude.{◌*◌, ◌≤◌, length};
+ghost use Rattle.std.specs.Prelude.{◌+◌, ◌*◌, ◌≤◌, length, IfSome};
 ghost use Rattle.catalogue.specs.Pool.{numbers_per_entry};
 ghost use Rattle.pool_entries.specs.Steps.{record_in, Found, Shown, RecordsShown};
 
 use catalogue::sizes::{NUMBERS_PER_ACCESSION, NUMBERS_PER_ENTRY};
 
-// The place behind the entries whose map is at most this one.
-fn place_of(entries: &[u64], map: u64) -> usize
-    ensures within { numbers_per_entry * result ≤ length entries.now }
-    ensures found { Found entries.now map result }
+// Which entry is the map's, if one is.
+fn place_of(entries: &[u64], map: u64) -> Option<usize>
+    ensures { IfSome result (λ k. numbers_per_entry * (k + 1) ≤ length entries.now) × Found entries.now map result }
 {
     let (entries, _) = entries.as_chunks::<NUMBERS_PER_ENTRY>();
-    entries.partition_point(|entry| entry[0] <= map)
+    entries.binary_search_by_key(&map, |entry| entry[0]).ok()
 }
 
 // Shows a record in the entry of its map, if there is one.
@@ -20,17 +19,13 @@ fn show(entries: &mut [u64], accession: &[u64; NUMBERS_PER_ACCESSION])
     ensures { Shown entries.old (record_in accession.now) entries.new }
 {
     let [own, map, day, superseded] = *accession;
-    let place = place_of(entries, map);
-    if place == 0 {
-        return;
+    // Kept: std says nothing of what a slice ends as that `as_chunks_mut` has lent, so that the entry is written by its place.
+    if let Some(k) = place_of(entries, map) {
+        let at = NUMBERS_PER_ENTRY * k;
+        entries[at + 1] = own;
+        entries[at + 2] = day;
+        entries[at + 3] = superseded;
     }
-    let at = NUMBERS_PER_ENTRY * (place - 1);
-    if entries[at] != map {
-        return;
-    }
-    entries[at + 1] = own;
-    entries[at + 2] = day;
-    entries[at + 3] = superseded;
 }
 
 // Shows each map's newest record of this day or earlier, in entries that show none.

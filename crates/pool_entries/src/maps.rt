@@ -7,13 +7,15 @@ ghost use Rattle.pool_entries.specs.Steps.{blank};
 
 use catalogue::sizes::{NUMBERS_PER_ENTRY, NUMBERS_PER_TERM};
 use number_sort::sort_numbers;
-use pool_terms::terms::{Term, term_at};
+use pool_terms::terms::Term;
 
 pub fn count_maps(terms: &[u64], day: u64) -> usize
     ensures { result ≡ length (maps_in terms.now day) }
 {
-    (0..terms.len() / NUMBERS_PER_TERM)
-        .filter(|&i| term_at(terms, i).has_day(day))
+    let (terms, _) = terms.as_chunks::<NUMBERS_PER_TERM>();
+    terms
+        .iter()
+        .filter(|numbers| Term::read(numbers).has_day(day))
         .count()
 }
 

@@ -76,7 +76,7 @@ fn precedes(first: Term, second: Term) -> bool
         return first.on_map < second.on_map;
     }
     match (first.days(), second.days()) {
-        (Some(earlier), Some(later)) => earlier.from < earlier.to && earlier.to <= later.from,
+        (Some(earlier), Some(later)) => !earlier.is_empty() && earlier.to <= later.from,
         _ => false,
     }
 }
@@ -122,7 +122,7 @@ fn take_terms(
     ensures { Keyed terms.now (term_count terms.now) part.low part.high keys.new result }
 {
     let mut taken = 0;
-    // Kept: a term's position is what is taken, and `term_at` reads its map by it; over chunks with `enumerate` the head would be longer and the body the same.
+    // Kept: the position is what is taken, and of the term only its map; over chunks with `enumerate` that would be `numbers[0]`, a bare index for a name.
     for i in 0..terms.len() / NUMBERS_PER_TERM {
         if taken == keys.len() {
             return Err(NoRoom { at: i });
@@ -188,7 +188,7 @@ fn doubt_of_all(terms: &[u64], maps: &mut [u64], keys: &mut [u64]) -> usize
         high: LAST_MAP,
     };
     // Kept: where a part starts and ends depends on what the last one had room for; `iter::from_fn` would hold the same state and be no plainer.
-    'parts: loop {
+    loop {
         match take_terms(terms, part, &mut *maps, &mut *keys) {
             Err(no_room) => {
                 if part.low == part.high {

@@ -32,7 +32,7 @@ fn passes(term: Term, ends: &[u64; SLOTS]) -> bool
 {
     let latest = ends[slot_of::<SLOTS>(term.on_map)];
     term.days()
-        .is_some_and(|days| days.from < days.to && latest <= days.from)
+        .is_some_and(|days| !days.is_empty() && latest <= days.from)
 }
 
 // How many of the first terms pass, one after the other: all that come in the order of their days.
@@ -41,7 +41,7 @@ fn passing_terms(terms: &[u64]) -> usize
 {
     let count = terms.len() / NUMBERS_PER_TERM;
     let mut ends = [0u64; SLOTS];
-    // Kept: each term is asked about by the ends of those before it, which a closure of `find` would have to change as it asks.
+    // Kept: each term is asked about by the ends of those before it. A closure of `find` would ask and keep the end in one, and be no plainer.
     for i in 0..count {
         let term = term_at(terms, i);
         if !passes(term, &ends) {
@@ -56,7 +56,7 @@ fn passing_terms(terms: &[u64]) -> usize
 fn is_sound(term: Term) -> bool
     ensures { result ≡ ltb (first_in (days_of (term_as term))) (end_in (days_of (term_as term))) }
 {
-    term.days().is_some_and(|days| days.from < days.to)
+    term.days().is_some_and(|days| !days.is_empty())
 }
 
 // How many of the first terms are sound, where those below `known` are known to be.
@@ -86,7 +86,7 @@ fn faultless_terms(terms: &[u64]) -> usize
 pub fn terms_fault(terms: &[u64]) -> Result<(), Refusal>
     ensures { refusal_in result ≡ terms_refusal terms.now }
 {
-    // Kept: the promise says which term is refused first. Std has no lemma on `try_for_each`, and a `for` with `?` is what its guide has for such a promise.
+    // Kept: `try_for_each` would say it in a line less. The promise says which term is refused first, which no lemma of std draws from what it gives.
     for i in faultless_terms(terms)..terms.len() / NUMBERS_PER_TERM {
         term_fault(terms, i)?;
     }

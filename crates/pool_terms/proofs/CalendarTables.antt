@@ -6,6 +6,7 @@ use mathlib.Core.Path.{◌≡◌, refl}
 use mathlib.Core.Bool.{Bool, true, false, ◌&&◌, cond}
 use mathlib.Core.List.{List, [], ◌∷◌}
 use lib.Dec.{eqb, ltb, leb}
+use mir.Val.{bool_byte}
 use lib.ListN.{get_or, get_or-eq_default}
 use borrow.Author.Tests.{eqb-true, leb-true, ltb-true, ltb-false}
 use Rattle.definitions.specs.Scan.{all_below}
@@ -64,6 +65,11 @@ last_end-number d h =
     let a = both (eqb d.year 2100 && eqb d.month 1) (eqb d.day 1) h in
     let b = both (eqb d.year 2100) (eqb d.month 1) a.0 in
     rw (eqb-true d.year 2100 b.0, eqb-true d.month 1 b.1, eqb-true d.day 1 a.1) refl
+
+-- a test as a number
+pub byte_is : (b : Bool) → bool_byte b ≡ cond b 1 0
+byte_is true = refl
+byte_is false = refl
 
 bit_most : (b : Bool) → cond b 1 0 ≤ 1
 bit_most true = omega arith

@@ -39,13 +39,7 @@ fn month_days(year: u64, month: u64) -> u64
     requires { (1 ≤ month) × (month ≤ 12) }
     ensures { result ≡ month_days year month }
 {
-    if month != 2 {
-        return MONTH_DAYS[(month - 1) as usize];
-    }
-    if is_leap(year) {
-        return 29;
-    }
-    28
+    MONTH_DAYS[(month - 1) as usize] + u64::from(month == 2 && is_leap(year))
 }
 
 // The days of a year's months before this one.
@@ -53,14 +47,7 @@ fn days_before_month(year: u64, month: u64) -> u64
     requires { (1 ≤ month) × (month ≤ 12) }
     ensures { result ≡ days_before_month year month }
 {
-    let plain = DAYS_BEFORE_MONTH[(month - 1) as usize];
-    if month < 3 {
-        return plain;
-    }
-    if is_leap(year) {
-        return plain + 1;
-    }
-    plain
+    DAYS_BEFORE_MONTH[(month - 1) as usize] + u64::from(2 < month && is_leap(year))
 }
 
 // Of the years from 2000 on every fourth one is a leap year up to 2099, the first among them.
@@ -72,16 +59,13 @@ fn day_number(date: Date) -> u64
     365 * years + (years + 3) / 4 + days_before_month(date.year, date.month) + (date.day - 1)
 }
 
-// Whether the date is a day from 1 January 2000 to 31 December 2099. Year and month are known to be in range before their lengths are asked for.
+// Whether the date is a day from 1 January 2000 to 31 December 2099.
 fn is_day(date: Date) -> bool
     ensures { result ≡ is_day (date_as date) }
 {
-    let in_range = (FIRST_YEAR <= date.year)
-        & (date.year <= LAST_YEAR)
-        & (1 <= date.month)
-        & (date.month <= 12)
-        & (1 <= date.day);
-    in_range && date.day <= month_days(date.year, date.month)
+    (FIRST_YEAR..=LAST_YEAR).contains(&date.year)
+        && (1..=12).contains(&date.month)
+        && (1..=month_days(date.year, date.month)).contains(&date.day)
 }
 
 // A day of a term, or the day asked for; none where the date is bad.

@@ -1,6 +1,6 @@
 // The terms of maps in the pool: their days, and the rule that a term breaks, 18 or 19.
-ghost use Rattle.std.specs.Prelude.{◌≡◌, ◌+◌, ◌*◌, ◌≤◌, ◌&&◌, eqb, length};
-ghost use Rattle.catalogue.specs.Terms.{numbers_per_term, term_at, days_of, overlap, contains, overlaps_earlier, term_fault};
+ghost use Rattle.std.specs.Prelude.{◌≡◌, ◌+◌, ◌*◌, ◌≤◌, ◌&&◌, eqb, length, Some};
+ghost use Rattle.catalogue.specs.Terms.{numbers_per_term, term_at, days_of, is_empty, overlap, contains, overlaps_earlier, term_fault};
 ghost use Rattle.refusals.specs.Refusals.{refusal_in};
 ghost use Rattle.pool_terms.specs.Contract.{days_as, days_in, term_as, term_in};
 
@@ -13,6 +13,28 @@ use refusals::{Cause, Refusal};
 pub struct Days {
     pub from: u64,
     pub to: u64,
+}
+
+impl Days {
+    // Whether it ends no later than it starts.
+    pub fn is_empty(self) -> bool
+        ensures { result ≡ is_empty (days_as self) }
+    {
+        self.to <= self.from
+    }
+
+    fn has(self, day: u64) -> bool
+        ensures { result ≡ contains day (Some (days_as self)) }
+    {
+        self.from <= day && day < self.to
+    }
+
+    // Whether the two have a day in common, where neither is empty.
+    fn overlaps(self, other: Days) -> bool
+        ensures { result ≡ overlap (days_as self) (Some (days_as other)) }
+    {
+        self.from < other.to && other.from < self.to
+    }
 }
 
 // A term as it is written: any seven numbers.
@@ -51,18 +73,14 @@ impl Term {
     pub fn has_day(self, day: u64) -> bool
         ensures { result ≡ contains day (days_of (term_as self)) }
     {
-        self.days()
-            .is_some_and(|days| days.from <= day && day < days.to)
+        self.days().is_some_and(|days| days.has(day))
     }
 
     // Whether it is of the map and has a day in common with these.
     fn shares_day(self, map: u64, days: Days) -> bool
         ensures { result ≡ (eqb self.on_map map && overlap (days_as days) (days_of (term_as self))) }
     {
-        self.on_map == map
-            && self
-                .days()
-                .is_some_and(|other| days.from < other.to && other.from < days.to)
+        self.on_map == map && self.days().is_some_and(|other| days.overlaps(other))
     }
 }
 
@@ -93,7 +111,7 @@ pub fn term_fault(terms: &[u64], i: usize) -> Result<(), Refusal>
         cause: Cause::Date,
         place: i,
     })?;
-    if days.to <= days.from || overlaps_earlier(terms, i, days) {
+    if days.is_empty() || overlaps_earlier(terms, i, days) {
         return Err(Refusal {
             cause: Cause::Term,
             place: i,

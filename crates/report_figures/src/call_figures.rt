@@ -44,6 +44,7 @@ fn with_call(
 {
     match kept {
         Ok(kept) => {
+            // Kept: a call is asked for its pass by number, and only that it was accepted says that the number names one; its callers have no `Pass` to give.
             let (rows, _) = output.as_chunks::<NUMBERS_PER_ROW>();
             with_kept(report, Pass::try_from(pass).unwrap(), &rows[..kept], count)
         }

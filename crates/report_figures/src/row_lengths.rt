@@ -39,7 +39,8 @@ fn squared_length(row: &[u64; NUMBERS_PER_ROW]) -> u64
     ensures answer { result ≡ squared_length (row_at row.now 0).line }
     ensures bound { result ≤ max_square }
 {
-    square_apart(row[1], row[3]) + square_apart(row[2], row[4])
+    let [_, x0, y0, x1, y1] = *row;
+    square_apart(x0, x1) + square_apart(y0, y1)
 }
 
 // The squared lengths of the rows.

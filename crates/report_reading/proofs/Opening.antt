@@ -7,11 +7,7 @@ use mathlib.Core.List.{List}
 use lib.Dec.{ltb}
 use borrow.Author.Tests.{ltb-true, ltb-false}
 use Rattle.definitions.specs.Sheet.{Reading, well_formed, refused}
-use Rattle.std.specs.Prelude.{Option, None, Some, Result}
-use Rattle.definitions.specs.Refusals as def
-use Rattle.definitions.specs.Refusals.{unless}
-use Rattle.definitions.specs.Verdict.{refusal}
-use Rattle.refusals.specs.Refusals.{number_of, refusal_of}
+use Rattle.std.specs.Prelude.{Result}
 use Rattle.refusals.specs.declared.Refusal.{Refusal}
 use Rattle.sheet.specs.Contract.{answer_of, Answered}
 use Rattle.sheet.specs.declared.Header.{Header}
@@ -22,16 +18,6 @@ use Rattle.report_figures.specs.declared.Report.{Report}
 use Rattle.report_figures.specs.Forms.{report_form}
 use Rattle.report_reading.specs.declared.Opened.{Opened}
 use Rattle.report_reading.specs.Contract.{refused_as_lem, opened_with, added_answer, added_reading, OpenedFor, ReadFor}
-
--- what `ensure` says where there is no room
-module _ (report : Report) where
-  abbrev refused-by : Option def.Refusal → Opened
-  refused-by None = refused_as_lem report 0 0
-  refused-by (Some r) = refused_as_lem report r.number r.place
-
-  pub full_lem : (b : Bool) (r : Refusal) → Some (refusal_of r) ≡ refusal 3 (unless b) → (b ≡ false) × (refused_as_lem report (number_of r.cause) r.place ≡ refused_as_lem report 3 0)
-  full_lem true r e = cc
-  full_lem false r e = (refl, ap refused-by e)
 
 module _ (report : Report) (reading : Reading) {cells spans boundaries anchors : List ℕ} {b : Bool} (t : b ≡ ltb report.runs max_runs) {r : Opened} where
   pub read-within : b ≡ true → {answer : Result Header Refusal} {cells' spans' boundaries' anchors' : List ℕ} → Answered reading cells spans boundaries anchors answer cells' spans' boundaries' anchors'

@@ -8,7 +8,7 @@ ghost use Rattle.definitions.specs.Sheet.{read_verdict};
 ghost use Rattle.sheet.specs.Contract.{Answered, by_number};
 ghost use Rattle.report_reading.specs.Contract.{opened_with, limited_reading, OpenedFor, ReadFor};
 
-use refusals::{Cause, Refusal, ensure};
+use refusals::{Cause, Refusal};
 use report_figures::Report;
 use report_figures::call_figures::has_room;
 use report_figures::sums::with_refused;
@@ -16,7 +16,7 @@ use sheet::{CELLS_MOST, Header, SHEET_BYTES_MOST, read_sheet, read_within};
 
 // Number 0, place 0 and what the sheet opens with; or a refusal's number and place, and 0 for the rest. The last three before the report are counts of entries.
 #[repr(C)]
-#[derive(Clone, Copy)]
+#[derive(Clone, Copy, Default)]
 pub struct Opened {
     pub number: u64,
     pub place: u64,
@@ -29,11 +29,10 @@ pub struct Opened {
     pub report: Report,
 }
 
-impl From<(Report, Result<Header, Refusal>)> for Opened {
-    ghost from_gives = { λ given opened. opened ≡ opened_with given.0 (by_number given.1) };
-
-    fn from(given: (Report, Result<Header, Refusal>)) -> Opened {
-        let (report, answer) = given;
+impl Opened {
+    fn new(report: Report, answer: Result<Header, Refusal>) -> Opened
+        ensures { result ≡ opened_with report (by_number answer) }
+    {
         match answer {
             Ok(header) => Opened {
                 number: 0,
@@ -49,13 +48,8 @@ impl From<(Report, Result<Header, Refusal>)> for Opened {
             Err(refusal) => Opened {
                 number: refusal.cause.number(),
                 place: refusal.place as u64,
-                pass: 0,
-                width: 0,
-                height: 0,
-                spans: 0,
-                boundaries: 0,
-                anchors: 0,
                 report,
+                ..Opened::default()
             },
         }
     }
@@ -69,7 +63,7 @@ fn opened_for(report: Report, answer: Result<Header, Refusal>) -> Opened
         Ok(_) => report,
         Err(refusal) => with_refused(report, refusal.cause),
     };
-    Opened::from((added, answer))
+    Opened::new(added, answer)
 }
 
 // Reads a sheet with the limits of `keptlist`: the bytes are counted before any of them is judged.
@@ -109,11 +103,14 @@ pub fn report_reading_read_for_report(
         cells.old spans.old boundaries.old anchors.old result
         cells.new spans.new boundaries.new anchors.new }
 {
-    match ensure(has_room(report), Cause::Entries) {
-        Ok(()) => {
-            let answer = read_sheet(bytes, cells, spans, boundaries, anchors);
-            opened_for(report, answer)
-        }
-        Err(full) => Opened::from((report, Err(full))),
+    if has_room(report) {
+        let answer = read_sheet(bytes, cells, spans, boundaries, anchors);
+        opened_for(report, answer)
+    } else {
+        let full = Refusal {
+            cause: Cause::Entries,
+            place: 0,
+        };
+        Opened::new(report, Err(full))
     }
 }

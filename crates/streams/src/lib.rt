@@ -1,11 +1,11 @@
-// Bytes in and out of a program: reading until a list is full, and writing bytes and numbers. What the system gives and takes no contract can say.
+// Bytes into a program: reading until a list is full. What the system gives no contract can say.
 
 #![tactic(auto)]
 
 ghost use Rattle.std.specs.Prelude.{◌≤◌, length, IfOk};
 
 use std::io;
-use std::io::{Read, Write};
+use std::io::Read;
 
 // Fills the list as far as the input goes, and answers how many bytes there were: fewer than the list has only where the input ended.
 pub fn read_full<R: Read>(input: &mut R, list: &mut [u8]) -> io::Result<usize>
@@ -21,9 +21,4 @@ pub fn read_full<R: Read>(input: &mut R, list: &mut [u8]) -> io::Result<usize>
         count += got;
     }
     Ok(count)
-}
-
-// Writes all of the bytes.
-pub fn write_bytes<W: Write>(output: &mut W, bytes: &[u8]) -> io::Result<()> {
-    output.write_all(bytes)
 }

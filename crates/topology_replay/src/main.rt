@@ -13,7 +13,6 @@ use replay_lists::{
 use sheet::{CELLS_MOST, read_sheet};
 use std::io;
 use std::io::Write;
-use streams::write_bytes;
 use topology::numbers::RECORDS_HERE;
 use topology::own_records::kept_boundaries_here;
 
@@ -50,7 +49,7 @@ fn replay<W: Write>(out: &mut W, opening: &Opening, bytes: &[u8]) -> io::Result<
     let mut boundaries = [0u64; NUMBERS_PER_BOUNDARY * ENTRIES];
     let mut anchors = [0u64; NUMBERS_PER_ANCHOR * ENTRIES];
     if read_sheet(bytes, &mut cells, &mut spans, &mut boundaries, &mut anchors).is_err() {
-        return write_bytes(out, b"no sheet\n");
+        return out.write_all(b"no sheet\n");
     }
     let cells_end = length_within(opening.cells, cells.len());
     let spans_end = length_within(opening.spans, spans.len());

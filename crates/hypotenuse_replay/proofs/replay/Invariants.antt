@@ -4,4 +4,4 @@ use Rattle.hypotenuse_replay.proofs.Replayed.{Replayed}
 use Rattle.hypotenuse_replay.proofs.replay.Given as goal
 
 abbrev pub invariant-loop-i : goal.invariant-loop-i
-invariant-loop-i g l = Replayed l.s l.initial.lines l.initial.answers l.lines l.answers l.start l.i
+invariant-loop-i g l = Replayed l.s l.initial.tally.0 l.initial.tally.1.0 l.tally.0 l.tally.1.0 l.start l.i

@@ -1,14 +1,12 @@
 -- `accession::line::report_kept` meets its contract: where a record has the own number, the line is that of its map. Assumes nothing.
 use Prim.Native.Nat.{ℕ}
-use mathlib.Core.Path.{◌≡◌, sym, ap, ◌∙◌}
+use mathlib.Core.Path.{sym, ap, ◌∙◌}
 use mathlib.Core.List.{List}
 use lib.ListN.{length}
-use Rattle.catalogue.specs.Line.{line_of}
 use Rattle.catalogue.specs.AccessionLaws.MapLine.{map_line}
 use Rattle.catalogue.proofs.AccessionLaws.MapLine.{line-of-record, line-unknown}
 use Rattle.refusals.specs.Answers.{answer_of}
-use Rattle.accession.specs.Contract.{Finds, room_verdict}
-use Rattle.std.specs.Prelude.{Some}
+use Rattle.accession.specs.Contract.{room_verdict}
 use Rattle.accession.proofs.Reporting.{ten-left, unknown, exit-left, exit-unknown}
 use Rattle.accession.proofs.line.report_kept.Goals as goal
 
@@ -24,11 +22,12 @@ returns-in-None c =
 
 pub returns-in-Some : goal.returns-in-Some
 returns-in-Some c =
-    let known_at : Finds c.args.records.now c.args.own (Some c.in-Some.i) = c.in-Some.ensures in
+    let known_at = c.in-Some.ensures in
+    let i : ℕ = known_at.0 in
     let list : List ℕ = c.args.records.now in
     let own : ℕ = c.args.own in
     let out : List ℕ = c.args.output.now in
-    let line : line_of list own ≡ map_line list c.accession_at.result.on_map = line-of-record list own c.requires.1 c.in-Some.i known_at.0 known_at.1 ∙ ap (λ r. map_line list r.on_map) (sym c.accession_at.ensures) in
+    let line = line-of-record list own c.requires.1 i known_at.1 known_at.2 ∙ ap (map_line list) (sym known_at.3) in
     let said = c.report_map in
     let room = length out in
     record {

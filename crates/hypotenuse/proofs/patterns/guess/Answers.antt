@@ -1,10 +1,11 @@
--- `patterns::guess` meets its contract: no pattern is a NaN's, no NaN is asked for its bits, and each answer is twice a number of 53 digits, or four times. Assumes nothing.
+-- `patterns::guess` meets its contract: no pattern is a NaN's, no NaN is asked for its bits, and each answer is twice a number of 53 digits, or four times.
+-- Assumes nothing.
 use Prim.Native.Nat.{ℕ, ◌+◌, ◌*◌, ◌^◌, ◌≤◌, ◌<◌}
 use native.Mathlib.Nat.{mul-le-mul_left}
 use native.Mathlib.Omega.{arith}
 use mir.Syntax.{w64}
 use mir.Val.{Fits}
-use Rattle.laws.specs.FloatLaws.Patterns.{no_nan, not_nan}
+use Rattle.laws.specs.FloatLaws.Patterns.{no_nan}
 use Rattle.hypotenuse.proofs.patterns.guess.Goals as goal
 
 -- d has 53 digits, and n is 0 or 1
@@ -27,14 +28,5 @@ float_from_bits-x c = no_nan c.args.larger (omega arith)
 pub float_from_bits-y : goal.float_from_bits-y
 float_from_bits-y c = no_nan c.args.smaller (omega arith)
 
-pub float_to_bits-bits : goal.float_to_bits-bits
-float_to_bits-bits c = not_nan _ c.if-third.false
-
-pub overflow_mul-result-then-exponent-top-le1-2 : goal.overflow_mul-result-then-exponent-top-le1-2
-overflow_mul-result-then-exponent-top-le1-2 c = product-fits _ _ (omega arith) (omega arith) c.if-exponent-top-le1.true
-
 pub overflow_add-result : goal.overflow_add-result
-overflow_add-result c = sum_fits _ _ (omega arith) (omega arith) c.if-exponent-top-le1.true
-
-pub returns-then-exponent-top-le1 : goal.returns-then-exponent-top-le1
-returns-then-exponent-top-le1 c = doubled _ _ (omega arith) (omega arith) c.if-exponent-top-le1.true
+overflow_add-result c = sum_fits _ _ (omega (arith, c.significand-digits.ensures)) (omega (arith, c.significand-digits.ensures)) c.if-above-le1.true

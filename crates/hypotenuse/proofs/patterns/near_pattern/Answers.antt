@@ -1,4 +1,5 @@
--- `patterns::near_pattern` meets its contract: its squares, its sum and its root are the numbers of `Close`, and its rounding is that of `root_of`. Assumes nothing.
+-- `patterns::near_pattern` meets its contract: its squares, its sum and its root are the numbers of `Close`, and its rounding is that of `root_of`. Assumes
+-- nothing.
 use mathlib.Core.Path.{◌≡◌, sym, ap, ◌∙◌}
 use mathlib.Core.Logic.{inl, inr}
 use Prim.Native.Nat.{ℕ, ◌+◌, ◌-◌, ◌*◌, ◌/◌, ◌%◌, ◌^◌, ◌≤◌, ◌<◌}

@@ -1,5 +1,6 @@
--- `patterns::root_pattern` meets its contract: both are zero, or far apart, or both have their leading digit, and the root is that of `short_root` or of `near_pattern`. Assumes nothing.
-use mathlib.Core.Path.{◌≡◌, refl, sym, ◌∙◌}
+-- `patterns::root_pattern` meets its contract: both are zero, or far apart, or both have their leading digit, and the root is that of `short_root` or of
+-- `near_pattern`. Assumes nothing.
+use mathlib.Core.Path.{◌≡◌, refl, sym, ap, ◌∙◌}
 use mathlib.Core.Logic.{⊎_elim}
 use Prim.Native.Nat.{ℕ, ◌+◌, ◌-◌, ◌*◌, ◌/◌, ◌%◌, ◌^◌, ◌≤◌}
 use native.Mathlib.Nat.{add_comm}
@@ -41,14 +42,17 @@ returns-then-larger-eq0 c = (both_zero c.args.larger c.args.smaller c.if-larger-
 pub returns-then-gap-gt-MAX_GAP : goal.returns-then-gap-gt-MAX_GAP
 returns-then-gap-gt-MAX_GAP c =
     let n = normal c.args.larger c.requires.larger_in_range c.if-larger-eq0.false in
-    (apart c.args.larger c.args.smaller n.1 c.if-gap-gt-MAX_GAP.true, omega arith)
+    (apart c.args.larger c.args.smaller n.1 (omega (arith, c.exponent-top.ensures, c.exponent.ensures, c.if-gap-gt-MAX_GAP.true)), omega arith)
 
 pub returns : goal.returns
 returns c =
     let b = c.args.larger in
     let s = c.args.smaller in
     let n = normal b c.requires.larger_in_range c.if-larger-eq0.false in
-    let m = normal-near b s c.requires.smaller_in_range n.0 c.if-gap-gt-MAX_GAP.false in
-    let x = magnitude_of b (b / 2 ^ 52 - 1) (omega arith) refl in
-    let y = magnitude_of s (b / 2 ^ 52 - 1 - (b / 2 ^ 52 - s / 2 ^ 52)) (omega arith) (omega (arith, c.requires.smaller_within)) in
+    let top = c.exponent-top.result in
+    let low = c.exponent.result in
+    let m = normal-near b s c.requires.smaller_in_range n.0 (omega (arith, c.exponent-top.ensures, c.exponent.ensures, c.if-gap-gt-MAX_GAP.false)) in
+    let x = ap (λ (z : ℕ). z * 2 ^ (top - 1)) c.significand.ensures ∙ magnitude_of b (top - 1) (omega arith) (omega (arith, c.exponent-top.ensures)) in
+    let y = ap (λ (z : ℕ). z * 2 ^ (top - 1 - (top - low))) c.significand-2.ensures
+    ∙ magnitude_of s (top - 1 - (top - low)) (omega arith) (omega (arith, c.exponent-top.ensures, c.exponent.ensures, c.requires.smaller_within)) in
     (c.near_pattern.ensures.0 ∙ (λ i. root_of (x i * x i + y i * y i)), c.near_pattern.ensures.1)

@@ -1,5 +1,6 @@
--- `root::division_step` meets its contract. The quotient q of rest by 2 * root is below 2 ^ 10, and the code goes n = q - 1 up. The square of root + n is root * root + n * (2 * root + n),
--- and the last product is not above rest: n * (2 * root) is at least 2 * root below it, and n * n is below 2 * root. Assumes nothing.
+-- `root::division_step` meets its contract. The quotient q of rest by 2 * root is below 2 ^ 10, and the code goes n = q - 1 up. The square of root + n is root
+-- * root + n * (2 * root + n), and the last product is not above rest: n * (2 * root) is at least 2 * root below it, and n * n is below 2 * root. Assumes
+-- nothing.
 use mathlib.Core.Path.{◌≡◌, refl, sym, ap, ◌∙◌}
 use Prim.Native.Nat.{ℕ, ◌+◌, ◌-◌, ◌*◌, ◌/◌, ◌^◌, ◌≤◌, ◌<◌}
 use native.Mathlib.Nat.{div-lt_iff_lt-mul, div-mul-le_self, two-mul, one-mul, add_assoc, mul_comm, mul-add, add-mul}

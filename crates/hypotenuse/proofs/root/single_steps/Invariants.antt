@@ -1,5 +1,5 @@
--- `root::single_steps` meets its contract. The invariant: the number root * root + rest is the one that the loop began with, and each turn makes the root at most one larger.
--- The measure is what is left of the four turns. Assumes nothing.
+-- `root::single_steps` meets its contract. The invariant: the number root * root + rest is the one that the loop began with, and each turn makes the root at
+-- most one larger. The measure is what is left of the four turns. Assumes nothing.
 use mathlib.Core.Path.{◌≡◌}
 use Prim.Native.Nat.{◌+◌, ◌-◌, ◌*◌, ◌≤◌}
 use Rattle.hypotenuse.proofs.root.single_steps.Given as goal

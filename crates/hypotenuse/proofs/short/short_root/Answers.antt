@@ -1,5 +1,5 @@
 -- `short::short_root` meets its contract: the root that was checked is the nearest whole number in its unit. Assumes nothing.
-use mathlib.Core.Path.{◌≡◌, refl, sym, ap, ◌∙◌}
+use mathlib.Core.Path.{◌≡◌, sym, ap, ◌∙◌}
 use Prim.Native.Nat.{ℕ, ◌+◌, ◌-◌, ◌*◌, ◌/◌, ◌%◌, ◌^◌, ◌≤◌, ◌<◌}
 use native.Mathlib.Omega.{arith}
 use lib.Ieee.{binary64, of_bits}
@@ -26,6 +26,7 @@ found b s top up m root normal order most few-b few-s high up_is up_le m-is near
 
 pub returns : goal.returns
 returns c =
-    found c.args.larger c.args.smaller (c.in_ok-near.near / 2 ^ 52) _ c.squares.result c.in_ok-root.root
-    c.requires.0 c.requires.1 c.requires.2 (omega arith) (omega arith) c.if-top-larger.false refl c.if-up-gt14.false
+    let top = c.exponent-top.result in
+    found c.args.larger c.args.smaller top _ c.squares.result c.in_ok-root.root
+    c.requires.0 c.requires.1 c.requires.2 (omega arith) (omega arith) (omega (arith, c.exponent.ensures, c.if-top-exponent.false)) (ap (λ e. top - e) c.exponent-2.ensures) c.if-up-gt14.false
     c.squares.ensures c.in_ok-root.ensures

@@ -1,4 +1,5 @@
--- `short::squares` meets its contract: no shift loses a digit. With the exponents at most `up` apart both numbers are below 2 ^ (17 + up), and the sum of their squares below 2 ^ (35 + 2 * up). Assumes nothing.
+-- `short::squares` meets its contract: no shift loses a digit. With the exponents at most `up` apart both numbers are below 2 ^ (17 + up), and the sum of their
+-- squares below 2 ^ (35 + 2 * up). Assumes nothing.
 use mathlib.Core.Path.{◌≡◌, sym, ap, ◌∙◌}
 use Prim.Native.Nat.{ℕ, suc, ◌+◌, ◌-◌, ◌*◌, ◌/◌, ◌%◌, ◌^◌, ◌≤◌, ◌<◌}
 use native.Mathlib.Omega.{arith}
@@ -47,18 +48,29 @@ module _ (b s up : ℕ) (near : b / 2 ^ 52 - s / 2 ^ 52 ≤ up) (few : up ≤ 14
   shifted = shl_exact (35 + 2 * up) (28 - 2 * up) 64 sum_lt (omega arith)
 
 pub overflow_mul-result : goal.overflow_mul-result
-overflow_mul-result c = omega (arith, sum_fits _ _ _ c.requires.1 c.requires.2, ap (λ (z : ℕ). z * z) (exact _ _ _ c.requires.1 c.requires.2))
+overflow_mul-result c =
+    let x : c.significand.result / 2 ^ 36 * 2 ^ (c.exponent.result - c.exponent-2.result) % 2 ^ 64 ≡ aligned c.args.larger c.args.smaller =
+    (λ i. c.significand.ensures i / 2 ^ 36 * 2 ^ (c.exponent.ensures i - c.exponent-2.ensures i) % 2 ^ 64) ∙ exact _ _ _ c.requires.1 c.requires.2 in
+    omega (arith, sum_fits _ _ _ c.requires.1 c.requires.2, ap (λ (z : ℕ). z * z) x)
 
 pub overflow_mul-result-2 : goal.overflow_mul-result-2
-overflow_mul-result-2 c = omega (arith, sum_fits _ _ _ c.requires.1 c.requires.2)
+overflow_mul-result-2 c =
+    let y : c.significand-y.result / 2 ^ 36 ≡ leading17 c.args.smaller = ap (λ (z : ℕ). z / 2 ^ 36) c.significand-y.ensures in
+    omega (arith, sum_fits _ _ _ c.requires.1 c.requires.2, ap (λ (z : ℕ). z * z) y)
 
 pub overflow_add-result : goal.overflow_add-result
-overflow_add-result c = omega (arith, sum_fits _ _ _ c.requires.1 c.requires.2, ap (λ (z : ℕ). z * z) (exact _ _ _ c.requires.1 c.requires.2))
+overflow_add-result c =
+    let x : c.significand.result / 2 ^ 36 * 2 ^ (c.exponent.result - c.exponent-2.result) % 2 ^ 64 ≡ aligned c.args.larger c.args.smaller =
+    (λ i. c.significand.ensures i / 2 ^ 36 * 2 ^ (c.exponent.ensures i - c.exponent-2.ensures i) % 2 ^ 64) ∙ exact _ _ _ c.requires.1 c.requires.2 in
+    let y : c.significand-y.result / 2 ^ 36 ≡ leading17 c.args.smaller = ap (λ (z : ℕ). z / 2 ^ 36) c.significand-y.ensures in
+    omega (arith, sum_fits _ _ _ c.requires.1 c.requires.2, ap (λ (z : ℕ). z * z) x, ap (λ (z : ℕ). z * z) y)
 
 pub returns : goal.returns
 returns c =
     let larger = c.args.larger in
     let smaller = c.args.smaller in
     let up = c.args.up in
-    ap (λ (z : ℕ). (z * z + leading17 smaller * leading17 smaller) * 2 ^ (28 - 2 * up) % 2 ^ 64) (exact larger smaller up c.requires.1 c.requires.2)
-    ∙ shifted larger smaller up c.requires.1 c.requires.2
+    let x : c.significand.result / 2 ^ 36 * 2 ^ (c.exponent.result - c.exponent-2.result) % 2 ^ 64 ≡ aligned larger smaller =
+    (λ i. c.significand.ensures i / 2 ^ 36 * 2 ^ (c.exponent.ensures i - c.exponent-2.ensures i) % 2 ^ 64) ∙ exact larger smaller up c.requires.1 c.requires.2 in
+    let y : c.significand-y.result / 2 ^ 36 ≡ leading17 smaller = ap (λ (z : ℕ). z / 2 ^ 36) c.significand-y.ensures in
+    (λ i. (x i * x i + y i * y i) * 2 ^ (28 - 2 * up) % 2 ^ 64) ∙ shifted larger smaller up c.requires.1 c.requires.2

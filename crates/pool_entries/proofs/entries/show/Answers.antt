@@ -1,19 +1,12 @@
--- `entries::show` meets its contract: the entry in front of the place is the one of the record's map, or there is none. Assumes nothing.
-use Rattle.std.proofs.Common.{arith, ◌-◌, ◌*◌}
+-- `entries::show` meets its contract: the record is shown in the entry of its map, or there is none. Assumes nothing.
+use Rattle.std.proofs.Common.{◌*◌}
 use Rattle.pool_entries.specs.Steps.{record_in}
-use Rattle.pool_entries.proofs.Showing.{first_place_lem, other-map, its_map, three-stored}
+use Rattle.pool_entries.proofs.Showing.{none_shown, its_map, three-stored}
 use Rattle.pool_entries.proofs.entries.show.Goals as goal
 
-pub returns-then-place-eq0 : goal.returns-then-place-eq0
-returns-then-place-eq0 c =
-    first_place_lem c.args.entries.now (record_in c.args.accession.now) c.place_of-place.result c.place_of-place.ensures.found c.if-place-eq0.true
+pub returns-in-Some : goal.returns-in-Some
+returns-in-Some c =
+    its_map c.args.entries.now (record_in c.args.accession.now) c.in-Some.k c.in-Some.ensures.1 (three-stored c.args.entries.now (4 * c.in-Some.k) _ _ _)
 
-pub returns-then-entries-at : goal.returns-then-entries-at
-returns-then-entries-at c =
-    other-map c.args.entries.now (record_in c.args.accession.now) c.place_of-place.result c.place_of-place.ensures.found (omega arith) c.if-entries-at.true
-
-pub returns : goal.returns
-returns c =
-    let place = c.place_of-place.result in
-    its_map c.args.entries.now (record_in c.args.accession.now) place c.place_of-place.ensures.found (omega arith) c.if-entries-at.false
-    (three-stored c.args.entries.now (4 * (place - 1)) _ _ _)
+pub returns-in_default : goal.returns-in_default
+returns-in_default c = none_shown c.args.entries.now (record_in c.args.accession.now) c.in_default.ensures.1
