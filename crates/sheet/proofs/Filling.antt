@@ -80,7 +80,7 @@ module _ {item : Reader ℕ} {bytes out₀ goal : List ℕ} {count : ℕ} where
       one_more = omega arith
 
       -- what was judged is not refused
-      pub filling_never-stops : {refusal place : ℕ} → item next (drop next bytes) ≡ failed refusal place → ⊥
+      filling_never-stops : {refusal place : ℕ} → item next (drop next bytes) ≡ failed refusal place → ⊥
       unfolding items_at
       filling_never-stops e =
           let q : is_found (times (count - i) item next (drop next bytes)) ≡ false = ap (λ n. is_found (times n item next (drop next bytes))) (sym one_more) ∙ ap is_found (times-failed item (count - (i + 1)) next (drop next bytes) e) in

@@ -446,7 +446,7 @@ fn put_endpoints(boundary: &[u64; NUMBERS_PER_BOUNDARY], i: usize, spans: &mut [
 }
 
 // Stores the endpoints of the boundaries as spans.
-fn fill_endpoints(boundaries: &[u64], spans: &mut [u64])
+pub fn fill_endpoints(boundaries: &[u64], spans: &mut [u64])
     requires { 4 * (length boundaries.now / 9) ≤ length spans.old }
     ensures { spans.new ≡ overwrite (endpoints_of boundaries.now) spans.old }
 {

@@ -87,11 +87,10 @@ fn is_one_list(spans: &[u64], boundaries: &[u64]) -> bool
     requires { length boundaries.now ≤ numbers_per_boundary * max_entries }
     ensures { result ≡ same_numbers spans.now (endpoints_of boundaries.now) }
 {
-    let (ends, rest) = spans.as_chunks::<NUMBERS_PER_SPAN>();
-    let (boundaries, _) = boundaries.as_chunks::<NUMBERS_PER_BOUNDARY>();
-    rest.is_empty()
-        && ends.len() == boundaries.len()
-        && (0..ends.len()).all(|i| ends[i][..] == boundaries[i][..NUMBERS_PER_SPAN])
+    let mut ends = [0u64; NUMBERS_PER_SPAN * MAX_ENTRIES];
+    fill_endpoints(boundaries, &mut ends);
+    let end = NUMBERS_PER_SPAN * (boundaries.len() / NUMBERS_PER_BOUNDARY);
+    spans == &ends[..end]
 }
 
 // Checks 4 to 9, and then 22, of a sheet whose cells stand in the bytes.
@@ -131,22 +130,25 @@ fn plan_check(bytes: &[u8], plan: Plan) -> Result<(), Refusal>
     let mut boundaries = [0u64; NUMBERS_PER_BOUNDARY * MAX_ENTRIES];
     let mut anchors = [0u64; NUMBERS_PER_ANCHOR * MAX_ENTRIES];
     let parts = plan.parts;
-    let (spans_count, boundaries_count) = (parts.spans.count, parts.boundaries.count);
-    let anchors_count = parts.anchors.count;
-    fill_numbers(bytes, parts.spans.first, spans_count, &mut spans);
+    fill_numbers(bytes, parts.spans.first, parts.spans.count, &mut spans);
     fill_numbers(
         bytes,
         parts.boundaries.first,
-        boundaries_count,
+        parts.boundaries.count,
         &mut boundaries,
     );
-    fill_numbers(bytes, parts.anchors.first, anchors_count, &mut anchors);
+    fill_numbers(
+        bytes,
+        parts.anchors.first,
+        parts.anchors.count,
+        &mut anchors,
+    );
     map_check(
         bytes,
         plan,
-        &spans[..spans_count],
-        &boundaries[..boundaries_count],
-        &anchors[..anchors_count],
+        &spans[..parts.spans.count],
+        &boundaries[..parts.boundaries.count],
+        &anchors[..parts.anchors.count],
     )
 }
 
