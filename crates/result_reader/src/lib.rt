@@ -21,7 +21,7 @@ ghost use Rattle.result_reader.specs.Contract.{answered, Reads};
 
 use definitions::limits::{NUMBERS_PER_PAIR, NUMBERS_PER_ROW, TALLIES_PER_SPAN};
 use refusals::{Cause, Refusal, ensure, no_fault};
-use result_writer::{LABEL_SIZE, after_label};
+use result_writer::{LABEL_SIZE, after_label, key};
 use sheet::{Found, Part, RESULT_KIND, end_at, fill_numbers, judge, number_at};
 
 // ---- labels
@@ -66,16 +66,6 @@ fn numbers_at<const N: usize>(bytes: &[u8], at: usize) -> Result<Found<[u64; N]>
         next = read.next;
     }
     Ok(Found { value, next })
-}
-
-// The numbers of an entry in the order in which they are compared: behind the others the first ones, so many of them.
-fn key<const N: usize>(numbers: [u64; N], last: usize) -> [u64; N]
-    requires { last ≤ N }
-    ensures { result ≡ key_in last numbers.entry }
-{
-    let mut key = numbers;
-    key.rotate_left(last);
-    key
 }
 
 // The key of the last entry, if there is one yet, all in order; or the place of the first that is not above the one before it.
