@@ -137,6 +137,8 @@ pub fn item(bytes: &[u8], at: usize, most: u64) -> Result<Found<u64>, Refusal>
 }
 
 // Judges `count` numbers of at most `most` each, and gives the offset behind them.
+// Kept: who asks no limit gives `u64::MAX`: a second loop, over `number_at`, would be this one again, and a limit that may be `None` one test more for each
+// cell.
 pub fn judge(bytes: &[u8], at: usize, count: usize, most: u64) -> Result<usize, Refusal>
     requires { at ≤ length bytes.now }
     ensures { Told bytes.now (items_at (up_to most) bytes.now at count) result }
@@ -202,8 +204,8 @@ pub fn fill_numbers(bytes: &[u8], at: usize, count: usize, out: &mut [u64])
 }
 
 // Fills a list with cells that were judged before.
-// Kept: beside `fill_rest`: one function over a trait with a ghost number, as `Entry` is, would take the limit and the grammar's reader beside `T`, and a method
-// that narrows and that only the cells need: more lines than these four.
+// Kept: beside `fill_rest`: one function over a trait with a ghost number, as `Entry` is, would take the limit and the grammar's reader beside `T`, and a
+// method that narrows and that only the cells need: more lines than these four.
 fn fill_cells(bytes: &[u8], at: usize, out: &mut [u8])
     requires { Held cell bytes.now at (length out.old) }
     ensures { out.new ≡ values_at cell bytes.now at (length out.old) }
@@ -283,10 +285,10 @@ fn area_allowed(width: u64, height: u64, limit: u64) -> bool
 
 // Both sides, and how many cells they make.
 #[derive(Clone, Copy)]
-struct Extent {
-    width: usize,
-    height: usize,
-    cells: usize,
+pub struct Extent {
+    pub width: usize,
+    pub height: usize,
+    pub cells: usize,
 }
 
 fn sides(bytes: &[u8], at: usize, limit: u64) -> Result<Found<Extent>, Refusal>

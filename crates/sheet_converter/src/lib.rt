@@ -83,6 +83,8 @@ fn cells_fault(bytes: &[u8], at: usize, count: usize) -> Option<usize>
 }
 
 // The spans are the endpoints of the boundaries, as written.
+// Kept: the chunks of both lists compared where they stand would spare the array, and ask three things in place of one: as many chunks, no number left over,
+// and the numbers of each.
 fn is_one_list(spans: &[u64], boundaries: &[u64]) -> bool
     requires { length boundaries.now ≤ numbers_per_boundary * max_entries }
     ensures { result ≡ same_numbers spans.now (endpoints_of boundaries.now) }
