@@ -170,7 +170,7 @@ pub fn length_within(asked: u16, most: usize) -> usize
 
 impl From<[u8; OPENING]> for Opening {
     fn from(bytes: [u8; OPENING]) -> Opening {
-        let (pairs, _) = bytes.as_chunks::<2>();
+        let (numbers, _) = bytes.as_chunks::<2>();
         let [
             pass,
             width,
@@ -187,7 +187,7 @@ impl From<[u8; OPENING]> for Opening {
             records,
             output,
             sheet,
-        ] = array::from_fn(|k| u16::from_le_bytes(pairs[k]));
+        ]: [u16; 15] = array::from_fn(|k| u16::from_le_bytes(numbers[k]));
         Opening {
             pass,
             width,

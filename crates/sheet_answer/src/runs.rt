@@ -47,14 +47,7 @@ fn call(pass: u64, asked: Asked, output: &mut [u64; ROWS_ROOM]) -> Result<usize,
         tallies: &mut tallies,
         pairs: &mut pairs,
     };
-    kept_boundaries_here(
-        pass,
-        asked,
-        &mut lists,
-        RECORDS_HERE,
-        output,
-        &mut numbers,
-    )
+    kept_boundaries_here(pass, asked, &mut lists, RECORDS_HERE, output, &mut numbers)
 }
 
 // The same for the sheet that the lists begin with.
