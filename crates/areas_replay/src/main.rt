@@ -21,13 +21,11 @@ const SPANS: usize = MAX_ENTRIES + 1;
 fn lend<W: Write>(out: &mut W, opening: &Opening, cells: &[u8], spans: &[u64]) -> io::Result<()> {
     let mut room = LentRoom::new();
     let mut lists = room.lists(opening);
-    let cells_end = length_within(opening.cells, cells.len());
-    let spans_end = length_within(opening.spans, spans.len());
     let answer = partition(
         u64::from(opening.width),
         u64::from(opening.height),
-        &cells[0..cells_end],
-        &spans[0..spans_end],
+        &cells[..length_within(opening.cells, cells.len())],
+        &spans[..length_within(opening.spans, spans.len())],
         &mut lists,
     );
     write_partition(out, answer, &lists)?;
@@ -48,7 +46,5 @@ fn replay<W: Write>(out: &mut W, opening: &Opening, bytes: &[u8]) -> io::Result<
 fn main(rt: HostRuntime) -> io::Result<()> {
     let mut input = rt.stdin();
     let mut out = rt.stdout();
-    replay_cases(&mut input, &mut out, |out, opening, bytes| {
-        replay(out, opening, bytes)
-    })
+    replay_cases(&mut input, &mut out, replay)
 }

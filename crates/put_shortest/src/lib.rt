@@ -54,7 +54,8 @@ pub fn put_shortest(w: &mut Writer, n: u64)
     ensures { Appends w.old (shortest n) w.new }
 {
     let mut left = n;
-    // Kept: a range over the groups would take their count from `ilog2` and divide the number all the same: a line more.
+    // Kept: a range over the groups would take their count from `result_writer::group_count`, which stands above this crate, and divide the number all the
+    // same.
     while 128 <= left {
         w.put_byte(continued(left));
         left /= 128;

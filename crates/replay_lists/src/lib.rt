@@ -17,7 +17,7 @@ use streams::read_full;
 const CASES: u64 = 65536;
 
 // A case lends lists of at most so many entries.
-pub const ENTRIES_LENT: usize = 4096;
+const ENTRIES_LENT: usize = 4096;
 
 // ---- what a list held before the call
 
@@ -61,7 +61,8 @@ fn zeros<T: Copy + Into<u64>>(list: &[T]) -> usize
         .unwrap_or(list.len())
 }
 
-// ---- writing. What the system makes of it no contract can say: a function answers how many entries it wrote.
+// ---- writing. What the system makes of it no contract can say: how many entries of a list were written is answered, so that a contract can say how many that
+// is to be.
 
 // How many entries of each list were written.
 #[derive(Clone, Copy)]
@@ -160,13 +161,6 @@ pub struct Opening {
     sheet: u16,
 }
 
-// Number k of an opening.
-fn number(opening: &[u8; OPENING], k: usize) -> u16
-    requires { k < 15 }
-{
-    u16::from_le_bytes([opening[2 * k], opening[2 * k + 1]])
-}
-
 // A number of an opening as the length of a list; the list has no more than `most` entries.
 pub fn length_within(asked: u16, most: usize) -> usize
     ensures { result ≤ most }
@@ -176,22 +170,40 @@ pub fn length_within(asked: u16, most: usize) -> usize
 
 impl From<[u8; OPENING]> for Opening {
     fn from(bytes: [u8; OPENING]) -> Opening {
+        let (numbers, _) = bytes.as_chunks::<2>();
+        let [
+            pass,
+            width,
+            height,
+            cells,
+            spans,
+            boundaries,
+            anchors,
+            labels,
+            masks,
+            queue,
+            tallies,
+            pairs,
+            records,
+            output,
+            sheet,
+        ]: [u16; 15] = array::from_fn(|k| u16::from_le_bytes(numbers[k]));
         Opening {
-            pass: number(&bytes, 0),
-            width: number(&bytes, 1),
-            height: number(&bytes, 2),
-            cells: number(&bytes, 3),
-            spans: number(&bytes, 4),
-            boundaries: number(&bytes, 5),
-            anchors: number(&bytes, 6),
-            labels: number(&bytes, 7),
-            masks: number(&bytes, 8),
-            queue: number(&bytes, 9),
-            tallies: number(&bytes, 10),
-            pairs: number(&bytes, 11),
-            records: number(&bytes, 12),
-            output: number(&bytes, 13),
-            sheet: number(&bytes, 14),
+            pass,
+            width,
+            height,
+            cells,
+            spans,
+            boundaries,
+            anchors,
+            labels,
+            masks,
+            queue,
+            tallies,
+            pairs,
+            records,
+            output,
+            sheet,
         }
     }
 }
@@ -272,7 +284,7 @@ fn replay_next<R: Read, W: Write, F: Fn(&mut W, &Opening, &[u8]) -> io::Result<(
     let Some(opening) = Opening::read(input)? else {
         return Ok(false);
     };
-    let size = opening.read_sheet(input, &mut *buffer)?;
+    let size = opening.read_sheet(input, buffer)?;
     replay(out, &opening, &buffer[0..size])?;
     Ok(true)
 }

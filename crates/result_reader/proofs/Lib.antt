@@ -2,7 +2,6 @@ pub mod Flat
 pub mod Steps
 pub mod Walking
 pub mod Numbers
-pub mod Unasked
 pub mod Lists
 pub mod Chains
 pub mod Answering

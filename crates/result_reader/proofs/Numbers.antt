@@ -12,14 +12,13 @@ use Rattle.laws.specs.SheetReading.SheetLaws.{keeps-number, keeps-times, ends-in
 use Rattle.sheet.specs.Numbers.{up_to, items_at, Told}
 use Rattle.std.specs.Prelude.{Result, Ok, Err}
 use Rattle.refusals.specs.declared.Refusal.{Refusal}
-use Rattle.sheet.proofs.Items.{as_number}
 use Rattle.sheet.proofs.Judging.{told, told-numbers}
 use Rattle.result_reader.proofs.Flat.{times-add}
 
--- ---- what `item` was answered, with the largest bound
+-- ---- what stands behind a number
 
-pub item-inside : (bytes : List ℕ) (at : ℕ) {value next : ℕ} → at ≤ length bytes → up_to 0xffff_ffff_ffff_ffff at (drop at bytes) ≡ found value next (drop next bytes) → next ≤ length bytes
-item-inside bytes at h e = ends-inside keeps-number bytes at h (as_number at (drop at bytes) e)
+pub item-inside : (bytes : List ℕ) (at : ℕ) {value next : ℕ} → at ≤ length bytes → number at (drop at bytes) ≡ found value next (drop next bytes) → next ≤ length bytes
+item-inside bytes at h e = ends-inside keeps-number bytes at h e
 
 -- ---- a few numbers
 
@@ -63,10 +62,10 @@ unfolding times
 reading_starts n at bytes values l h = record { few = omega arith; long = l; inside = h; read = refl }
 
 module _ {n at : ℕ} {bytes values : List ℕ} {next i : ℕ} (R : Reading n at bytes values next i) (h : i < n) where
-  pub reading_goes_on : {value behind : ℕ} → up_to 0xffff_ffff_ffff_ffff next (drop next bytes) ≡ found value behind (drop behind bytes) → Reading n at bytes (set values i value) behind (i + 1)
+  pub reading_goes_on : {value behind : ℕ} → number next (drop next bytes) ≡ found value behind (drop behind bytes) → Reading n at bytes (set values i value) behind (i + 1)
   reading_goes_on {value} {behind} e =
       let within : i < length values = omega (arith, R.long) in
-      let one = one_found next (drop next bytes) (as_number next (drop next bytes) e) in
+      let one = one_found next (drop next bytes) e in
       let both = both_found at (drop at bytes) i 1 R.read one in
       let here = set-take values i value within in
       record {
@@ -79,11 +78,11 @@ module _ {n at : ℕ} {bytes values : List ℕ} {next i : ℕ} (R : Reading n at
       set-take : (l : List ℕ) (i v : ℕ) → i < length l → take i l ++ (v ∷ []) ≡ take (i + 1) (set l i v)
       set-take l i v k = rw (add-one i) (sym (take-suc-set l i v k))
 
-  pub reading_fails : {refusal place : ℕ} → up_to 0xffff_ffff_ffff_ffff next (drop next bytes) ≡ failed refusal place → times n number at (drop at bytes) ≡ failed refusal place
+  pub reading_fails : {refusal place : ℕ} → number next (drop next bytes) ≡ failed refusal place → times n number at (drop at bytes) ≡ failed refusal place
   reading_fails {refusal} {place} e =
       let rest : i + (1 + (n - (i + 1))) ≡ n = omega arith in
       sym (ap (λ k. times k number at (drop at bytes)) rest)
-      ∙ both-fails at (drop at bytes) i (1 + (n - (i + 1))) R.read (first_fails next (drop next bytes) (n - (i + 1)) (as_number next (drop next bytes) e))
+      ∙ both-fails at (drop at bytes) i (1 + (n - (i + 1))) R.read (first_fails next (drop next bytes) (n - (i + 1)) e)
 
 -- ---- as many twice
 

@@ -8,7 +8,7 @@ use lib.Dec.{leb}
 use Rattle.definitions.specs.Sort.{list_lt}
 use Rattle.results.specs.Result.{Entry, out_of_turn, in_turn, turns, ascent_fault}
 use Rattle.result_writer.specs.Contract.{turn_of}
-use Rattle.result_reader.specs.Walks.{turned_at, turns_from, ascent_of, fault_behind, ascent_from}
+use Rattle.result_reader.specs.Walks.{turned_at, turn_at, turns_from, ascent_of, fault_behind, ascent_from}
 
 -- ---- labels
 
@@ -23,9 +23,15 @@ turn_step regions label place n es = go (leb label n) (in_turn regions n label)
     go false true = refl
     go false false = refl
 
-pub turn_next : (regions label place n : ℕ) {turn told : Option ℕ} → turn ≡ turn_of regions n label → turn ≡ told → (es : List Entry)
-    → turns_from regions (turned_at place told) es ≡ turns_from regions (Ok n) (record { place = place; numbers = label ∷ [] } ∷ es)
-turn_next regions label place n e g es = ap (λ t. turns_from regions (turned_at place t) es) (sym g ∙ e) ∙ turn_step regions label place n es
+turns_step : (regions label place : ℕ) (s : Result ℕ ℕ) (es : List Entry)
+    → turns_from regions (turn_at regions s label place) es ≡ turns_from regions s (record { place = place; numbers = label ∷ [] } ∷ es)
+unfolding turns_from
+turns_step regions label place (Ok n) es = turn_step regions label place n es
+turns_step regions label place (Err first) es = refl
+
+pub turn_next : (regions label place : ℕ) (s : Result ℕ ℕ) {t : Result ℕ ℕ} → t ≡ turn_at regions s label place → (es : List Entry)
+    → turns_from regions t es ≡ turns_from regions s (record { place = place; numbers = label ∷ [] } ∷ es)
+turn_next regions label place s e es = ap (λ t. turns_from regions t es) e ∙ turns_step regions label place s es
 
 -- ---- pairs and rows
 

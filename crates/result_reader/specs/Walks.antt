@@ -6,6 +6,7 @@ use Rattle.definitions.specs.Sort.{list_lt}
 use Rattle.refusals.specs.declared.Refusal.{Refusal}
 use Rattle.refusals.specs.Refusals as refusals
 use Rattle.results.specs.Result.{Entry, Turns, out_of_turn, times_entry, turns, ascent_fault}
+use Rattle.result_writer.specs.Contract.{turn_of}
 use Rattle.sheet.specs.declared.Found.{Found}
 
 -- ---- entries at an offset of the bytes
@@ -33,10 +34,14 @@ module _ {S X : Type 0} (from : S → List Entry → X) (size : ℕ) (bytes : Li
 
 -- ---- labels
 
--- one label more, at this place
+-- one label more, at this place, where so many numbers are started
 abbrev pub turned_at : ℕ → Option ℕ → Result ℕ ℕ
 turned_at place (Some n) = Ok n
 turned_at place None = Err place
+
+abbrev pub turn_at : ℕ → Result ℕ ℕ → ℕ → ℕ → Result ℕ ℕ
+turn_at regions (Ok n) label place = turned_at place (turn_of regions n label)
+turn_at regions (Err first) label place = Err first
 
 unfoldable pub turns_from : ℕ → Result ℕ ℕ → List Entry → Turns
 unfolding turns

@@ -13,7 +13,7 @@ ghost use Rattle.definitions.specs.Sheet.{times};
 ghost use Rattle.sheet.specs.Numbers.{read_of, items_at, Told};
 ghost use Rattle.results.specs.Result.{labels_fault};
 ghost use Rattle.result_writer.specs.Contract.{key_in};
-ghost use Rattle.result_reader.specs.Walks.{turns_from, Walks, ascent_of, ascent_from};
+ghost use Rattle.result_reader.specs.Walks.{turn_at, turns_from, Walks, ascent_of, ascent_from};
 ghost use Rattle.result_reader.specs.Parts.{turns_fault, no_fault, key_fault, ListTold, OpeningTold, FrontTold, BackTold, ResultTold};
 ghost use Rattle.result_reader.specs.Parts.{PlanHeld, PartHeld, part_numbers, room_in, Room};
 ghost use Rattle.result_reader.specs.Lists.{Filled, SameLists};
@@ -21,24 +21,19 @@ ghost use Rattle.result_reader.specs.Contract.{answered, Reads};
 
 use definitions::limits::{NUMBERS_PER_PAIR, NUMBERS_PER_ROW, TALLIES_PER_SPAN};
 use refusals::{Cause, Refusal, ensure, no_fault};
-use result_writer::{LABEL_SIZE, after_label};
-use sheet::{Found, Part, RESULT_KIND, fill_numbers, item, judge};
+use result_writer::{LABEL_SIZE, after_label, key};
+use sheet::{Found, Part, RESULT_KIND, end_at, fill_numbers, judge, number_at};
 
 // ---- labels
 
 // How many numbers are started along the labels; or the place of the first label out of turn.
 type Turned = Result<u64, usize>;
 
-// Walks `count` labels behind one that is out of turn: no rule is asked of them.
-fn walk_behind(bytes: &[u8], at: usize, count: u64, place: usize) -> Result<Found<Turned>, Refusal>
-    requires { at ≤ length bytes.now }
-    ensures { (regions : ℕ) → Walks (turns_from regions) 1 bytes.now (Err place) at count result }
+// One label more, at this place.
+fn turn(regions: u64, state: Turned, label: u64, place: usize) -> Turned
+    ensures { result ≡ turn_at regions state label place }
 {
-    let next = judge(bytes, at, count as usize, u64::MAX)?;
-    Ok(Found {
-        value: Err(place),
-        next,
-    })
+    after_label(regions, state?, label).ok_or(place)
 }
 
 // Walks `count` labels.
@@ -47,19 +42,13 @@ fn walk_labels(bytes: &[u8], at: usize, count: u64, regions: u64) -> Result<Foun
     ensures { Walks (turns_from regions) 1 bytes.now (Ok 0) at count result }
 {
     let mut next = at;
-    let mut started: u64 = 0;
-    for i in 0..count {
-        let label = item(bytes, next, u64::MAX)?;
-        let Some(n) = after_label(regions, started, label.value) else {
-            return walk_behind(bytes, label.next, count - (i + 1), next);
-        };
-        started = n;
+    let mut state: Turned = Ok(0);
+    for _ in 0..count {
+        let label = number_at(bytes, next)?;
+        state = turn(regions, state, label.value, next);
         next = label.next;
     }
-    Ok(Found {
-        value: Ok(started),
-        next,
-    })
+    Ok(Found { value: state, next })
 }
 
 // ---- pairs and rows
@@ -72,21 +61,11 @@ fn numbers_at<const N: usize>(bytes: &[u8], at: usize) -> Result<Found<[u64; N]>
     let mut value = [0u64; N];
     let mut next = at;
     for number in value.iter_mut() {
-        let read = item(bytes, next, u64::MAX)?;
+        let read = number_at(bytes, next)?;
         *number = read.value;
         next = read.next;
     }
     Ok(Found { value, next })
-}
-
-// The numbers of an entry in the order in which they are compared: behind the others the first ones, so many of them.
-fn key<const N: usize>(numbers: [u64; N], last: usize) -> [u64; N]
-    requires { last ≤ N }
-    ensures { result ≡ key_in last numbers.entry }
-{
-    let mut key = numbers;
-    key.rotate_left(last);
-    key
 }
 
 // The key of the last entry, if there is one yet, all in order; or the place of the first that is not above the one before it.
@@ -130,7 +109,7 @@ fn walk_keys<const N: usize>(
 
 // How many regions there are, and where that stands.
 #[derive(Clone, Copy)]
-pub struct RegionCount {
+struct RegionCount {
     count: u64,
     place: usize,
 }
@@ -147,7 +126,7 @@ fn turns_breach(state: Turned, regions: RegionCount) -> Option<usize>
 
 // A list, and the first place that breaks its rule, if there is one.
 #[derive(Clone, Copy)]
-pub struct List {
+struct List {
     part: Part,
     breach: Option<usize>,
 }
@@ -157,7 +136,7 @@ fn labels_list(bytes: &[u8], at: usize, regions: RegionCount) -> Result<Found<Li
     requires { at ≤ length bytes.now }
     ensures { ListTold (turns_fault regions.count regions.place) 1 bytes.now at result }
 {
-    let count = item(bytes, at, u64::MAX)?;
+    let count = number_at(bytes, at)?;
     let labels = walk_labels(bytes, count.next, count.value, regions.count)?;
     Ok(Found {
         value: List {
@@ -185,7 +164,7 @@ fn tallies_list(bytes: &[u8], at: usize) -> Result<Found<List>, Refusal>
     requires { at ≤ length bytes.now }
     ensures { ListTold no_fault tallies_per_span bytes.now at result }
 {
-    let count = item(bytes, at, u64::MAX)?;
+    let count = number_at(bytes, at)?;
     let next = judge_twice(bytes, count.next, count.value as usize)?;
     Ok(Found {
         value: List {
@@ -204,7 +183,7 @@ fn keys_list<const N: usize>(bytes: &[u8], at: usize, last: usize) -> Result<Fou
     requires { (at ≤ length bytes.now) × (last ≤ N) × (N ≤ numbers_per_row) }
     ensures { ListTold (key_fault last) N bytes.now at result }
 {
-    let count = item(bytes, at, u64::MAX)?;
+    let count = number_at(bytes, at)?;
     let keys = walk_keys::<N>(bytes, count.next, count.value, last)?;
     Ok(Found {
         value: List {
@@ -224,10 +203,10 @@ fn keys_list<const N: usize>(bytes: &[u8], at: usize, last: usize) -> Result<Fou
 fn opening(bytes: &[u8]) -> Result<Found<RegionCount>, Refusal>
     ensures { OpeningTold bytes.now result }
 {
-    let kind = item(bytes, 0, u64::MAX)?;
+    let kind = number_at(bytes, 0)?;
     ensure(kind.value == RESULT_KIND, Cause::Sheet)?;
     let place = kind.next;
-    let regions = item(bytes, place, u64::MAX)?;
+    let regions = number_at(bytes, place)?;
     Ok(Found {
         value: RegionCount {
             count: regions.value,
@@ -239,7 +218,7 @@ fn opening(bytes: &[u8]) -> Result<Found<RegionCount>, Refusal>
 
 // Two lists, and the first place that breaks a rule of theirs, if there is one.
 #[derive(Clone, Copy)]
-pub struct BothLists {
+struct BothLists {
     first: Part,
     second: Part,
     breach: Option<usize>,
@@ -269,12 +248,7 @@ fn back(bytes: &[u8], at: usize) -> Result<Found<BothLists>, Refusal>
 {
     let pairs = keys_list::<NUMBERS_PER_PAIR>(bytes, at, 0)?;
     let rows = keys_list::<NUMBERS_PER_ROW>(bytes, pairs.next, 1)?;
-    if rows.next < bytes.len() {
-        return Err(Refusal {
-            cause: Cause::Sheet,
-            place: rows.next,
-        });
-    }
+    end_at(bytes, rows.next)?;
     Ok(Found {
         value: BothLists {
             first: pairs.value.part,
@@ -320,7 +294,7 @@ fn fill_list(bytes: &[u8], part: Part, size: usize, out: &mut [u64])
     requires { (PartHeld size bytes.now part) × (part.count * size ≤ length out.old) }
     ensures { out.new ≡ overwrite (part_numbers size bytes.now part) out.old }
 {
-    fill_numbers(bytes, part.first, part.count * size, &mut *out);
+    fill_numbers(bytes, part.first, part.count * size, out);
 }
 
 // The lists that are lent for what a sheet states.
@@ -385,7 +359,7 @@ fn read_result(
 
 // Number 0, place 0, the region count and four counts of entries; or a refusal's number and place, and 0 for the rest.
 #[repr(C)]
-#[derive(Clone, Copy)]
+#[derive(Clone, Copy, Default)]
 pub struct ResultAnswer {
     pub number: u64,
     pub place: u64,
@@ -413,11 +387,7 @@ impl From<Result<Plan, Refusal>> for ResultAnswer {
             Err(refusal) => ResultAnswer {
                 number: refusal.cause.number(),
                 place: refusal.place as u64,
-                regions: 0,
-                labels: 0,
-                spans: 0,
-                pairs: 0,
-                rows: 0,
+                ..Default::default()
             },
         }
     }
@@ -434,5 +404,5 @@ pub fn result_reader_read_result(
     ensures { Reads bytes.now labels.old tallies.old pairs.old rows.old result
         labels.new tallies.new pairs.new rows.new }
 {
-    ResultAnswer::from(read_result(bytes, &mut *labels, &mut *tallies, &mut *pairs, &mut *rows))
+    ResultAnswer::from(read_result(bytes, labels, tallies, pairs, rows))
 }

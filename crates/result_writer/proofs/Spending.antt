@@ -71,6 +71,10 @@ spent-known {left = left} {size = size} None n e s h =
     spent-short n e s short
 spent-known (Some x) n e s h = ap Some h.1 ∙ spent-left n e s h.0
 
+-- what is taken behind a step that left so much
+pub spent-behind : {room : Option ℕ} {left : ℕ} {r : Option ℕ} (size : ℕ) → room ≡ Some left → r ≡ spent (Some left) size → r ≡ spent room size
+spent-behind size w e = e ∙ ap (λ s. spent s size) (sym w)
+
 -- ---- the numbers of a list
 
 next_bytes : (numbers : List ℕ) (i : ℕ) → i < length numbers → concat_map shortest (drop i numbers) ≡ shortest (get_or numbers i 0) ++ concat_map shortest (drop (suc i) numbers)
@@ -92,21 +96,20 @@ module _ {numbers : List ℕ} {whole left i : ℕ} (S : Spending numbers whole l
       → spent r (length (concat_map shortest (drop (suc i) numbers))) ≡ spent (Some whole) (length (concat_map shortest numbers))
   taken h e = spent-then (Some left) (length (shortest (get_or numbers i 0))) (length (concat_map shortest (drop (suc i) numbers))) e refl ∙ ap (spent (Some left)) (sym (next_length numbers i h)) ∙ S.same
 
-  pub spending_goes_on : i < length numbers → {size : ℕ} → size ≡ length (shortest (get_or numbers i 0)) → size ≤ left → Spending numbers whole (left - size) (i + 1)
-  spending_goes_on h e k = record { few = omega arith; same = rw (add-one i) (taken h (spent-left _ refl e k)) }
+  pub spending_goes_on : i < length numbers → {r : Option ℕ} {new : ℕ} → r ≡ spent (Some left) (length (shortest (get_or numbers i 0))) → r ≡ Some new
+      → Spending numbers whole new (i + 1)
+  spending_goes_on h e w =
+      record { few = omega arith; same = rw (add-one i) (ap (λ s. spent s (length (concat_map shortest (drop (suc i) numbers)))) (sym w) ∙ taken h e) }
 
-  pub spending_stops : i < length numbers → {size : ℕ} → size ≡ length (shortest (get_or numbers i 0)) → left < size → {room : Option ℕ} → room ≡ Some whole
-      → None ≡ spent room (length (concat_map shortest numbers))
-  unfolding spent
-  spending_stops h e k q = taken h (spent-short _ refl e k) ∙ ap (λ r. spent r (length (concat_map shortest numbers))) (sym q)
+  pub spending_stops : i < length numbers → {r : Option ℕ} → r ≡ spent (Some left) (length (shortest (get_or numbers i 0))) → r ≡ None
+      → None ≡ spent (Some whole) (length (concat_map shortest numbers))
+  spending_stops h e w = spent_none (length (concat_map shortest (drop (suc i) numbers))) w ∙ taken h e
 
-pub spending_ends : {numbers : List ℕ} {whole left i : ℕ} → Spending numbers whole left i → length numbers ≤ i → {room : Option ℕ} → room ≡ Some whole
-    → Some left ≡ spent room (length (concat_map shortest numbers))
+pub spending_ends : {numbers : List ℕ} {whole left i : ℕ} → Spending numbers whole left i → length numbers ≤ i → Some left ≡ spent (Some whole) (length (concat_map shortest numbers))
 unfolding concat_map
-spending_ends {numbers} {left = left} {i = i} S h q =
+spending_ends {numbers} {left = left} {i = i} S h =
     let all : left - 0 ≡ left = omega arith in
     sym (ap Some all) ∙ nothing ∙ sym (ap (λ m. spent (Some left) (length (concat_map shortest m))) (drop_of_length-le numbers h)) ∙ S.same
-    ∙ ap (λ r. spent r (length (concat_map shortest numbers))) (sym q)
   where
     nothing : Some (left - 0) ≡ spent (Some left) 0
     nothing = spent-left 0 refl refl (omega arith)

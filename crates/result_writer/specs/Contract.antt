@@ -11,15 +11,6 @@ turn_of regions n label = cond (leb label n) (Some n) (cond (in_turn regions n l
 abbrev pub key_in : ℕ → List ℕ → List ℕ
 key_in n numbers = drop n numbers ++ take n numbers
 
--- the numbers of entry i, so many of them
-abbrev pub entry_at : ℕ → List ℕ → ℕ → List ℕ
-entry_at size l i = take size (drop (size * i) l)
-
--- entry i, each of so many numbers, is there, and one before it
-pub record Neighbours (size : ℕ) (l : List ℕ) (i : ℕ) : Type 0 where
-  pub later : 1 ≤ i
-  pub inside : size * (i + 1) ≤ length l
-
 -- what is left of a room once this is taken from it
 unfoldable pub spent : Option ℕ → ℕ → Option ℕ
 spent (Some left) size = cond (leb size left) (Some (left - size)) None

@@ -3,7 +3,8 @@
 
 #![tactic(auto)]
 
-ghost use Rattle.std.specs.Prelude.{◌≡◌, ◌&&◌, ◌+◌, ◌-◌, ◌/◌, ◌%◌, ◌≤◌, ◌<◌, leb, eqb, length, map};
+ghost use Rattle.std.specs.Prelude.{◌≡◌, ◌&&◌, ◌+◌, ◌-◌, ◌/◌, ◌%◌, ◌≤◌, ◌<◌, [], leb, eqb, length, map, get_or, Some};
+ghost use Rattle.definitions.specs.Limits.{numbers_per_row};
 ghost use Rattle.definitions.specs.Refusals.{unless};
 ghost use Rattle.definitions.specs.Scan.{concat_map};
 ghost use Rattle.definitions.specs.Sort.{list_lt};
@@ -12,7 +13,7 @@ ghost use Rattle.results.specs.Result.{turns, labels_fault, ascent_fault, rules_
 ghost use Rattle.results.specs.ResultAnswers.{entries_in, placed, is_finished, result_bytes, Writes};
 ghost use Rattle.byte_writer.specs.Contract.{HasRoom, Appends};
 ghost use Rattle.refusals.specs.Answers.{answer_in, answer_of};
-ghost use Rattle.result_writer.specs.Contract.{turn_of, key_in, entry_at, Neighbours, spent, result_in, result_of};
+ghost use Rattle.result_writer.specs.Contract.{turn_of, key_in, spent, result_in, result_of};
 
 use byte_writer::Writer;
 use definitions::limits::{NUMBERS_PER_PAIR, NUMBERS_PER_ROW, TALLIES_PER_SPAN};
@@ -50,24 +51,37 @@ fn in_turn(regions: u64, labels: &[u64]) -> bool
     started == regions
 }
 
-// Entry i, of so many numbers, stands behind the one before it; of an entry the first numbers, so many of them, are compared behind the others.
-fn ascends(numbers: &[u64], size: usize, last: usize, i: usize) -> bool
-    requires { Neighbours size numbers.now i × (last ≤ size) }
-    ensures { result ≡ list_lt (key_in last (entry_at size numbers.now (i - 1))) (key_in last (entry_at size numbers.now i)) }
+// The numbers of an entry in the order in which they are compared: behind the others the first ones, so many of them.
+pub fn key<const N: usize>(numbers: [u64; N], last: usize) -> [u64; N]
+    requires { last ≤ N }
+    ensures { result ≡ key_in last numbers.entry }
 {
-    let at = size * i;
-    let before = at - size;
-    let a = &numbers[before + last..at];
-    let b = &numbers[at + last..at + size];
-    a < b || a == b && numbers[before..before + last] < numbers[at..at + last]
+    let mut key = numbers;
+    key.rotate_left(last);
+    key
 }
 
-// Entries of so many numbers strictly ascend, by their numbers; of an entry the first ones, so many of them, are compared behind the others.
-fn entries_ascend(numbers: &[u64], size: usize, last: usize) -> bool
-    requires { (1 ≤ size) × (last ≤ size) }
-    ensures { ascent_fault (key_in last) (entries_in size numbers.now) ≡ unless result }
+// Entry i is above the one before it.
+fn ascends<const N: usize>(entries: &[[u64; N]], last: usize, i: usize) -> bool
+    requires { (1 ≤ i) × (i < length entries.now) × (last ≤ N) }
+    ensures { result ≡ list_lt (key_in last (get_or entries.now (i - 1) [])) (key_in last (get_or entries.now i [])) }
 {
-    (1..numbers.len() / size).all(|i| ascends(numbers, size, last, i))
+    key(entries[i - 1], last) < key(entries[i], last)
+}
+
+// Entries of N numbers strictly ascend, by their keys.
+fn entries_ascend<const N: usize>(numbers: &[u64], last: usize) -> bool
+    requires { (1 ≤ N) × (last ≤ N) × (N ≤ numbers_per_row) }
+    ensures { ascent_fault (key_in last) (entries_in N numbers.now) ≡ unless result }
+{
+    let (entries, _) = numbers.as_chunks::<N>();
+    // Kept: in a function over N the closure of `all` would need a clause of its own that repeats all that `ascends` requires.
+    for i in 1..entries.len() {
+        if !ascends(entries, last, i) {
+            return false;
+        }
+    }
+    true
 }
 
 // A label is an entry of one number.
@@ -76,7 +90,7 @@ pub const LABEL_SIZE: usize = 1;
 // ---- the room
 
 // How many bytes a number takes: one for each seven bits.
-pub fn group_count(n: u64) -> usize
+fn group_count(n: u64) -> usize
     ensures { result ≡ length (shortest n) }
 {
     (n.max(1).ilog2() / 7) as usize + 1
@@ -84,30 +98,30 @@ pub fn group_count(n: u64) -> usize
 
 // Takes the size of a number from the bytes of a lent list that are left, if there are so many. Sizes are taken from the room, since their sum may be beyond
 // 64 bits.
-pub fn spend_number(room: Option<usize>, n: u64) -> Option<usize>
-    ensures { result ≡ spent room (length (shortest n)) }
+pub fn spend_number(room: usize, n: u64) -> Option<usize>
+    ensures { result ≡ spent (Some room) (length (shortest n)) }
 {
-    room?.checked_sub(group_count(n))
+    room.checked_sub(group_count(n))
 }
 
 // Takes the size of each of these numbers.
-pub fn spend_numbers<T: Entry>(room: Option<usize>, numbers: &[T]) -> Option<usize>
-    ensures { result ≡ spent room (length (concat_map shortest (map T.value numbers.now))) }
+pub fn spend_numbers<T: Entry>(room: usize, numbers: &[T]) -> Option<usize>
+    ensures { result ≡ spent (Some room) (length (concat_map shortest (map T.value numbers.now))) }
 {
-    let mut left = room?;
+    let mut left = room;
     for &n in numbers {
-        left = left.checked_sub(group_count(n.value()))?;
+        left = spend_number(left, n.value())?;
     }
     Some(left)
 }
 
 // Takes the size of a count of entries, each of `size` numbers, and of the numbers.
-pub fn spend_list(room: Option<usize>, size: usize, numbers: &[u64]) -> Option<usize>
+pub fn spend_list(room: usize, size: usize, numbers: &[u64]) -> Option<usize>
     requires { 1 ≤ size }
-    ensures { result ≡ spent room (length (list_bytes size numbers.now)) }
+    ensures { result ≡ spent (Some room) (length (list_bytes size numbers.now)) }
 {
-    let counted = spend_number(room, (numbers.len() / size) as u64);
-    spend_numbers(counted, numbers)
+    let left = spend_number(room, (numbers.len() / size) as u64)?;
+    spend_numbers(left, numbers)
 }
 
 // ---- writing
@@ -149,8 +163,8 @@ impl RunResult<'_> {
         ensures { rules_fault (placed (result_of self.entry)) ≡ unless result }
     {
         in_turn(self.regions, self.labels)
-            && entries_ascend(self.pairs, NUMBERS_PER_PAIR, 0)
-            && entries_ascend(self.rows, NUMBERS_PER_ROW, 1)
+            && entries_ascend::<NUMBERS_PER_PAIR>(self.pairs, 0)
+            && entries_ascend::<NUMBERS_PER_ROW>(self.rows, 1)
     }
 
     // No last entry is unfinished.
@@ -162,16 +176,23 @@ impl RunResult<'_> {
             && self.rows.len() % NUMBERS_PER_ROW == 0
     }
 
+    // What is left of the room once the sheet is taken from it, if there is so much.
+    fn spend(self, room: usize) -> Option<usize>
+        ensures { result ≡ spent (Some room) (length (result_bytes (result_of self.entry))) }
+    {
+        let left = spend_number(room, RESULT_KIND)?;
+        let left = spend_number(left, self.regions)?;
+        let left = spend_list(left, LABEL_SIZE, self.labels)?;
+        let left = spend_list(left, TALLIES_PER_SPAN, self.tallies)?;
+        let left = spend_list(left, NUMBERS_PER_PAIR, self.pairs)?;
+        spend_list(left, NUMBERS_PER_ROW, self.rows)
+    }
+
     // A list of so many bytes has room for the sheet.
     fn fits(self, room: usize) -> bool
         ensures { result ≡ leb (length (result_bytes (result_of self.entry))) room }
     {
-        let a = spend_number(Some(room), RESULT_KIND);
-        let b = spend_number(a, self.regions);
-        let c = spend_list(b, LABEL_SIZE, self.labels);
-        let d = spend_list(c, TALLIES_PER_SPAN, self.tallies);
-        let e = spend_list(d, NUMBERS_PER_PAIR, self.pairs);
-        spend_list(e, NUMBERS_PER_ROW, self.rows).is_some()
+        self.spend(room).is_some()
     }
 
     // Writes the sheet.

@@ -4,15 +4,16 @@ use mathlib.Core.Path.{◌≡◌, refl, sym, ap, subst, ◌∙◌}
 use native.Mathlib.Omega.{arith}
 use mathlib.Core.Bool.{Bool, true, false, ◌&&◌, cond}
 use mathlib.Core.List.{List}
-use lib.ListN.{length, drop, get_or-append}
+use lib.ListN.{length, take, drop}
 use lib.Dec.{leb}
 use borrow.Author.Tests.{leb-true}
 use Rattle.definitions.specs.Limits.{numbers_per_span, numbers_per_boundary, numbers_per_anchor}
 use Rattle.definitions.specs.Lists.{overwrite}
 use Rattle.definitions.specs.SheetNumber.{number}
-use Rattle.definitions.specs.Sheet.{has_spans, spans_stated, endpoints_in, endpoints_of, well_formed, refused, read_sheet, room_for}
+use Rattle.definitions.specs.Sheet.{has_spans, spans_stated, endpoints_of, well_formed, refused, read_sheet, room_for}
+use Rattle.std.proofs.Math.Seq.{take-append_seam}
 use Rattle.laws.specs.ListLaws.Tests.{both}
-use Rattle.laws.specs.SheetReading.Endpoints.{endpoints-long, endpoints_same}
+use Rattle.laws.specs.SheetReading.Endpoints.{endpoints-long}
 use Rattle.sheet.specs.Numbers.{Held}
 use Rattle.sheet.specs.Parts.{kind_number, part_of, cells_in, sheet_of, PartsHeld, SheetHeld, stated_long, room_in, Room}
 use Rattle.sheet.specs.Contract.{header_of, header_in, Answered, reading_within}
@@ -48,15 +49,12 @@ room-known {parts} {n} {stated} {cells} {spans} {boundaries} {anchors} e h =
 
 -- what is stored of the boundaries, read as spans, is what the sheet states
 pub spans-stored : (own : Bool) (bytes : List ℕ) (spans boundaries : Part) (lent : List ℕ) → Held number bytes boundaries.first boundaries.count
-    → cond own (part_of bytes spans) (endpoints_in (boundaries.count / numbers_per_boundary) (overwrite (part_of bytes boundaries) lent))
+    → spans_stated own (part_of bytes spans) (take boundaries.count (overwrite (part_of bytes boundaries) lent))
     ≡ spans_stated own (part_of bytes spans) (part_of bytes boundaries)
-unfolding endpoints_of
-spans-stored true bytes spans boundaries lent H = refl
-spans-stored false bytes spans boundaries lent H =
+spans-stored own bytes spans boundaries lent H =
     let p = part_of bytes boundaries in
-    let long : length p ≡ boundaries.count = held-length H in
-    endpoints_same (boundaries.count / numbers_per_boundary) (overwrite p lent) p (λ k h. get_or-append p (drop (length p) lent) 0 k (omega arith))
-    ∙ ap (λ n. endpoints_in (n / numbers_per_boundary) p) (sym long)
+    ap (spans_stated own (part_of bytes spans))
+    (ap (λ n. take n (overwrite p lent)) (sym (held-length H)) ∙ take-append_seam p (drop (length p) lent))
 
 spans-long : (own : Bool) {bytes : List ℕ} {parts : Parts} → PartsHeld bytes parts
     → length (spans_stated own (part_of bytes parts.spans) (part_of bytes parts.boundaries))

@@ -33,12 +33,11 @@ nine_at zero i j l h m = absurd (omega arith)
 nine_at (suc k) zero j l h m = get_or-take 9 l j 0 m ∙ ap (λ n. get_or l n 0) (omega arith)
 nine_at (suc k) (suc i) j l h m = nine_at k i j (drop 9 l) (omega arith) m ∙ get_or-drop 9 l (9 * i + j) 0 ∙ ap (λ n. get_or l n 0) (omega arith)
 
-pub endpoints-read : (boundaries : List ℕ) {chunks : List (List ℕ)} (count i : ℕ) → chunks ≡ first_chunks 9 (length boundaries / 9) boundaries → 9 * count ≤ length boundaries → i < count
-    → endpoints (segment_at (get_or (take count chunks) i []) 0) ≡ endpoints (segment_at boundaries (9 * i))
-endpoints-read boundaries {chunks} count i e room h =
-    let chunk : get_or (take count chunks) i [] ≡ get_or (first_chunks 9 (length boundaries / 9) boundaries) i [] = get_or-take count chunks i [] h ∙ ap (λ l. get_or l i []) e in
-    let number : (j : ℕ) → j < 9 → get_or (get_or (take count chunks) i []) j 0 ≡ get_or boundaries (9 * i + j) 0 =
-    λ j m. ap (λ l. get_or l j 0) chunk ∙ nine_at (length boundaries / 9) i j boundaries (omega arith) m in
+pub endpoints-read : (boundaries : List ℕ) {chunks : List (List ℕ)} (i : ℕ) → chunks ≡ first_chunks 9 (length boundaries / 9) boundaries → i < length boundaries / 9
+    → endpoints (segment_at (get_or chunks i []) 0) ≡ endpoints (segment_at boundaries (9 * i))
+endpoints-read boundaries {chunks} i e h =
+    let number : (j : ℕ) → j < 9 → get_or (get_or chunks i []) j 0 ≡ get_or boundaries (9 * i + j) 0 =
+    λ j m. ap (λ l. get_or (get_or l i []) j 0) e ∙ nine_at (length boundaries / 9) i j boundaries h m in
     let first : 9 * i + 0 ≡ 9 * i = omega arith in
     λ t. (number 0 (omega arith) ∙ ap (λ n. get_or boundaries n 0) first) t ∷ number 1 (omega arith) t ∷ number 2 (omega arith) t ∷ number 3 (omega arith) t ∷ []
 

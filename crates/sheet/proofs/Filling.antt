@@ -12,7 +12,10 @@ use Rattle.definitions.specs.SheetNumber.{Read, found, failed}
 use Rattle.definitions.specs.Sheet.{Reader, and_then, give, times}
 use Rattle.definitions.specs.Lists.{overwrite}
 use Rattle.laws.specs.SheetReading.SheetLaws.{Keeps, ends-inside, times-found, times-failed, times-length}
-use Rattle.sheet.specs.Numbers.{items_at, values_in, is_found, values_at, Held}
+use Rattle.sheet.specs.Numbers.{read_of, items_at, values_in, is_found, values_at, Held}
+use Rattle.sheet.specs.declared.Found.{Found}
+use Rattle.refusals.specs.declared.Refusal.{Refusal}
+use Rattle.std.specs.Prelude.{Result, Ok, Err, IsOk}
 
 pub held-length : {item : Reader ℕ} {bytes : List ℕ} {at count : ℕ} → Held item bytes at count → length (values_at item bytes at count) ≡ count
 unfolding items_at
@@ -43,6 +46,11 @@ module _ {item : Reader ℕ} {bytes out₀ : List ℕ} {at count : ℕ} where
         same = rw e (sets-eq (values_at item bytes at count) out₀ 0 (omega arith) ∙ ap (λ n. values_at item bytes at count ++ drop n out₀) (zero-add (length (values_at item bytes at count))));
       }
 
+-- what `unwrap` gives of an answer that is none but `Ok`
+pub unwrapped : (bytes : List ℕ) {outcome : Read ℕ} {r : Result (Found ℕ) Refusal} {read : Found ℕ} → outcome ≡ read_of bytes r → r ≡ Ok read
+    → outcome ≡ found read.value read.next (drop read.next bytes)
+unwrapped bytes e q = e ∙ ap (read_of bytes) q
+
 -- of a list that is filled whole
 pub filling_whole : {item : Reader ℕ} {bytes out₀ : List ℕ} {at : ℕ} → Held item bytes at (length out₀) → Filling item bytes out₀ (values_at item bytes at (length out₀)) (length out₀) out₀ at 0
 filling_whole {item} {bytes} {out₀} {at} H =
@@ -72,12 +80,16 @@ module _ {item : Reader ℕ} {bytes out₀ goal : List ℕ} {count : ℕ} where
       one_more = omega arith
 
       -- what was judged is not refused
-      pub filling_never-stops : {refusal place : ℕ} → item next (drop next bytes) ≡ failed refusal place → ⊥
+      filling_never-stops : {refusal place : ℕ} → item next (drop next bytes) ≡ failed refusal place → ⊥
       unfolding items_at
       filling_never-stops e =
           let q : is_found (times (count - i) item next (drop next bytes)) ≡ false = ap (λ n. is_found (times n item next (drop next bytes))) (sym one_more) ∙ ap is_found (times-failed item (count - (i + 1)) next (drop next bytes) e) in
           let z : ◌≡◌ {A = ℕ} 0 1 = cc F.held.all in
           omega arith
+
+      pub filling_unwraps : (r : Result (Found ℕ) Refusal) → item next (drop next bytes) ≡ read_of bytes r → IsOk r
+      filling_unwraps (Ok read) e = refl
+      filling_unwraps (Err refusal) e = absurd (filling_never-stops e)
 
       pub filling_held : Held item bytes next 1
       unfolding items_at times

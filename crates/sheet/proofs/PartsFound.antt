@@ -143,12 +143,11 @@ sides-cells limit at bytes {extent} {next} {rest} e = at_width (number at bytes)
     at_width (found width o r) q = at_height width (number o r) q
     at_width (failed refusal place) q = absurd (not_found q)
 
-pub sheet-found : (limit : ℕ) (bytes : List ℕ) {kind : Kind} {pass : ℕ} {extent : Extent} {at next : ℕ} {parts : Parts} {own : Bool}
+pub sheet-found : (limit : ℕ) (bytes : List ℕ) {kind : Kind} {pass : ℕ} {extent : Extent} {at next : ℕ} {parts : Parts}
     → opening 0 bytes ≡ found (record { kind = kind_number kind; pass = pass }) at (drop at bytes)
-    → sides limit at (drop at bytes) ≡ found extent next (drop next bytes) → own ≡ has_spans (kind_number kind) → ListsHeld own bytes next extent.cells parts
+    → sides limit at (drop at bytes) ≡ found extent next (drop next bytes) → ListsHeld (has_spans (kind_number kind)) bytes next extent.cells parts
     → SheetHeld limit bytes (record { kind = kind; pass = pass; width = extent.width; height = extent.height; parts = parts })
-sheet-found limit bytes {kind} {pass} {extent} {at} {next} {parts} h S own L₀ =
-    let L : ListsHeld (has_spans (kind_number kind)) bytes next extent.cells parts = subst (λ t. ListsHeld t bytes next extent.cells parts) own L₀ in
+sheet-found limit bytes {kind} {pass} {extent} {at} {next} {parts} h S L =
     let e : extent.cells ≡ extent.width * extent.height = sides-cells limit at (drop at bytes) S in
     record {
       held = L.held;

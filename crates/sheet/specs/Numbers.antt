@@ -1,8 +1,9 @@
 -- What the functions on single numbers and on runs of numbers answer, as outcomes of the grammar's readers. Assumes nothing.
-use Rattle.std.specs.Prelude.{ℕ, ◌≤◌, ◌≡◌, Bool, true, false, List, [], length, drop, leb, Option, None, Some, Result, Ok, Err}
+use Rattle.std.specs.Prelude.{ℕ, ◌≤◌, ◌<◌, ◌≡◌, Bool, true, false, List, [], length, drop, leb, Option, None, Some, Result, Ok, Err}
 use Rattle.definitions.specs.SheetNumber.{Read, found, failed, number}
 use Rattle.definitions.specs.Sheet.{Reader, judged, times}
 use Rattle.refusals.specs.declared.Refusal.{Refusal}
+use Rattle.refusals.specs.declared.Cause.TheVariants as cause
 use Rattle.refusals.specs.Refusals as refusals
 use Rattle.sheet.specs.declared.Found.{Found}
 
@@ -20,6 +21,11 @@ up_to most = judged (λ value. leb value most)
 abbrev pub ShortTold : List ℕ → ℕ → Option (Found ℕ) → Type 0
 ShortTold bytes at (Some read) = number at (drop at bytes) ≡ found read.value read.next (drop read.next bytes)
 ShortTold bytes at None = Unit {0}
+
+-- the bytes end there, or are refused 14 at the first of those left over
+abbrev pub EndTold : List ℕ → ℕ → Result (Unit {0}) Refusal → Type 0
+EndTold bytes at (Ok _) = length bytes ≤ at
+EndTold bytes at (Err refusal) = (at < length bytes) × (refusal ≡ record { cause = cause.Sheet; place = at })
 
 -- ---- runs
 

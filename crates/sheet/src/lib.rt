@@ -3,14 +3,14 @@
 
 #![tactic(auto)]
 
-ghost use Rattle.std.specs.Prelude.{◌≡◌, ◌+◌, ◌-◌, ◌*◌, ◌≤◌, ◌<◌, ◌&&◌, cond, leb, ltb, length, drop};
+ghost use Rattle.std.specs.Prelude.{◌≡◌, ◌+◌, ◌-◌, ◌*◌, ◌/◌, ◌≤◌, ◌<◌, ◌&&◌, cond, leb, ltb, length, drop};
 ghost use Rattle.std.proofs.lemmas.List.Edits.{sets};
 ghost use Rattle.definitions.specs.SheetNumber as grammar;
 ghost use Rattle.definitions.specs.Lists.{overwrite};
 ghost use Rattle.definitions.specs.Limits.{is_side};
 ghost use Rattle.definitions.specs.Grid.{segment_at};
-ghost use Rattle.definitions.specs.Sheet.{cell, entries, has_spans, spans_held, spans_stated, endpoints, endpoints_in, read_verdict};
-ghost use Rattle.sheet.specs.Numbers.{read_of, up_to, items_at, Told, ShortTold, Held, values_at};
+ghost use Rattle.definitions.specs.Sheet.{cell, entries, has_spans, spans_held, spans_stated, endpoints, endpoints_of, read_verdict};
+ghost use Rattle.sheet.specs.Numbers.{read_of, up_to, items_at, Told, ShortTold, EndTold, Held, values_at};
 ghost use Rattle.sheet.specs.Parts as parts;
 ghost use Rattle.sheet.specs.Parts.{kind_number, KindAsked, opened_of, PartTold, ListsTold, SheetTold, PartsHeld, part_of, cells_in, stated_long};
 ghost use Rattle.sheet.specs.Parts.{room_in, Room};
@@ -40,7 +40,8 @@ fn ill_formed(group: usize, byte: u64) -> bool
 
 // The number at an offset, in groups of seven bits, least first. It is refused at its first byte where it is too long or padded, and at the end of the bytes
 // where they end before it does.
-// Kept: bytes and offset as two parameters: a reader of both would spare each contract that the offset is inside, and ask of each that the bytes stay the same.
+// Kept: bytes and offset as two parameters: a reader that moves on, as `Writer` does, would add to each contract that it still reads the same bytes, and its
+// place after a refusal; here `?` leaves no state behind.
 pub fn number(bytes: &[u8], at: usize) -> Result<Found<u64>, Refusal>
     requires { at ≤ length bytes.now }
     ensures { grammar.number at (drop at bytes.now) ≡ read_of bytes.now result }
@@ -103,6 +104,19 @@ pub fn number_at(bytes: &[u8], at: usize) -> Result<Found<u64>, Refusal>
     number(bytes, at)
 }
 
+// The bytes end at an offset, or are refused at the first of those left over.
+pub fn end_at(bytes: &[u8], at: usize) -> Result<(), Refusal>
+    ensures { EndTold bytes.now at result }
+{
+    if bytes.len() <= at {
+        return Ok(());
+    }
+    Err(Refusal {
+        cause: Cause::Sheet,
+        place: at,
+    })
+}
+
 // ---- numbers of at most so much, one after the other
 
 pub const CELL_MOST: u64 = 255;
@@ -123,6 +137,8 @@ pub fn item(bytes: &[u8], at: usize, most: u64) -> Result<Found<u64>, Refusal>
 }
 
 // Judges `count` numbers of at most `most` each, and gives the offset behind them.
+// Kept: who asks no limit gives `u64::MAX`: a second loop, over `number_at`, would be this one again, and a limit that may be `None` one test more for each
+// cell.
 pub fn judge(bytes: &[u8], at: usize, count: usize, most: u64) -> Result<usize, Refusal>
     requires { at ≤ length bytes.now }
     ensures { Told bytes.now (items_at (up_to most) bytes.now at count) result }
@@ -135,6 +151,7 @@ pub fn judge(bytes: &[u8], at: usize, count: usize, most: u64) -> Result<usize, 
 }
 
 // The number at an offset where one was judged before, if it has one byte or two: its bytes are there, and its last one is not a 0 that pads it.
+// Kept: beside `number_at`, which reads such bytes too: what both share is one sum, and its tests, of the end and of padding, are what is spared here.
 fn short_at(bytes: &[u8], at: usize) -> Option<Found<u64>>
     requires { Held grammar.number bytes.now at 1 }
     ensures { ShortTold bytes.now at result }
@@ -163,9 +180,7 @@ fn fill_rest(bytes: &[u8], at: usize, out: &mut [u64])
 {
     let mut next = at;
     for entry in out.iter_mut() {
-        let Ok(read) = item(bytes, next, u64::MAX) else {
-            return;
-        };
+        let read = number_at(bytes, next).unwrap();
         *entry = read.value;
         next = read.next;
     }
@@ -189,16 +204,15 @@ pub fn fill_numbers(bytes: &[u8], at: usize, count: usize, out: &mut [u64])
 }
 
 // Fills a list with cells that were judged before.
-// Kept: beside `fill_rest`: one function over `T: TryFrom<u64>` could promise of each entry only that the conversion gave it, and not the list of the numbers.
+// Kept: beside `fill_rest`: one function over a trait with a ghost number, as `Entry` is, would take the limit and the grammar's reader beside `T`, and a
+// method that narrows and that only the cells need: more lines than these four.
 fn fill_cells(bytes: &[u8], at: usize, out: &mut [u8])
     requires { Held cell bytes.now at (length out.old) }
     ensures { out.new ≡ values_at cell bytes.now at (length out.old) }
 {
     let mut next = at;
     for entry in out.iter_mut() {
-        let Ok(read) = item(bytes, next, CELL_MOST) else {
-            return;
-        };
+        let read = item(bytes, next, CELL_MOST).unwrap();
         *entry = read.value as u8;
         next = read.next;
     }
@@ -215,14 +229,6 @@ pub enum Kind {
 
 // The kind of a sheet that states what a run found.
 pub const RESULT_KIND: u64 = 2;
-
-impl Kind {
-    pub fn has_spans(self) -> bool
-        ensures { result ≡ has_spans (kind_number self) }
-    {
-        matches!(self, Kind::OwnSpans)
-    }
-}
 
 // The kind stands at the first byte.
 impl TryFrom<u64> for Kind {
@@ -244,17 +250,17 @@ impl TryFrom<u64> for Kind {
 
 // What a sheet opens with.
 #[derive(Clone, Copy)]
-pub struct Heading {
-    pub kind: Kind,
-    pub pass: u64,
+struct Heading {
+    kind: Kind,
+    pass: u64,
 }
 
 fn opening(bytes: &[u8]) -> Result<Found<Heading>, Refusal>
     ensures { parts.opening 0 bytes.now ≡ opened_of bytes.now result }
 {
-    let number = item(bytes, 0, u64::MAX)?;
+    let number = number_at(bytes, 0)?;
     let kind = Kind::try_from(number.value)?;
-    let pass = item(bytes, number.next, u64::MAX)?;
+    let pass = number_at(bytes, number.next)?;
     Ok(Found {
         value: Heading {
             kind,
@@ -289,8 +295,8 @@ fn sides(bytes: &[u8], at: usize, limit: u64) -> Result<Found<Extent>, Refusal>
     requires { at ≤ length bytes.now }
     ensures { parts.sides limit at (drop at bytes.now) ≡ read_of bytes.now result }
 {
-    let width = item(bytes, at, u64::MAX)?;
-    let height = item(bytes, width.next, u64::MAX)?;
+    let width = number_at(bytes, at)?;
+    let height = number_at(bytes, width.next)?;
     ensure(area_allowed(width.value, height.value, limit), Cause::Sides)?;
     Ok(Found {
         value: Extent {
@@ -302,7 +308,8 @@ fn sides(bytes: &[u8], at: usize, limit: u64) -> Result<Found<Extent>, Refusal>
     })
 }
 
-// Where a list stands, and how many it has: of numbers here, and of entries in a result.
+// Where a list stands, and how many it has. Of a sheet that states a map the count is of numbers; `result_reader` counts entries, whose numbers may be beyond
+// 64 bits.
 #[derive(Clone, Copy)]
 pub struct Part {
     pub first: usize,
@@ -314,7 +321,7 @@ fn entries(bytes: &[u8], at: usize, size: usize) -> Result<Found<Part>, Refusal>
     requires { (at ≤ length bytes.now) × (size ≤ 9) }
     ensures { PartTold (entries size) bytes.now at result }
 {
-    let count = item(bytes, at, u64::MAX)?;
+    let count = number_at(bytes, at)?;
     ensure(count.value <= MAX_ENTRIES as u64, Cause::Entries)?;
     let first = count.next;
     let numbers = count.value as usize * size;
@@ -329,24 +336,23 @@ fn entries(bytes: &[u8], at: usize, size: usize) -> Result<Found<Part>, Refusal>
 }
 
 // The spans that a sheet holds, which is none where its boundaries serve as spans.
-fn spans_held(bytes: &[u8], at: usize, own: bool) -> Result<Found<Part>, Refusal>
+fn spans_held(bytes: &[u8], at: usize, kind: Kind) -> Result<Found<Part>, Refusal>
     requires { at ≤ length bytes.now }
-    ensures { PartTold (spans_held own) bytes.now at result }
+    ensures { PartTold (spans_held (has_spans (kind_number kind))) bytes.now at result }
 {
-    if own {
-        entries(bytes, at, NUMBERS_PER_SPAN)
-    } else {
-        Ok(Found {
+    match kind {
+        Kind::OwnSpans => entries(bytes, at, NUMBERS_PER_SPAN),
+        Kind::SharedSpans => Ok(Found {
             value: Part {
                 first: at,
                 count: 0,
             },
             next: at,
-        })
+        }),
     }
 }
 
-// `front` is where the cells end and the spans' count begins, `back` where the spans end.
+// The four lists. The cells end at `front`, where the spans' count begins, and the spans end at `back`: what stands between is cut out by a conversion.
 #[derive(Clone, Copy)]
 pub struct Parts {
     pub cells: Part,
@@ -357,21 +363,16 @@ pub struct Parts {
     pub back: usize,
 }
 
-// The cells, the lists, and the end of the bytes behind them; with spans or without.
-fn lists(bytes: &[u8], at: usize, area: usize, own: bool) -> Result<Parts, Refusal>
+// The cells, the lists that a sheet of this kind holds, and the end of the bytes behind them.
+fn lists(bytes: &[u8], at: usize, area: usize, kind: Kind) -> Result<Parts, Refusal>
     requires { at ≤ length bytes.now }
-    ensures { ListsTold own bytes.now at area result }
+    ensures { ListsTold (has_spans (kind_number kind)) bytes.now at area result }
 {
     let front = judge(bytes, at, area, CELL_MOST)?;
-    let spans = spans_held(bytes, front, own)?;
+    let spans = spans_held(bytes, front, kind)?;
     let boundaries = entries(bytes, spans.next, NUMBERS_PER_BOUNDARY)?;
     let anchors = entries(bytes, boundaries.next, NUMBERS_PER_ANCHOR)?;
-    if anchors.next < bytes.len() {
-        return Err(Refusal {
-            cause: Cause::Sheet,
-            place: anchors.next,
-        });
-    }
+    end_at(bytes, anchors.next)?;
     Ok(Parts {
         cells: Part {
             first: at,
@@ -405,7 +406,7 @@ pub fn judge_sheet(bytes: &[u8], limit: u64) -> Result<Plan, Refusal>
     let heading = opening.value;
     let sides = sides(bytes, opening.next, limit)?;
     let extent = sides.value;
-    let parts = lists(bytes, sides.next, extent.cells, heading.kind.has_spans())?;
+    let parts = lists(bytes, sides.next, extent.cells, heading.kind)?;
     Ok(Plan {
         kind: heading.kind,
         pass: heading.pass,
@@ -431,10 +432,9 @@ pub struct Header {
 fn stated_length(kind: Kind, parts: Parts) -> usize
     ensures { result ≡ stated_long (kind_number kind) parts }
 {
-    if kind.has_spans() {
-        parts.spans.count
-    } else {
-        parts.boundaries.count / NUMBERS_PER_BOUNDARY * NUMBERS_PER_SPAN
+    match kind {
+        Kind::OwnSpans => parts.spans.count,
+        Kind::SharedSpans => parts.boundaries.count / NUMBERS_PER_BOUNDARY * NUMBERS_PER_SPAN,
     }
 }
 
@@ -447,39 +447,33 @@ fn put_endpoints(boundary: &[u64; NUMBERS_PER_BOUNDARY], i: usize, spans: &mut [
     spans[place..place + NUMBERS_PER_SPAN].copy_from_slice(&boundary[..NUMBERS_PER_SPAN]);
 }
 
-// Stores the endpoints of the first boundaries, so many of them, as spans.
-pub fn fill_endpoints(boundaries: &[u64], count: usize, spans: &mut [u64])
-    requires { (9 * count ≤ length boundaries.now) × (4 * count ≤ length spans.old) }
-    ensures { spans.new ≡ overwrite (endpoints_in count boundaries.now) spans.old }
+// Stores the endpoints of the boundaries as spans.
+pub fn fill_endpoints(boundaries: &[u64], spans: &mut [u64])
+    requires { 4 * (length boundaries.now / 9) ≤ length spans.old }
+    ensures { spans.new ≡ overwrite (endpoints_of boundaries.now) spans.old }
 {
-    let (boundaries, _) = boundaries.as_chunks::<NUMBERS_PER_BOUNDARY>();
-    for (i, boundary) in boundaries[..count].iter().enumerate() {
-        put_endpoints(boundary, i, &mut *spans);
+    let (chunks, _) = boundaries.as_chunks::<NUMBERS_PER_BOUNDARY>();
+    for (i, boundary) in chunks.iter().enumerate() {
+        put_endpoints(boundary, i, spans);
     }
 }
 
 // Stores the spans that were judged before, or the endpoints of the boundaries.
-fn fill_spans(
-    bytes: &[u8],
-    kind: Kind,
-    part: Part,
-    boundaries: &[u64],
-    count: usize,
-    spans: &mut [u64],
-)
+fn fill_spans(bytes: &[u8], kind: Kind, part: Part, boundaries: &[u64], spans: &mut [u64])
     requires held { Held grammar.number bytes.now part.first part.count }
-    requires room { (9 * count ≤ length boundaries.now) × (cond (has_spans (kind_number kind)) part.count (4 * count) ≤ length spans.old) }
+    requires room { cond (has_spans (kind_number kind)) part.count (4 * (length boundaries.now / 9)) ≤ length spans.old }
     ensures { spans.new
-        ≡ overwrite (cond (has_spans (kind_number kind)) (part_of bytes.now part) (endpoints_in count boundaries.now)) spans.old }
+        ≡ overwrite (spans_stated (has_spans (kind_number kind)) (part_of bytes.now part) boundaries.now) spans.old }
 {
-    if kind.has_spans() {
-        fill_numbers(bytes, part.first, part.count, &mut *spans);
-        return;
+    match kind {
+        Kind::OwnSpans => fill_numbers(bytes, part.first, part.count, spans),
+        Kind::SharedSpans => fill_endpoints(boundaries, spans),
     }
-    fill_endpoints(boundaries, count, &mut *spans);
 }
 
 // The lists that are lent for what a sheet states.
+// Kept: the reading functions take the four lists one by one and not as this struct: their contracts say of each what it holds, so that all who call them and
+// the exports to C, where lists are lent apart, would pack and unpack.
 #[derive(Drop)]
 struct SheetLists<'a> {
     cells: &'a mut [u8],
@@ -521,8 +515,9 @@ impl SheetLists<'_> {
             parts.boundaries.count,
             boundaries,
         );
-        let count = parts.boundaries.count / NUMBERS_PER_BOUNDARY;
-        fill_spans(bytes, kind, parts.spans, &*boundaries, count, self.spans);
+        let stored = &*boundaries;
+        let stored = &stored[..parts.boundaries.count];
+        fill_spans(bytes, kind, parts.spans, stored, self.spans);
         fill_numbers(
             bytes,
             parts.anchors.first,
@@ -572,7 +567,7 @@ pub fn read_within(
     Ok(header_of(plan, stated))
 }
 
-pub const PLAIN_CELL_LIMIT: u64 = 1_048_576;
+pub const PLAIN_CELL_LIMIT: u64 = MAX_SIDE * MAX_SIDE;
 
 // How many bytes and cells a sheet has at most that is run or reported.
 pub const SHEET_BYTES_MOST: usize = 65_536;
@@ -591,12 +586,5 @@ pub fn read_sheet(
         (length boundaries.old) (length anchors.old)) cells.old spans.old boundaries.old
         anchors.old result cells.new spans.new boundaries.new anchors.new }
 {
-    read_within(
-        bytes,
-        PLAIN_CELL_LIMIT,
-        &mut *cells,
-        &mut *spans,
-        &mut *boundaries,
-        &mut *anchors,
-    )
+    read_within(bytes, PLAIN_CELL_LIMIT, cells, spans, boundaries, anchors)
 }

@@ -29,7 +29,7 @@ pub struct SheetRun {
     pub kept: usize,
 }
 
-// Runs the pass on a sheet. There is no room for a record in `numbers`: none is wanted.
+// Runs the pass on a sheet. No record is wanted: `numbers` has one entry, and a record has eleven numbers.
 fn call(pass: u64, asked: Asked, output: &mut [u64; ROWS_ROOM]) -> Result<usize, Refusal>
     requires { output.old ≡ replicate 1280 0 }
     ensures { SheetCalled (of_asked (sheet_from pass) asked.entry) (answer_of result) output.new }
@@ -47,14 +47,7 @@ fn call(pass: u64, asked: Asked, output: &mut [u64; ROWS_ROOM]) -> Result<usize,
         tallies: &mut tallies,
         pairs: &mut pairs,
     };
-    kept_boundaries_here(
-        pass,
-        asked,
-        &mut lists,
-        RECORDS_HERE,
-        &mut *output,
-        &mut numbers,
-    )
+    kept_boundaries_here(pass, asked, &mut lists, RECORDS_HERE, output, &mut numbers)
 }
 
 // The same for the sheet that the lists begin with.

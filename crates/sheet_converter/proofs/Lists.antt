@@ -61,7 +61,7 @@ checks_same bytes plan k {spans} {boundaries} {anchors} a b c e =
     e ∙ (λ i. map_refusal plan.pass plan.width plan.height cells ((a ∙ sym stated) i) (b i) (c i))
 
 -- the endpoints that were stored, so many as there are
-pub ends-taken : (boundaries : List ℕ) {ends : List ℕ} (old : List ℕ) → ends ≡ overwrite (endpoints_in (length boundaries / numbers_per_boundary) boundaries) old
+pub ends-taken : (boundaries : List ℕ) {ends : List ℕ} (old : List ℕ) → ends ≡ overwrite (endpoints_of boundaries) old
     → take (numbers_per_span * (length boundaries / numbers_per_boundary)) ends ≡ endpoints_of boundaries
 unfolding endpoints_of
 ends-taken boundaries {ends} old e =

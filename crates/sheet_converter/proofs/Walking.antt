@@ -10,7 +10,10 @@ use lib.Seq.{drop-drop, get_or-drop}
 use Rattle.definitions.specs.SheetNumber.{Read, found, failed}
 use Rattle.definitions.specs.Sheet.{and_then, give, times, cell}
 use Rattle.laws.specs.SheetReading.SheetLaws.{ends-inside, times-found, times-failed}
-use Rattle.sheet.specs.Numbers.{items_at, values_in, is_found, values_at, Held}
+use Rattle.refusals.specs.declared.Refusal.{Refusal}
+use Rattle.std.specs.Prelude.{Result, Ok, Err, IsOk}
+use Rattle.sheet.specs.declared.Found.{Found}
+use Rattle.sheet.specs.Numbers.{read_of, items_at, values_in, is_found, values_at, Held}
 use Rattle.sheet.proofs.Items.{keeps-cell}
 
 pub record Walking (bytes : List ℕ) (at count next i : ℕ) : Type 0 where
@@ -28,13 +31,17 @@ module _ {bytes : List ℕ} {at count next i : ℕ} (W : Walking bytes at count 
   one_more = omega arith
 
   -- what was judged is not refused
-  pub walking_never-stops : {refusal place : ℕ} → cell next (drop next bytes) ≡ failed refusal place → ⊥
+  walking_never-stops : {refusal place : ℕ} → cell next (drop next bytes) ≡ failed refusal place → ⊥
   unfolding items_at
   walking_never-stops e =
       let q : is_found (times (count - i) cell next (drop next bytes)) ≡ false =
       ap (λ n. is_found (times n cell next (drop next bytes))) (sym one_more) ∙ ap is_found (times-failed cell (count - (i + 1)) next (drop next bytes) e) in
       let z : ◌≡◌ {A = ℕ} 0 1 = cc W.held.all in
       omega arith
+
+  pub walking_unwraps : (r : Result (Found ℕ) Refusal) → cell next (drop next bytes) ≡ read_of bytes r → IsOk r
+  walking_unwraps (Ok read) e = refl
+  walking_unwraps (Err refusal) e = absurd (walking_never-stops e)
 
   module _ {value behind : ℕ} (e : cell next (drop next bytes) ≡ found value behind (drop behind bytes)) where
     begun : times (count - i) cell next (drop next bytes) ≡ and_then (times (count - (i + 1)) cell behind (drop behind bytes)) (λ values. give (value ∷ values))

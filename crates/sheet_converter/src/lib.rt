@@ -70,11 +70,10 @@ fn cells_fault(bytes: &[u8], at: usize, count: usize) -> Option<usize>
     ensures { result ≡ elevations_fault (values_at cell bytes.now at count) }
 {
     let mut next = at;
-    // Kept: where a cell stands shows only once the one before it is read: a chain would carry the place in a closure, of which nothing is known behind it.
+    // Kept: where a cell stands shows only once the one before it is read. A `try_fold` with that offset as its state would be left by an `Err` for a cell that
+    // is found, and then take the place out of it with `err`: no shorter than this.
     for i in 0..count {
-        let Ok(read) = item(bytes, next, CELL_MOST) else {
-            return None;
-        };
+        let read = item(bytes, next, CELL_MOST).unwrap();
         if !elevation_fits(read.value as u8) {
             return Some(i);
         }
@@ -84,14 +83,15 @@ fn cells_fault(bytes: &[u8], at: usize, count: usize) -> Option<usize>
 }
 
 // The spans are the endpoints of the boundaries, as written.
+// Kept: the chunks of both lists compared where they stand would spare the array, and ask three things in place of one: as many chunks, no number left over,
+// and the numbers of each.
 fn is_one_list(spans: &[u64], boundaries: &[u64]) -> bool
     requires { length boundaries.now ≤ numbers_per_boundary * max_entries }
     ensures { result ≡ same_numbers spans.now (endpoints_of boundaries.now) }
 {
     let mut ends = [0u64; NUMBERS_PER_SPAN * MAX_ENTRIES];
-    let count = boundaries.len() / NUMBERS_PER_BOUNDARY;
-    fill_endpoints(boundaries, count, &mut ends);
-    let end = NUMBERS_PER_SPAN * count;
+    fill_endpoints(boundaries, &mut ends);
+    let end = NUMBERS_PER_SPAN * (boundaries.len() / NUMBERS_PER_BOUNDARY);
     spans == &ends[..end]
 }
 
@@ -131,18 +131,26 @@ fn plan_check(bytes: &[u8], plan: Plan) -> Result<(), Refusal>
     let mut spans = [0u64; NUMBERS_PER_SPAN * MAX_ENTRIES];
     let mut boundaries = [0u64; NUMBERS_PER_BOUNDARY * MAX_ENTRIES];
     let mut anchors = [0u64; NUMBERS_PER_ANCHOR * MAX_ENTRIES];
-    let b = plan.parts.spans;
-    let c = plan.parts.boundaries;
-    let d = plan.parts.anchors;
-    fill_numbers(bytes, b.first, b.count, &mut spans);
-    fill_numbers(bytes, c.first, c.count, &mut boundaries);
-    fill_numbers(bytes, d.first, d.count, &mut anchors);
+    let parts = plan.parts;
+    fill_numbers(bytes, parts.spans.first, parts.spans.count, &mut spans);
+    fill_numbers(
+        bytes,
+        parts.boundaries.first,
+        parts.boundaries.count,
+        &mut boundaries,
+    );
+    fill_numbers(
+        bytes,
+        parts.anchors.first,
+        parts.anchors.count,
+        &mut anchors,
+    );
     map_check(
         bytes,
         plan,
-        &spans[..b.count],
-        &boundaries[..c.count],
-        &anchors[..d.count],
+        &spans[..parts.spans.count],
+        &boundaries[..parts.boundaries.count],
+        &anchors[..parts.anchors.count],
     )
 }
 

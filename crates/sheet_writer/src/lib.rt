@@ -3,11 +3,12 @@
 
 #![tactic(auto)]
 
-ghost use Rattle.std.specs.Prelude.{◌≡◌, leb, length};
+ghost use Rattle.std.specs.Prelude.{◌≡◌, leb, length, Some};
 ghost use Rattle.map_sheets.specs.SheetBytes.{sheet_bytes};
 ghost use Rattle.map_sheets.specs.Writing.{stating, Writes};
 ghost use Rattle.byte_writer.specs.Contract.{HasRoom, Appends};
 ghost use Rattle.refusals.specs.Answers.{answer_in, answer_of};
+ghost use Rattle.result_writer.specs.Contract.{spent};
 ghost use Rattle.sheet_writer.specs.Contract.{opening, stated};
 
 use byte_writer::Writer;
@@ -33,17 +34,24 @@ struct Map<'a> {
 }
 
 impl Map<'_> {
+    // What is left of the room once the sheet is taken from it, if there is so much.
+    fn spend(self, room: usize) -> Option<usize>
+        ensures { result ≡ spent (Some room) (length (sheet_bytes 3 (stated self.entry))) }
+    {
+        let left = spend_number(room, KIND)?;
+        let left = spend_number(left, self.pass)?;
+        let left = spend_number(left, self.width)?;
+        let left = spend_number(left, self.height)?;
+        let left = spend_numbers(left, self.cells)?;
+        let left = spend_list(left, NUMBERS_PER_BOUNDARY, self.boundaries)?;
+        spend_list(left, NUMBERS_PER_ANCHOR, self.anchors)
+    }
+
     // A list of so many bytes has room for the sheet.
     fn fits(self, room: usize) -> bool
         ensures { result ≡ leb (length (sheet_bytes 3 (stated self.entry))) room }
     {
-        let a = spend_number(Some(room), KIND);
-        let b = spend_number(a, self.pass);
-        let c = spend_number(b, self.width);
-        let d = spend_number(c, self.height);
-        let e = spend_numbers(d, self.cells);
-        let f = spend_list(e, NUMBERS_PER_BOUNDARY, self.boundaries);
-        spend_list(f, NUMBERS_PER_ANCHOR, self.anchors).is_some()
+        self.spend(room).is_some()
     }
 
     // Writes the kind, the pass and both sides.

@@ -11,8 +11,10 @@ returns-in_err-pairs c = rw (passed _ c.from_residual.ensures.1) (back-stops _ _
 pub returns-in_err-rows : goal.returns-in_err-rows
 returns-in_err-rows c = rw (passed _ c.from_residual-in_err-rows.ensures.1) (back-stops-later c.in_ok-pairs.ensures c.in_err-rows.ensures)
 
-pub returns-then-rows-bytes : goal.returns-then-rows-bytes
-returns-then-rows-bytes c = back-too_long c.in_ok-pairs.ensures c.in_ok-rows.ensures c.if-rows-bytes.true
+pub returns-in_err-end_at : goal.returns-in_err-end_at
+returns-in_err-end_at c =
+    let left_over = c.in_err-end_at.ensures in
+    rw (passed _ c.from_residual-in_err-end_at.ensures.1, left_over.1) (back-too_long c.in_ok-pairs.ensures c.in_ok-rows.ensures left_over.0)
 
 pub returns : goal.returns
-returns c = back_found c.in_ok-pairs.ensures c.in_ok-rows.ensures c.if-rows-bytes.false (c.or.ensures ∙ first_of c.in_ok-pairs.pairs.value.breach c.in_ok-rows.rows.value.breach)
+returns c = back_found c.in_ok-pairs.ensures c.in_ok-rows.ensures c.in_ok-end_at.ensures (c.or.ensures ∙ first_of c.in_ok-pairs.pairs.value.breach c.in_ok-rows.rows.value.breach)

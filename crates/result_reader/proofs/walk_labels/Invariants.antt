@@ -4,5 +4,5 @@ use Rattle.result_reader.specs.Walks.{turns_from}
 use Rattle.result_reader.proofs.Walking.{Walking}
 use Rattle.result_reader.proofs.walk_labels.Given as goal
 
-abbrev pub invariant-loop-i : goal.invariant-loop-i
-invariant-loop-i l = Walking (turns_from l.regions) 1 l.bytes (Ok 0) l.at l.count l.next l.i (Ok l.started)
+abbrev pub invariant-loop : goal.invariant-loop
+invariant-loop l = Walking (turns_from l.regions) 1 l.bytes (Ok 0) l.at l.count l.next l.counter l.state

@@ -1,5 +1,5 @@
 -- `sheet::fill_cells` meets its contract. The loop's invariant is `Filling`: storing the numbers that are left makes the list that is wanted. What was judged is
--- not refused, so the loop is not left early. Assumes nothing.
+-- not refused. Assumes nothing.
 use lib.ListN.{length}
 use Rattle.definitions.specs.Sheet.{cell}
 use Rattle.sheet.specs.Numbers.{values_at}

@@ -1,12 +1,14 @@
 -- `sheet::fill_endpoints` meets its contract. The loop's invariant: the endpoints of the first i boundaries are stored, and nothing else. Assumes nothing.
-use Prim.Native.Nat.{◌*◌, ◌<◌}
+use Prim.Native.Nat.{◌*◌, ◌/◌, ◌<◌}
 use native.Mathlib.Omega.{arith}
-use mathlib.Core.Path.{refl, ap, ◌∙◌}
-use lib.Seq.{sets, length-take-le}
+use mathlib.Core.Path.{◌≡◌, refl, ap, ◌∙◌}
+use lib.ListN.{length}
+use lib.Seq.{sets}
 use borrow.Author.Rules.{rules}
 use Rattle.definitions.specs.Scan.{gather}
+use Rattle.definitions.specs.Lists.{overwrite}
 use Rattle.definitions.specs.Grid.{segment_at}
-use Rattle.definitions.specs.Sheet.{endpoints, endpoints_in}
+use Rattle.definitions.specs.Sheet.{endpoints, endpoints_in, endpoints_of}
 use Rattle.sheet.proofs.Endpoints.{endpoints-read, endpoints-stored}
 use Rattle.sheet.proofs.fill_endpoints.Goals as goal
 
@@ -19,11 +21,18 @@ loop-i-preserved c =
     let boundaries = c.args.boundaries.now in
     let old = c.args.spans.now in
     let i = c.loop-i.i in
-    let inside : i < c.args.count = omega (arith, c.loop-i-test.true, length-take-le c.args.count c.as_chunks.result.0.now (omega (arith, c.as_chunks.ensures.front_len, c.requires.0))) in (
+    let inside : i < length boundaries / 9 = omega (arith, c.loop-i-test.true, c.as_chunks.ensures.front_len) in (
       omega arith,
       search rules,
       c.put_endpoints.ensures
-          ∙ ap (sets c.loop-i.spans (4 * i)) (endpoints-read boundaries c.args.count i c.as_chunks.ensures.front c.requires.0 inside)
+          ∙ ap (sets c.loop-i.spans (4 * i)) (endpoints-read boundaries i c.as_chunks.ensures.front inside)
           ∙ ap (λ l. sets l (4 * i) (endpoints (segment_at boundaries (9 * i)))) c.loop-i.invariant.2
-          ∙ endpoints-stored i boundaries old (omega (arith, c.requires.1)),
+          ∙ endpoints-stored i boundaries old (omega (arith, c.requires)),
     )
+
+pub returns : goal.returns
+unfolding endpoints_of
+returns c =
+    let boundaries = c.args.boundaries.now in
+    let all : c.loop-i.i ≡ length boundaries / 9 = omega (arith, c.loop-i.invariant.0, c.loop-i-test.false, c.as_chunks.ensures.front_len) in
+    c.loop-i.invariant.2 ∙ ap (λ n. overwrite (endpoints_in n boundaries) c.args.spans.now) all

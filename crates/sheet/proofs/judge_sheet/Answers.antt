@@ -18,7 +18,7 @@ lists-requires c = sides-inside _ _ (opening-inside _ c.in_ok-opening.ensures) c
 
 pub returns-in_err-parts : goal.returns-in_err-parts
 returns-in_err-parts c =
-    rw (passed _ c.from_residual-in_err-parts.ensures.1) (sheet-lists _ _ c.in_ok-opening.ensures c.in_ok-sides.ensures (rw c.has_spans.ensures at c.in_err-parts.ensures))
+    rw (passed _ c.from_residual-in_err-parts.ensures.1) (sheet-lists _ _ c.in_ok-opening.ensures c.in_ok-sides.ensures c.in_err-parts.ensures)
 
 pub returns : goal.returns
-returns c = sheet-found _ _ c.in_ok-opening.ensures c.in_ok-sides.ensures c.has_spans.ensures c.in_ok-parts.ensures
+returns c = sheet-found _ _ c.in_ok-opening.ensures c.in_ok-sides.ensures c.in_ok-parts.ensures

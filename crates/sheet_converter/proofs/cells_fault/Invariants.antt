@@ -1,5 +1,5 @@
 -- `sheet_converter::cells_fault` meets its contract. The loop's invariant: the cells from i on stand from here on (`Walking`), and none before them is faulty. What was
--- judged is not refused, so that the loop is not left early. Assumes nothing.
+-- judged is not refused. Assumes nothing.
 use Prim.Native.Nat.{ℕ}
 use mathlib.Core.Path.{◌≡◌}
 use mathlib.Core.Bool.{Bool, not, ◌&&◌}
