@@ -111,8 +111,8 @@ fn least_doubtful(terms: &[u64], keys: &mut [u64]) -> usize
     least_astray(terms, keys)
 }
 
-// Kept: maps and keys go as two lists. In a struct of two arrays their size would be a const parameter of each function that works in them, and all of these would
-// be compiled for either size.
+// Kept: maps and keys go as two lists. In a struct of two arrays their size would be a const parameter of each function that works in them, and all
+// of these would be compiled for either size.
 // Takes the terms whose maps are in the part: the map of each, and its position as a key. Gives how many are taken.
 fn take_terms(
     terms: &[u64],
