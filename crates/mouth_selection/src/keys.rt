@@ -47,7 +47,7 @@ pub fn is_better(boundaries: &[u64], entry: Candidate, best: Option<Candidate>) 
 }
 
 // The better of two, of level ones the earlier.
-pub fn better_of(
+pub(crate) fn better_of(
     boundaries: &[u64],
     best: Option<Candidate>,
     later: Option<Candidate>,

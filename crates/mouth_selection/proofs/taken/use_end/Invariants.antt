@@ -7,4 +7,4 @@ use Rattle.mouth_selection.specs.Held.{end_mark}
 use Rattle.mouth_selection.proofs.taken.use_end.Given as goal
 
 abbrev pub invariant-loop-j : goal.invariant-loop-j
-invariant-loop-j l = (l.j ≤ l.context.count) × ((i : ℕ) → get_or l.ramp_ends i false ≡ end_mark l.context.boundaries.now l.a l.j l.initial.ramp_ends i)
+invariant-loop-j l = (length l.is_used-items ≡ l.context.count) × ((i : ℕ) → get_or l.is_used-items i false ≡ end_mark l.context.boundaries.now l.a l.j l.initial.ramp_ends i)
