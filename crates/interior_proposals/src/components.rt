@@ -19,6 +19,7 @@ use std::ops::Range;
 // The bits of a region's mark above the lowest, which says that it is anchored: it has exactly one incident; it is an exterior.
 // Kept: the marks are numbers in a list that C lends, with one for each region and no other room, so that what is known of a region is bits of its number.
 pub(crate) const SINGLE: u16 = 2;
+
 pub(crate) const EXTERIOR: u16 = 4;
 
 // The name of region r.

@@ -65,7 +65,11 @@ fn owner_of(context: PartitionContext, names: &[u32], i: usize) -> FoundRegions
 }
 
 // The owners of all boundaries.
-pub fn find_owners(context: PartitionContext, names: &[u32], owners: &mut [FoundRegions; MAX_ENTRIES])
+pub fn find_owners(
+    context: PartitionContext,
+    names: &[u32],
+    owners: &mut [FoundRegions; MAX_ENTRIES],
+)
     requires kept { AllKept context.boundaries.now context.tallies.now context.pairs.now context.starts.now names.now context.count }
     requires owners_room { length owners.old ≡ max_entries }
     ensures { (C : Context) →

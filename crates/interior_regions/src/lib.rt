@@ -70,9 +70,10 @@ fn last_edge(owners: &[FoundRegions; MAX_ENTRIES], count: usize, name: u32) -> O
     requires { count ≤ max_entries }
     ensures { LastEdge owners.now count name result }
 {
-    owners[..count]
-        .iter()
-        .rposition(|&owner| owner == FoundRegions::One(name))
+    // Kept: `owners[..count].iter().rposition(..)` would need no index, but std has laws of what `find` gives over a range, and none of what `rposition` gives.
+    (0..count)
+        .rev()
+        .find(|&j| owners[j] == FoundRegions::One(name))
 }
 
 // What stands at boundary i, if ports were found. It is the first edge, and each region of the interior stands in a row of an edge or of a port.

@@ -43,7 +43,7 @@ hold_number Shared = 1
 hold_number Alone = 2
 
 -- the hold that half of a mark says
-pub HeldAs : ℕ → Option Hold → Type 0
+abbrev pub HeldAs : ℕ → Option Hold → Type 0
 HeldAs n None = n ≡ 0
 HeldAs n (Some Shared) = n ≡ 1
 HeldAs n (Some Alone) = 2 ≤ n

@@ -18,7 +18,11 @@ use definitions::limits::MAX_ENTRIES;
 use mouth_proposals::candidates::Candidate;
 
 // After a proposal is taken: the bests of ramp ends that are taken are forgotten.
-fn renew(ramp_ends: &[bool; MAX_ENTRIES], bests: &mut [Option<Candidate>; MAX_ENTRIES], count: usize)
+fn renew(
+    ramp_ends: &[bool; MAX_ENTRIES],
+    bests: &mut [Option<Candidate>; MAX_ENTRIES],
+    count: usize,
+)
     requires { count ≤ max_entries }
     ensures { Renewed ramp_ends.now bests.old bests.new count }
 {

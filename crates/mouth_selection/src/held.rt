@@ -60,7 +60,11 @@ fn is_held(marks: &[u16], r: u32, hold: Hold) -> bool
     requires { (1 ≤ r) × (r ≤ length marks.now) }
     ensures { result ≡ leb 3 (hold_at_lem marks.now r + hold_number hold) }
 {
-    hold_of(marks, r).is_some_and(|held| held == Hold::Alone || hold == Hold::Alone)
+    match hold_of(marks, r) {
+        None => false,
+        Some(Hold::Shared) => hold == Hold::Alone,
+        Some(Hold::Alone) => true,
+    }
 }
 
 // Whether region r is held so that nothing else may name it.

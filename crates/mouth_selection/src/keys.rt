@@ -38,7 +38,7 @@ fn ranks_before(boundaries: &[u64], entry: Candidate, other: Candidate) -> bool
     RankKey::of(boundaries, entry) < RankKey::of(boundaries, other)
 }
 
-// Whether an entry ranks before the best so far.
+// Whether an entry ranks before the best so far, or there is none.
 pub fn is_better(boundaries: &[u64], entry: Candidate, best: Option<Candidate>) -> bool
     requires { SafeKey boundaries.now entry × OnO (SafeKey boundaries.now) best }
     ensures { result ≡ is_better boundaries.now entry best }

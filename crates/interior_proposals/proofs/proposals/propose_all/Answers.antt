@@ -25,6 +25,7 @@ pub returns-clause-proposed : goal.returns-clause-proposed
 returns-clause-proposed c =
     λ C was wasMarks W P.
     let w = c.loop-i.invariant.3 C was wasMarks W P in
-    let same : c.loop-i.i ≡ C.count = omega (arith, c.loop-i.auto.i-end, c.loop-i.invariant.2, c.loop-i-test.false, W.counted) in
-    (subst (λ n. Progress C c.args.owners.now was c.loop-i.names wasMarks c.loop-i.marks n) same w.0,
-     λ j h. get_or-append c.loop-i.ports-items _ None j (omega (arith, h, same, c.loop-i.auto.i-end)) ∙ w.1 j (omega (arith, h, same)))
+    let same : c.loop-i.i ≡ C.count = omega (arith, c.loop-i.auto.i-end, c.loop-i.invariant.2, c.loop-i-test.false, W.counted) in (
+      subst (λ n. Progress C c.args.owners.now was c.loop-i.names wasMarks c.loop-i.marks n) same w.0,
+      λ j h. get_or-append c.loop-i.ports-items _ None j (omega (arith, h, same, c.loop-i.auto.i-end)) ∙ w.1 j (omega (arith, h, same)),
+    )
