@@ -139,8 +139,8 @@ fn push_mouths(
         (collect context.entry.count (mouth_candidate C ramp.boundary)) }
 {
     let mut n = 0;
-    // Kept: n goes in and out. A struct of `entries` and n, whose method adds what is found, would promise besides that it holds the same list at exit, and only
-    // these lines would use it; a fold would carry n beside the list that its closure fills.
+    // Kept: n goes in and out. A struct of `entries` and n, whose method adds what is found, would promise besides that it holds the same list at exit, and
+    // only these lines would use it; a fold would carry n beside the list that its closure fills.
     for m in 0..context.count {
         n = push_mouth(context, regions, &mut *entries, n, m, ramp);
     }

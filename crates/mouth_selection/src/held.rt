@@ -7,7 +7,8 @@ ghost use Rattle.context.specs.Rows.{NamedRow};
 ghost use Rattle.mouth_proposals.specs.Rows.{rows_of};
 ghost use Rattle.mouth_proposals.specs.Candidates.{Numbered};
 ghost use Rattle.mouth_selection.specs.Entries.{SafeMouth};
-ghost use Rattle.mouth_selection.specs.Held.{HeldAs, hold_at_lem, hold_number, outer_hold, outer_held, inner_held, row_held, held_at, mark_held, mark_outer, mark_inner};
+ghost use Rattle.mouth_selection.specs.Held.{HeldAs, hold_at_lem, hold_number};
+ghost use Rattle.mouth_selection.specs.Held.{outer_hold, outer_held, inner_held, row_held, held_at, mark_held, mark_outer, mark_inner};
 
 use context::PartitionContext;
 use context::pairs::{Pair, row_at};
