@@ -5,7 +5,11 @@ use mathlib.Core.Path.{◌≡◌, refl, sym, ap, ap₂, subst, ◌∙◌}
 use native.Mathlib.Numerals.{add-one}
 use mathlib.Core.Bool.{Bool, true, false, cond}
 use mathlib.Core.List.{List, [], ◌++◌}
-use lib.ListN.{length, get_or}
+use lib.ListN.{length, get_or, take, drop, length-drop}
+use lib.Seq.{drop-append_seam}
+use Rattle.std.proofs.Common.{length-append}
+use Rattle.std.proofs.Math.ListN.{get_or-append}
+use Rattle.std.proofs.lemmas.List.{get_or-take}
 use lib.Dec.{eqb}
 use Rattle.definitions.specs.Scan.{gather}
 use Rattle.definitions.specs.Grid.{Pair}
@@ -45,13 +49,25 @@ module _ (C : Context) where
       same : C.regions ≡ length (alone C) - 1
       same = omega (arith, size-alone C)
 
-  pub prepared : {marks₀ counts₀ marks counts : List ℕ} {k : ℕ} → Stored (flags_at marks₀ counts₀) marks₀ marks k → Forest C.regions (λ c. c) counts → C.regions ≤ k → C.regions ≤ length marks
+  pub prepared : {marks₀ counts₀ marks counts : List ℕ} → ((j : ℕ) → j < C.regions → get_or marks j 0 ≡ flags_at marks₀ counts₀ j) → Forest C.regions (λ c. c) counts → C.regions ≤ length marks
       → ShownAnchored C marks₀ → ShownIncidents C counts₀ → Prepared C marks counts
-  prepared m F l a A I =
+  prepared m F a A I =
       record {
-        marked = record { long = a; at = λ x h u. m.done (x - 1) (omega arith) ∙ ap₂ (λ s t. flags_of s t false) (sym (A.at x h u)) (sym (ap (λ n. eqb n 1) (I.at x h u))) };
+        marked = record { long = a; at = λ x h u. m (x - 1) (omega arith) ∙ ap₂ (λ s t. flags_of s t false) (sym (A.at x h u)) (sym (ap (λ n. eqb n 1) (I.at x h u))) };
         parented = parented-alone F;
       }
+
+-- the marks that the loop has stored before those that it leaves as they are
+pub stored-front : (marks₀ counts₀ : List ℕ) {marks : List ℕ} {n k : ℕ} → n ≤ length marks₀ → length marks ≡ n → n ≤ k → Stored (flags_at (take n marks₀) counts₀) (take n marks₀) marks k
+    → (j : ℕ) → j < n → get_or (marks ++ drop n marks₀) j 0 ≡ flags_at marks₀ counts₀ j
+stored-front marks₀ counts₀ {marks} {n} room long all S j h =
+    get_or-append marks (drop n marks₀) 0 j (omega (arith, h, long)) ∙ S.done j (omega (arith, h, all)) ∙ ap (λ m. flags_of (eqb (m % 2) 1) (eqb (get_or counts₀ j 0) 1) false) (get_or-take n marks₀ j 0 h)
+
+pub front-length : (n : ℕ) (was l : List ℕ) → n ≤ length was → length l ≡ n → length (l ++ drop n was) ≡ length was
+front-length n was l room long = omega (arith, length-append l (drop n was), length-drop n was, long, room)
+
+pub front-beyond : (n : ℕ) (was l : List ℕ) → n ≤ length was → length l ≡ n → Beyond n was (l ++ drop n was)
+front-beyond n was l room long = record { long = front-length n was l room long; rest = ap (λ k. drop k (l ++ drop n was)) (sym long) ∙ drop-append_seam l (drop n was) }
 
 -- ---- rows
 

@@ -1,17 +1,18 @@
 -- What is asked of two ports and of a region's record. Definitions only; assumes nothing.
 use Rattle.std.specs.Prelude.{ℕ, ◌+◌, ◌*◌, ◌<◌, ◌≡◌, Bool, not, ◌||◌, List, length, eqb}
 use Rattle.std.specs.Float.Ieee.{le}
-use Rattle.definitions.specs.Limits.{numbers_per_boundary, tallies_per_span}
+use Rattle.definitions.specs.Limits.{tallies_per_span}
 use Rattle.definitions.specs.Geometry.{Point, center, distance}
 use Rattle.definitions.specs.RegionRecord.{has_bit}
 use Rattle.definitions.specs.Context.{Context}
 use Rattle.definitions.specs.RampMouths.{max_approach_radius}
 use Rattle.geometry.specs.Forms.{point_form}
+use Rattle.geometry.specs.Placed.{HasBoundary}
 use Rattle.interior_proposals.specs.declared.fits.Reach.{Reach}
 
 -- boundary i and its tallies stand in the lists
 pub record Listed (boundaries tallies : List ℕ) (i : ℕ) : Type 0 where
-  pub whole : numbers_per_boundary * i + 8 < length boundaries
+  pub whole : HasBoundary boundaries i
   pub tallied : tallies_per_span * i + 1 < length tallies
 
 -- a reach is that of the ports a and b

@@ -7,12 +7,13 @@ ghost use Rattle.context.specs.Shown.{pairs_between};
 ghost use Rattle.interior_proposals.specs.Owners.{Walkable, owned_by, owner_at, Owned, Owners};
 ghost use Rattle.interior_proposals.specs.Candidates.{Mapped, SomeMapped, AllMapped, is_marked, pair_marked, spoils_at, candidate};
 
-use crate::components::parent_of;
+use crate::components::name_of;
 use crate::owners::{Components, touches};
 use context::PartitionContext;
 use context::found_regions::FoundRegions;
 use context::pairs::row_at;
 use context::region_marks::is_anchored;
+use definitions::limits::MAX_ENTRIES;
 use std::ops::Range;
 
 const MAX_INTERIOR_EDGES: usize = 8;
@@ -46,7 +47,7 @@ fn spoils(context: PartitionContext, known: Components, i: usize, r: u32) -> boo
 }
 
 // How many boundaries the component r owns: the edges that lie whole in it.
-fn edge_count(owners: &[FoundRegions; 256], count: usize, r: u32) -> usize
+fn edge_count(owners: &[FoundRegions; MAX_ENTRIES], count: usize, r: u32) -> usize
     requires { count ≤ max_entries }
     ensures { result ≡ count_below count (λ i. owned_by r (owner_at owners.now i)) }
 {
@@ -65,7 +66,7 @@ pub fn is_candidate(context: PartitionContext, known: Components, r: u32) -> boo
         Owners C known.entry.owners.now →
         result ≡ candidate C r }
 {
-    if parent_of(known.names, r) != r {
+    if name_of(known.names, r) != r {
         return false;
     }
     if (0..context.count).any(|i| spoils(context, known, i, r)) {

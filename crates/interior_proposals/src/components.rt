@@ -1,10 +1,11 @@
 // The components of regions that ordinary full cuts join, as classes of crate `parents` in a lent list, where region r is number r - 1; then the name of each
 // region.
 ghost use Rattle.std.specs.Prelude.{◌≡◌, List, [], ◌∷◌, ℕ, suc, ◌+◌, ◌-◌, ◌*◌, ◌%◌, ◌≤◌, ◌<◌, eqb, length, get_or, set, false};
-ghost use Rattle.definitions.specs.Limits.{max_side, numbers_per_pair, numbers_per_boundary, tallies_per_span};
+ghost use Rattle.definitions.specs.Limits.{max_side, numbers_per_pair, tallies_per_span};
 ghost use Rattle.definitions.specs.Context.{Context};
 ghost use Rattle.definitions.specs.RampInteriors.{is_ordinary, links};
 ghost use Rattle.context.specs.Shown.{ShownBoundaries, ShownTallies, ShownAnchored, ShownIncidents, pairs_between};
+ghost use Rattle.geometry.specs.Placed.{HasBoundary};
 ghost use Rattle.laws.specs.ListLaws.Beyond.{Beyond};
 ghost use Rattle.interior_proposals.specs.Forest.{Parented, Merged, Rows, RowsJoinable, Forest, Names};
 ghost use Rattle.interior_proposals.specs.Given.{Given, Lent, SomeLent, flags_of, alone, links_of, CutJoinable, CutsJoinable, Prepared, Known};
@@ -15,15 +16,21 @@ use geometry::boundaries::has_ramp;
 use parents::{alone, join};
 use std::ops::Range;
 
+// The bits of a region's mark above the lowest, which says that it is anchored: it has exactly one incident; it is an exterior.
+// Kept: the marks are numbers in a list that C lends, with one for each region and no other room, so that what is known of a region is bits of its number.
+pub(crate) const SINGLE: u16 = 2;
+
+pub(crate) const EXTERIOR: u16 = 4;
+
 // The name of region r.
-pub fn parent_of(parents: &[u32], r: u32) -> u32
+pub fn name_of(parents: &[u32], r: u32) -> u32
     requires { (1 ≤ r) × (r ≤ length parents.now) }
     ensures { result ≡ get_or parents.now (r - 1) 0 }
 {
     parents[r as usize - 1]
 }
 
-pub fn set_parent(parents: &mut [u32], r: u32, p: u32)
+pub(crate) fn set_name(parents: &mut [u32], r: u32, p: u32)
     requires { (1 ≤ r) × (r ≤ length parents.old) }
     ensures { parents.new ≡ set parents.old (r - 1) p }
 {
@@ -39,15 +46,15 @@ fn join_pairs(parents: &mut [u32], pairs: &[u32], rows: Range<usize>)
         Rows (length cs) pairs.now rows.start rows.end →
         Merged cs parents.old (pairs_between pairs.now rows.start rows.end) parents.new }
 {
-    for k in rows.start..rows.end {
+    for k in rows {
         let Pair { lo, hi } = row_at(pairs, k);
         join(parents, lo as usize - 1, hi as usize - 1);
     }
 }
 
 // Whether boundary i is an ordinary full cut: it has no ramp.
-pub fn is_ordinary(context: PartitionContext, i: usize) -> bool
-    requires { (numbers_per_boundary * i + 8 < length context.boundaries.now) × (tallies_per_span * i + 1 < length context.tallies.now) }
+pub(crate) fn is_ordinary(context: PartitionContext, i: usize) -> bool
+    requires { HasBoundary context.boundaries.now i × (tallies_per_span * i + 1 < length context.tallies.now) }
     ensures { (C : Context) →
         ShownBoundaries C context.entry.boundaries.now →
         ShownTallies C context.entry.tallies.now →
@@ -100,13 +107,16 @@ fn flatten(parents: &mut [u32], regions: usize)
     }
 }
 
-// The mark of a region that has `count` incidents: bit 0 says whether it is anchored, bit 1 whether it has exactly one incident.
-// Kept: the marks are numbers in a list that C lends, with one for each region and no other room, so that what is known of a region is bits of its number.
+// The mark of a region that has `count` incidents: whether it is anchored, and whether it has exactly one incident.
 fn flags(mark: u16, count: u32) -> u16
     ensures { result ≡ flags_of (eqb (mark % 2) 1) (eqb count 1) false }
 {
-    let anchored = mark % 2;
-    if count == 1 { anchored + 2 } else { anchored }
+    let anchored = mark % SINGLE;
+    if count == 1 {
+        anchored + SINGLE
+    } else {
+        anchored
+    }
 }
 
 // Moves what is needed of the counts of incidents into the marks, and makes each region a class of its own in their place.
@@ -119,9 +129,8 @@ fn prepare(marks: &mut [u16], counts: &mut [u32], regions: usize)
         Prepared C marks.new counts.new }
     ensures beyond { Beyond regions marks.old marks.new × Beyond regions counts.old counts.new }
 {
-    // Kept: `marks.iter_mut().zip(counts)` would need no index, but of the items of `iter_mut` that `zip` lends std says nothing behind the loop.
-    for (k, &count) in counts[..regions].iter().enumerate() {
-        marks[k] = flags(marks[k], count);
+    for (k, mark) in marks[..regions].iter_mut().enumerate() {
+        *mark = flags(*mark, counts[k]);
     }
     alone(counts, regions);
 }

@@ -9,17 +9,16 @@ ghost use Rattle.interior_proposals.specs.Given.{Marked};
 ghost use Rattle.interior_proposals.specs.Owners.{Walkable, entry_at};
 ghost use Rattle.interior_proposals.specs.Leaves.{Reachable, Inside, Exteriored, Cleared, from, Held, RowOf, Ported, Walked};
 
-use crate::components::{parent_of, set_parent};
+use crate::components::{EXTERIOR, SINGLE, name_of, set_name};
 use context::pairs::{Pair, row_at};
 use std::ops::Range;
 
 // Whether region x is marked as an exterior.
-// Kept: bit 2 of the mark, beside those that `flags` of components.rt sets, since the list of marks is C's and has no other room.
 fn is_exterior(marks: &[u16], x: u32) -> bool
     requires { (1 ≤ x) × (x ≤ length marks.now) }
     ensures { result ≡ leb 4 (entry_at marks.now x) }
 {
-    4 <= marks[x as usize - 1]
+    EXTERIOR <= marks[x as usize - 1]
 }
 
 // Whether region x is not anchored, and has exactly one incident.
@@ -27,7 +26,7 @@ fn is_leaf(marks: &[u16], x: u32) -> bool
     requires { (1 ≤ x) × (x ≤ length marks.now) }
     ensures { result ≡ eqb (entry_at marks.now x % 4) 2 }
 {
-    marks[x as usize - 1] % 4 == 2
+    marks[x as usize - 1] % EXTERIOR == SINGLE
 }
 
 // Marks region x as an exterior.
@@ -37,7 +36,7 @@ fn mark_exterior(marks: &mut [u16], x: u32)
     ensures marks_length { length marks.new ≡ length marks.old }
 {
     let mark = &mut marks[x as usize - 1];
-    *mark = *mark % 4 + 4;
+    *mark = *mark % EXTERIOR + EXTERIOR;
 }
 
 fn clear_exterior(marks: &mut [u16], x: u32)
@@ -45,7 +44,7 @@ fn clear_exterior(marks: &mut [u16], x: u32)
     ensures marks { marks.new ≡ set marks.old (x - 1) (entry_at marks.old x % 4) }
     ensures marks_length { length marks.new ≡ length marks.old }
 {
-    marks[x as usize - 1] %= 4;
+    marks[x as usize - 1] %= EXTERIOR;
 }
 
 // Marks the other region of each row that has exactly one region named r. Whether no row has two.
@@ -65,9 +64,9 @@ fn mark_exteriors(
     ensures marks_length { length marks.new ≡ length marks.old }
 {
     let mut fit = true;
-    for k in rows.start..rows.end {
+    for k in rows {
         let Pair { lo, hi } = row_at(pairs, k);
-        match (parent_of(names, lo) == r, parent_of(names, hi) == r) {
+        match (name_of(names, lo) == r, name_of(names, hi) == r) {
             (true, true) => fit = false,
             (true, false) => mark_exterior(marks, hi),
             (false, true) => mark_exterior(marks, lo),
@@ -86,7 +85,7 @@ fn clear_exteriors(marks: &mut [u16], pairs: &[u32], rows: Range<usize>)
         Cleared C marks.old marks.new }
     ensures marks_length { length marks.new ≡ length marks.old }
 {
-    for k in rows.start..rows.end {
+    for k in rows {
         let pair = row_at(pairs, k);
         clear_exterior(marks, pair.lo);
         clear_exterior(marks, pair.hi);
@@ -103,7 +102,7 @@ fn rows_split(names: &[u32], pairs: &[u32], mut rows: Range<usize>, r: u32) -> b
 {
     rows.all(|k| {
         let pair = row_at(pairs, k);
-        (parent_of(names, pair.lo) == r) != (parent_of(names, pair.hi) == r)
+        (name_of(names, pair.lo) == r) != (name_of(names, pair.hi) == r)
     })
 }
 
@@ -118,7 +117,7 @@ fn expand_row(names: &mut [u32], marks: &[u16], pair: Pair, r: u32) -> bool
         Held C i r (expand_pair C i es (from rs v) (pair_form pair)) v names.old names.new result }
     ensures names_length { length names.new ≡ length names.old }
 {
-    if (parent_of(names, pair.lo) == r) | (parent_of(names, pair.hi) == r) {
+    if (name_of(names, pair.lo) == r) | (name_of(names, pair.hi) == r) {
         return true;
     }
     let a = is_exterior(marks, pair.lo);
@@ -130,7 +129,7 @@ fn expand_row(names: &mut [u32], marks: &[u16], pair: Pair, r: u32) -> bool
     if !is_leaf(marks, leaf) {
         return false;
     }
-    set_parent(names, leaf, r);
+    set_name(names, leaf, r);
     true
 }
 
@@ -145,15 +144,15 @@ fn expand_rows(names: &mut [u32], marks: &[u16], pairs: &[u32], rows: Range<usiz
     ensures names_length { length names.new ≡ length names.old }
 {
     let mut fit = true;
-    for k in rows.start..rows.end {
+    for k in rows {
         fit &= expand_row(names, marks, row_at(pairs, k), r);
     }
     fit
 }
 
 // The leaves beyond a port, whose rows these are. Whether the port is valid: no row has two regions named r before, and each has exactly one after.
-// Kept: `names` and `marks` apart, for of the four walks below each writes just one of the two, as its parameters say. Of a struct of both each would promise
-// besides that the other list is as it was, and that the struct holds the same two lists at exit.
+// Kept: `names` and `marks` apart, for each of the four walks that it makes writes one of the two at most, as its parameters say. Of a struct of both each walk
+// would promise besides that the other list is as it was, and that the struct holds the same two lists at exit.
 pub fn expand_port(
     names: &mut [u32],
     marks: &mut [u16],

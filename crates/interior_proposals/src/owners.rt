@@ -7,10 +7,11 @@ ghost use Rattle.context.specs.Shown.{pairs_between};
 ghost use Rattle.interior_proposals.specs.Given.{Kept, SomeKept, AllKept};
 ghost use Rattle.interior_proposals.specs.Owners.{Walkable, pair_named, Common, Owned, Owners};
 
-use crate::components::{is_ordinary, parent_of};
+use crate::components::{is_ordinary, name_of};
 use context::PartitionContext;
 use context::found_regions::FoundRegions;
 use context::pairs::row_at;
+use definitions::limits::MAX_ENTRIES;
 use std::ops::Range;
 
 // What is known of components: the name that each region has, the marks of regions, and the owner of each boundary, the component in which all its pairs lie:
@@ -19,7 +20,7 @@ use std::ops::Range;
 pub struct Components<'a> {
     pub names: &'a [u32],
     pub marks: &'a [u16],
-    pub owners: &'a [FoundRegions; 256],
+    pub owners: &'a [FoundRegions; MAX_ENTRIES],
 }
 
 // Whether a region of one of the rows is named r.
@@ -29,7 +30,7 @@ pub fn touches(names: &[u32], pairs: &[u32], mut rows: Range<usize>, r: u32) -> 
 {
     rows.any(|k| {
         let pair = row_at(pairs, k);
-        (parent_of(names, pair.lo) == r) | (parent_of(names, pair.hi) == r)
+        (name_of(names, pair.lo) == r) | (name_of(names, pair.hi) == r)
     })
 }
 
@@ -41,8 +42,8 @@ fn common_name(names: &[u32], pairs: &[u32], mut rows: Range<usize>) -> FoundReg
     if rows.start == rows.end {
         return FoundRegions::None;
     }
-    let name = parent_of(names, row_at(pairs, rows.start).lo);
-    if rows.all(|k| parent_of(names, row_at(pairs, k).lo) == name) {
+    let name = name_of(names, row_at(pairs, rows.start).lo);
+    if rows.all(|k| name_of(names, row_at(pairs, k).lo) == name) {
         FoundRegions::One(name)
     } else {
         FoundRegions::Several
@@ -64,7 +65,11 @@ fn owner_of(context: PartitionContext, names: &[u32], i: usize) -> FoundRegions
 }
 
 // The owners of all boundaries.
-pub fn find_owners(context: PartitionContext, names: &[u32], owners: &mut [FoundRegions; 256])
+pub fn find_owners(
+    context: PartitionContext,
+    names: &[u32],
+    owners: &mut [FoundRegions; MAX_ENTRIES],
+)
     requires kept { AllKept context.boundaries.now context.tallies.now context.pairs.now context.starts.now names.now context.count }
     requires owners_room { length owners.old ≡ max_entries }
     ensures { (C : Context) →
@@ -72,7 +77,7 @@ pub fn find_owners(context: PartitionContext, names: &[u32], owners: &mut [Found
         C.count ≡ context.entry.count →
         Owners C owners.new }
 {
-    for i in 0..context.count {
-        owners[i] = owner_of(context, names, i);
+    for (i, owner) in owners[..context.count].iter_mut().enumerate() {
+        *owner = owner_of(context, names, i);
     }
 }

@@ -14,6 +14,7 @@ use crate::owners::Components;
 use crate::ports::{Ports, find_ports};
 use context::PartitionContext;
 use context::found_regions::FoundRegions;
+use definitions::limits::MAX_ENTRIES;
 
 // The leaves beyond both ports. Whether both are valid.
 fn expand_ports(
@@ -44,7 +45,7 @@ fn propose(
     context: PartitionContext,
     names: &mut [u32],
     marks: &mut [u16],
-    owners: &[FoundRegions; 256],
+    owners: &[FoundRegions; MAX_ENTRIES],
     r: u32,
 ) -> Option<Ports>
     requires { SomeFacing context.boundaries.now context.tallies.now context.pairs.now context.starts.now names.old marks.old
@@ -71,7 +72,7 @@ fn propose(
 }
 
 // The component of which boundary i is the first edge.
-fn first_of(owners: &[FoundRegions; 256], i: usize) -> Option<u32>
+fn first_of(owners: &[FoundRegions; MAX_ENTRIES], i: usize) -> Option<u32>
     requires { i < max_entries }
     ensures { FirstOf owners.now i result }
 {
@@ -86,7 +87,7 @@ fn propose_at(
     context: PartitionContext,
     names: &mut [u32],
     marks: &mut [u16],
-    owners: &[FoundRegions; 256],
+    owners: &[FoundRegions; MAX_ENTRIES],
     i: usize,
 ) -> Option<Ports>
     requires i_within { i < context.count }
@@ -108,8 +109,8 @@ pub fn propose_all(
     context: PartitionContext,
     names: &mut [u32],
     marks: &mut [u16],
-    owners: &[FoundRegions; 256],
-    found: &mut [Option<Ports>; 256],
+    owners: &[FoundRegions; MAX_ENTRIES],
+    found: &mut [Option<Ports>; MAX_ENTRIES],
 )
     requires progress { SomeProgress context.boundaries.now context.tallies.now context.pairs.now context.starts.now names.old marks.old
         owners.now context.count 0 }
@@ -122,7 +123,7 @@ pub fn propose_all(
         × FoundAll C owners.now found.new C.count }
     ensures lengths { (length names.new ≡ length names.old) × (length marks.new ≡ length marks.old) }
 {
-    for i in 0..context.count {
-        found[i] = propose_at(context, names, marks, owners, i);
+    for (i, ports) in found[..context.count].iter_mut().enumerate() {
+        *ports = propose_at(context, names, marks, owners, i);
     }
 }

@@ -14,7 +14,8 @@ ghost use Rattle.interior_regions.specs.Places.{region_at, Readable, is_named};
 
 use context::PartitionContext;
 use context::found_regions::FoundRegions;
-use interior_proposals::components::{name_components, parent_of};
+use definitions::limits::MAX_ENTRIES;
+use interior_proposals::components::{name_components, name_of};
 use interior_proposals::owners::find_owners;
 use interior_proposals::ports::Ports;
 use interior_proposals::proposals::propose_all;
@@ -42,37 +43,34 @@ pub fn is_inside(pairs: &[u32], names: &[u32], name: u32, k: usize) -> bool
     requires { Readable pairs.now (length names.now) k }
     ensures { result ≡ is_named pairs.now names.now name k }
 {
-    parent_of(names, region_at(pairs, k)) == name
+    name_of(names, region_at(pairs, k)) == name
 }
 
-// Marks the boundaries that the component with the name owns, if `on`.
+// Marks the boundaries that the component with the name owns.
 pub fn mark_edges(
-    owners: &[FoundRegions; 256],
+    owners: &[FoundRegions; MAX_ENTRIES],
     count: usize,
     name: u32,
-    on: bool,
-    removed: &mut [bool; 256],
+    removed: &mut [bool; MAX_ENTRIES],
 )
     requires { (count ≤ max_entries) × (length removed.old ≡ max_entries) }
     ensures removed { (j : ℕ) →
         j < count →
-        get_or removed.new j false ≡ (get_or removed.old j false || (on && owned_by name (owner_at owners.now j))) }
+        get_or removed.new j false ≡ (get_or removed.old j false || owned_by name (owner_at owners.now j)) }
     ensures removed_length { length removed.new ≡ max_entries }
 {
-    if !on {
-        return;
-    }
-    // Kept: `removed.iter_mut().zip(owners)` would need no index, but of the items of `iter_mut` that `zip` lends std says nothing behind the loop.
+    // Kept: of the items of `iter_mut` that `zip` lends std says nothing behind the loop, and `removed[..count].iter_mut().enumerate()` would index `owners`.
     for (j, &owner) in owners[..count].iter().enumerate() {
         removed[j] |= owner == FoundRegions::One(name);
     }
 }
 
 // The last boundary that the component with the name owns.
-fn last_edge(owners: &[FoundRegions; 256], count: usize, name: u32) -> Option<usize>
+fn last_edge(owners: &[FoundRegions; MAX_ENTRIES], count: usize, name: u32) -> Option<usize>
     requires { count ≤ max_entries }
     ensures { LastEdge owners.now count name result }
 {
+    // Kept: `owners[..count].iter().rposition(..)` would need no index, but std has laws of what `find` gives over a range, and none of what `rposition` gives.
     (0..count)
         .rev()
         .find(|&j| owners[j] == FoundRegions::One(name))
@@ -81,8 +79,8 @@ fn last_edge(owners: &[FoundRegions; 256], count: usize, name: u32) -> Option<us
 // What stands at boundary i, if ports were found. It is the first edge, and each region of the interior stands in a row of an edge or of a port.
 pub fn interior_at(
     context: PartitionContext,
-    owners: &[FoundRegions; 256],
-    found: &[Option<Ports>; 256],
+    owners: &[FoundRegions; MAX_ENTRIES],
+    found: &[Option<Ports>; MAX_ENTRIES],
     i: usize,
 ) -> Option<Interior>
     requires i_within { i < context.count }
@@ -114,8 +112,8 @@ pub fn find_interiors(
     regions: usize,
     marks: &mut [u16],
     counts: &mut [u32],
-    owners: &mut [FoundRegions; 256],
-    found: &mut [Option<Ports>; 256],
+    owners: &mut [FoundRegions; MAX_ENTRIES],
+    found: &mut [Option<Ports>; MAX_ENTRIES],
 )
     requires lent { SomeLent context.boundaries.now context.tallies.now context.pairs.now context.starts.now context.count regions marks.old counts.old }
     requires room { (length owners.old ≡ max_entries) × (length found.old ≡ max_entries) }

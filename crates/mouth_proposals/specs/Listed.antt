@@ -2,6 +2,7 @@
 use Rattle.std.specs.Prelude.{ℕ, ◌≤◌, ◌<◌, ◌≡◌, List, length, get_or, Option, None, Some}
 use Rattle.std.specs.Float.{binary64}
 use Rattle.std.specs.Float.Ieee.{to_bits}
+use Rattle.definitions.specs.Limits.{max_entries}
 use Rattle.definitions.specs.Scan.{collect}
 use Rattle.definitions.specs.Context.{Context}
 use Rattle.definitions.specs.RampMouths.{MouthProposal, separation_of}
@@ -10,9 +11,9 @@ use Rattle.mouth_proposals.specs.declared.mouths.MouthKind.{MouthKind}
 use Rattle.mouth_proposals.specs.declared.candidates.Candidate.{Candidate}
 use Rattle.mouth_proposals.specs.declared.candidates.MouthProposal as declared
 
--- of one ramp: 256 boundaries at most
+-- of one ramp: one for each boundary at most
 abbrev pub max_candidates : ℕ
-max_candidates = 256
+max_candidates = max_entries
 
 abbrev pub candidate : ℕ → ℕ → Option ℕ → MouthKind → ℕ → Candidate
 candidate m a outer kind bits = record { mouth = m; ramp = a; outer = outer; kind = kind; separation = bits }

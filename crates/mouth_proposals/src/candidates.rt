@@ -1,7 +1,6 @@
-// The candidates of one ramp, as compact lists, mouth by mouth.
+// The candidates of one ramp, as a list of structs, mouth by mouth.
 ghost use Rattle.std.specs.Prelude.{◌≡◌, false, true, List, ◌++◌, ◌+◌, ◌≤◌, ◌<◌};
-ghost use Rattle.std.specs.Float.{binary64};
-ghost use Rattle.std.specs.Float.Ieee.{is_nan, to_bits};
+ghost use Rattle.definitions.specs.Limits.{max_entries};
 ghost use Rattle.definitions.specs.Scan.{collect, to_list};
 ghost use Rattle.definitions.specs.Context.{Context, full_cut, no_ramp};
 ghost use Rattle.definitions.specs.RampMouths as definition;
@@ -16,6 +15,7 @@ use crate::measures::{is_close, separation_of};
 use crate::mouths::{Mouth, MouthKind, mouth_candidate};
 use crate::regions::RegionMarks;
 use context::PartitionContext;
+use definitions::limits::MAX_ENTRIES;
 use geometry::boundaries::has_ramp;
 
 // What a mouth proposes to a ramp (`MouthProposal` of ramp_boundaries.rs): the boundaries of both, the region outside, if there is one, and the kind. Its inner
@@ -29,6 +29,8 @@ pub struct MouthProposal {
 }
 
 // A proposal as the lists keep it, with the bits of the separation.
+// Kept: the two boundaries as bytes, and not a `MouthProposal` beside the separation, whose places are of type `usize`: two lists of 256 of these stand on the
+// stack, which take 24 bytes each so and would take 40.
 #[derive(Clone, Copy, PartialEq, Eq)]
 pub struct Candidate {
     pub mouth: u8,
@@ -64,7 +66,7 @@ impl Candidate {
     }
 
     fn of(m: usize, a: usize, found: Mouth, separation: u64) -> Self
-        requires { (m < 256) × (a < 256) }
+        requires { (m < max_entries) × (a < max_entries) }
         ensures { result ≡ candidate m a found.outer found.kind separation }
     {
         Self {
@@ -77,19 +79,11 @@ impl Candidate {
     }
 }
 
-// The bits of a separation.
-fn bits_of(separation: f64) -> u64
-    requires { is_nan separation ≡ false }
-    ensures { result ≡ to_bits binary64 separation }
-{
-    f64::to_bits(separation)
-}
-
 // What mouth m proposes to the ramp within the distance: entry n, if there is one. Gives the number of entries.
 fn push_mouth(
     context: PartitionContext,
     regions: RegionMarks,
-    entries: &mut [Candidate; 256],
+    entries: &mut [Candidate; MAX_ENTRIES],
     n: usize,
     m: usize,
     ramp: Ramp,
@@ -114,7 +108,7 @@ fn push_mouth(
         Some(found) => {
             let separation = separation_of(context.boundaries, m, ramp.boundary);
             if is_close(separation) {
-                entries[n] = Candidate::of(m, ramp.boundary, found, bits_of(separation));
+                entries[n] = Candidate::of(m, ramp.boundary, found, separation.to_bits());
                 n + 1
             } else {
                 n
@@ -127,7 +121,7 @@ fn push_mouth(
 fn push_mouths(
     context: PartitionContext,
     regions: RegionMarks,
-    entries: &mut [Candidate; 256],
+    entries: &mut [Candidate; MAX_ENTRIES],
     ramp: Ramp,
 ) -> usize
     requires shown { PassShown context regions }
@@ -145,7 +139,8 @@ fn push_mouths(
         (collect context.entry.count (mouth_candidate C ramp.boundary)) }
 {
     let mut n = 0;
-    // Kept: a fold would carry n beside the list that its closure fills, and says no more than these lines.
+    // Kept: n goes in and out. A struct of `entries` and n, whose method adds what is found, would promise besides that it holds the same list at exit, and
+    // only these lines would use it; a fold would carry n beside the list that its closure fills.
     for m in 0..context.count {
         n = push_mouth(context, regions, &mut *entries, n, m, ramp);
     }
@@ -156,7 +151,7 @@ fn push_mouths(
 pub fn push_ramp(
     context: PartitionContext,
     regions: RegionMarks,
-    entries: &mut [Candidate; 256],
+    entries: &mut [Candidate; MAX_ENTRIES],
     a: usize,
 ) -> usize
     requires shown { PassShown context regions }
@@ -170,10 +165,7 @@ pub fn push_ramp(
         Filled C entries.new result
         (collect context.entry.count (mouth_candidate C a)) }
 {
-    if !has_ramp(context.boundaries, a) {
-        return 0;
-    }
-    if !context.full_cut(a) {
+    if !has_ramp(context.boundaries, a) || !context.full_cut(a) {
         return 0;
     }
     let ends = find_other_ends(context, a);

@@ -1,10 +1,11 @@
 // Whether the other end of a ramp is an incident of a region: found once for both regions of the ramp's full pair, before its mouths are gone through.
 ghost use Rattle.std.specs.Prelude.{◌≡◌, ℕ, ◌+◌, ◌*◌, ◌≤◌, ◌<◌, length};
-ghost use Rattle.definitions.specs.Limits.{numbers_per_boundary, tallies_per_span};
+ghost use Rattle.definitions.specs.Limits.{tallies_per_span};
 ghost use Rattle.definitions.specs.Context.{Context};
 ghost use Rattle.definitions.specs.RampMouths.{other_end_incident};
 ghost use Rattle.context.specs.Shown.{ShownBoundaries, ShownTallies, ShownPairs};
 ghost use Rattle.context.specs.Rows.{Stretch};
+ghost use Rattle.mouth_proposals.specs.Lent.{HasBoundaries};
 ghost use Rattle.mouth_proposals.specs.Ends.{is_other_end, end_at, EndsOf};
 
 use context::PartitionContext;
@@ -28,7 +29,7 @@ pub struct Ramp {
 
 // Whether boundary j is the other end of the ramp of boundary a, and an incident of region r.
 fn is_other_end(context: PartitionContext, a: usize, r: u32, j: usize) -> bool
-    requires sizes { numbers_per_boundary * context.count ≤ length context.boundaries.now }
+    requires sizes { HasBoundaries context }
     requires places { (a < context.count) × (j < context.count) }
     requires stretch { Stretch context.pairs.now context.starts.now j }
     ensures { (C : Context) →
@@ -44,7 +45,7 @@ fn is_other_end(context: PartitionContext, a: usize, r: u32, j: usize) -> bool
 
 // Whether the other end of the ramp of boundary a is an incident of region r.
 fn other_end_incident(context: PartitionContext, a: usize, r: u32) -> bool
-    requires sizes { (numbers_per_boundary * context.count ≤ length context.boundaries.now) × (a < context.count) }
+    requires sizes { HasBoundaries context × (a < context.count) }
     requires stretches { (i : ℕ) → i < context.count → Stretch context.pairs.now context.starts.now i }
     ensures { (C : Context) →
         C.count ≡ context.entry.count →
@@ -57,7 +58,7 @@ fn other_end_incident(context: PartitionContext, a: usize, r: u32) -> bool
 
 // The answers for ramp a.
 pub fn find_other_ends(context: PartitionContext, a: usize) -> Option<OtherEnds>
-    requires sizes { (numbers_per_boundary * context.count ≤ length context.boundaries.now) × (a < context.count) }
+    requires sizes { HasBoundaries context × (a < context.count) }
     requires tallies_room { tallies_per_span * a + 1 < length context.tallies.now }
     requires stretches { (i : ℕ) → i < context.count → Stretch context.pairs.now context.starts.now i }
     ensures { (C : Context) →

@@ -66,11 +66,8 @@ fn overlay_representative(boundaries: &[u64], m: usize, a: usize) -> bool
 {
     let mouth = width_of(boundaries, m);
     let ramp = width_of(boundaries, a);
-    if fmax(mouth, ramp) <= MAX_OVERLAY_WIDTH_RATIO * fmin(mouth, ramp) {
-        overlapping_ramp_representative(segment_of(boundaries, m), segment_of(boundaries, a))
-    } else {
-        false
-    }
+    fmax(mouth, ramp) <= MAX_OVERLAY_WIDTH_RATIO * fmin(mouth, ramp)
+        && overlapping_ramp_representative(segment_of(boundaries, m), segment_of(boundaries, a))
 }
 
 // How far the mouth is from the ramp, from endpoints as written.

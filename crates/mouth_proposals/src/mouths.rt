@@ -1,12 +1,13 @@
 // What a mouth and a ramp propose, before the records of regions are looked at.
 ghost use Rattle.std.specs.Prelude.{◌≡◌, Some, true, false, cond, ℕ, ◌+◌, ◌-◌, ◌≤◌, ◌<◌, length, get_or};
+ghost use Rattle.definitions.specs.Limits.{max_entries};
 ghost use Rattle.definitions.specs.Scan.{all};
 ghost use Rattle.definitions.specs.MouthShapes.{regions_of, distinct_regions};
 ghost use Rattle.definitions.specs.Context.{Context, full_cut, no_ramp};
 ghost use Rattle.definitions.specs.RampMouths.{other_end_incident, triangle_mouth};
 ghost use Rattle.context.specs.Shown.{pairs_between, ShownTallies, ShownPairs, ShownIncidents, ShownAnchored};
-ghost use Rattle.context.specs.Rows.{Stretch, NamedRow};
-ghost use Rattle.mouth_proposals.specs.Lent.{PassShows, PassShown};
+ghost use Rattle.context.specs.Rows.{Stretch};
+ghost use Rattle.mouth_proposals.specs.Lent.{NamedBetween, PassShows, PassShown};
 ghost use Rattle.mouth_proposals.specs.Outers.{mark_at, inner_fits, with_region};
 ghost use Rattle.mouth_proposals.specs.Candidates.{plain, broad, is_triangular, is_broad, Within, Measured, candidate_form, found_mouth, approach_mouth};
 ghost use Rattle.mouth_proposals.specs.Ends.{EndsOf, EndKnown};
@@ -65,10 +66,7 @@ pub struct Mouth {
 // Whether every inner region of the star of these rows fits.
 fn inner_fit(pairs: &[u32], regions: RegionMarks, mut rows: Range<usize>, sides: Sides) -> bool
     requires ordered { rows.start ≤ rows.end }
-    requires named_rows { (k : ℕ) →
-        rows.start ≤ k →
-        k < rows.end →
-        NamedRow pairs.now (length regions.counts.now) k × NamedRow pairs.now (length regions.marks.now) k }
+    requires named_rows { NamedBetween pairs.now regions rows.start rows.end }
     ensures { result
         ≡ all (inner_fits regions.entry.marks.now regions.entry.counts.now sides.outer sides.approach)
         (regions_of (pairs_between pairs.now rows.start rows.end)) }
@@ -117,10 +115,7 @@ fn star_mouth(
     measures: Measures,
 ) -> Option<Mouth>
     requires stretch { Stretch context.pairs.now context.starts.now m }
-    requires named_rows { (k : ℕ) →
-        get_or context.starts.now m 0 ≤ k →
-        k < get_or context.starts.now (m + 1) 0 →
-        NamedRow context.pairs.now (length regions.counts.now) k × NamedRow context.pairs.now (length regions.marks.now) k }
+    requires named_rows { NamedBetween context.pairs.now regions (get_or context.starts.now m 0) (get_or context.starts.now (m + 1) 0) }
     requires approach_named { (1 ≤ sides.approach) × (sides.approach ≤ length regions.counts.now) }
     ensures { (C : Context) (a : ℕ) →
         ShownPairs C context.entry.pairs.now context.entry.starts.now →
@@ -158,11 +153,8 @@ fn with_region(regions: RegionMarks, found: FoundRegions, r: u32) -> FoundRegion
 
 // The proposal of a triangle, whose regions two rows of mouth m name: one of them at most is anchored, and that one is outside.
 fn triangle_mouth(context: PartitionContext, regions: RegionMarks, m: usize) -> Option<Mouth>
-    requires places { (m < 256) × (get_or context.starts.now (m + 1) 0 - get_or context.starts.now m 0 ≡ 2) }
-    requires named_rows { (k : ℕ) →
-        get_or context.starts.now m 0 ≤ k →
-        k < get_or context.starts.now (m + 1) 0 →
-        NamedRow context.pairs.now (length regions.marks.now) k }
+    requires places { (m < max_entries) × (get_or context.starts.now (m + 1) 0 - get_or context.starts.now m 0 ≡ 2) }
+    requires named_rows { NamedBetween context.pairs.now regions (get_or context.starts.now m 0) (get_or context.starts.now (m + 1) 0) }
     ensures { (C : Context) (a : ℕ) →
         ShownPairs C context.entry.pairs.now context.entry.starts.now →
         ShownAnchored C regions.entry.marks.now →
@@ -196,10 +188,7 @@ fn approach_mouth(
     measures: Measures,
 ) -> Option<Mouth>
     requires stretch { Stretch context.pairs.now context.starts.now m }
-    requires named_rows { (k : ℕ) →
-        get_or context.starts.now m 0 ≤ k →
-        k < get_or context.starts.now (m + 1) 0 →
-        NamedRow context.pairs.now (length regions.counts.now) k × NamedRow context.pairs.now (length regions.marks.now) k }
+    requires named_rows { NamedBetween context.pairs.now regions (get_or context.starts.now m 0) (get_or context.starts.now (m + 1) 0) }
     requires approach_within { Within (length regions.counts.now) approach × Within (length regions.marks.now) approach }
     ensures { (C : Context) (a : ℕ) →
         ShownPairs C context.entry.pairs.now context.entry.starts.now →
@@ -241,10 +230,7 @@ pub fn mouth_candidate(
         candidate_form C m ramp.boundary result ≡ found_mouth C ramp.boundary m }
 {
     let a = ramp.boundary;
-    if has_ramp(context.boundaries, m) {
-        return None;
-    }
-    if !context.full_cut(m) {
+    if has_ramp(context.boundaries, m) || !context.full_cut(m) {
         return None;
     }
     let triangle = triangle_representative(context, m, a);

@@ -46,8 +46,7 @@ fn star_of(pairs: &[u32], rows: Range<usize>) -> Option<Shape>
     let p = row_at(pairs, rows.start);
     let lo = in_all(pairs, rows.start..rows.end, p.lo);
     let hi = in_all(pairs, rows, p.hi);
-    let outer = region_of(p, lo, hi)?;
-    Some(Shape::Star(outer))
+    region_of(p, lo, hi).map(Shape::Star)
 }
 
 // The shape of mouth m, which is a full cut.

@@ -42,6 +42,12 @@ abbrev pub hold_number : Hold → ℕ
 hold_number Shared = 1
 hold_number Alone = 2
 
+-- the hold that half of a mark says
+abbrev pub HeldAs : ℕ → Option Hold → Type 0
+HeldAs n None = n ≡ 0
+HeldAs n (Some Shared) = n ≡ 1
+HeldAs n (Some Alone) = 2 ≤ n
+
 -- how a proposal of this kind holds the region outside
 abbrev pub outer_hold : MouthKind → ℕ
 outer_hold kind = cond (is_triangular kind) 2 1

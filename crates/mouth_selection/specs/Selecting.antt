@@ -2,6 +2,7 @@
 use Rattle.mouth_proposals.specs.Listed.{proposal_in, proposal_form}
 use Rattle.mouth_proposals.specs.declared.candidates.Candidate.{Candidate}
 use Rattle.std.specs.Prelude.{ℕ, ◌+◌, ◌*◌, ◌<◌, ◌≡◌, Bool, true, false, not, cond, List, [], get_or, Option, None, Some}
+use Rattle.definitions.specs.Limits.{max_entries}
 use Rattle.definitions.specs.Scan.{collect, member, count_below}
 use Rattle.definitions.specs.Sort.{sort, select}
 use Rattle.definitions.specs.Context.{Context}
@@ -88,4 +89,4 @@ module _ (pairs starts : List ℕ) where
   -- boundaries that are not removed, and among equals bests that are stale: what falls when a proposal is taken or a best is found
   unfoldable pub weight : ℕ → List ℕ → List Bool → List Bool → List (Option Candidate) → ℕ
   unfolding count_below left_at
-  weight count marks gone ends bests = 257 * count_below count (λ i. not (get_or gone i false)) + count_below count (λ a. is_stale marks gone ends (get_or bests a None))
+  weight count marks gone ends bests = (max_entries + 1) * count_below count (λ i. not (get_or gone i false)) + count_below count (λ a. is_stale marks gone ends (get_or bests a None))

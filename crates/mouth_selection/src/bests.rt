@@ -1,11 +1,12 @@
 // The choice among proposals by the best of each ramp. A best that conflicts with one taken still ranks before all that is left of its ramp: it is found anew
 // only where it is the least of the bests.
 ghost use Rattle.std.specs.Prelude.{◌≡◌, true, List, ℕ, ◌*◌, ◌≤◌, ◌<◌, length, get_or, None};
-ghost use Rattle.definitions.specs.Limits.{numbers_per_boundary};
+ghost use Rattle.definitions.specs.Limits.{max_entries};
 ghost use Rattle.definitions.specs.Context.{Context};
 ghost use Rattle.definitions.specs.RampMouths.{MouthProposal};
 ghost use Rattle.laws.specs.ListLaws.Options.{OnO};
 ghost use Rattle.context.specs.Rows.{NamedRows};
+ghost use Rattle.mouth_proposals.specs.Lent.{HasBoundaries};
 ghost use Rattle.mouth_selection.specs.Held.{TakenState};
 ghost use Rattle.mouth_selection.specs.Keys.{SafeKey, least_of};
 ghost use Rattle.mouth_selection.specs.Selecting.{Lists, Renewed, NextBest, Bests, Progress, Advanced, is_stale, weight};
@@ -13,14 +14,19 @@ ghost use Rattle.mouth_selection.specs.Selecting.{Lists, Renewed, NextBest, Best
 use crate::keys::better_of;
 use crate::taken::Taken;
 use context::PartitionContext;
+use definitions::limits::MAX_ENTRIES;
 use mouth_proposals::candidates::Candidate;
 
 // After a proposal is taken: the bests of ramp ends that are taken are forgotten.
-fn renew(ramp_ends: &[bool; 256], bests: &mut [Option<Candidate>; 256], count: usize)
-    requires { count ≤ 256 }
+fn renew(
+    ramp_ends: &[bool; MAX_ENTRIES],
+    bests: &mut [Option<Candidate>; MAX_ENTRIES],
+    count: usize,
+)
+    requires { count ≤ max_entries }
     ensures { Renewed ramp_ends.now bests.old bests.new count }
 {
-    // Kept: `bests.iter_mut().zip(ramp_ends)` would need no index, but of the items of `iter_mut` that `zip` lends std says nothing behind the loop.
+    // Kept: of the items of `iter_mut` that `zip` lends std says nothing behind the loop, and `bests[..count].iter_mut().enumerate()` would index `ramp_ends`.
     for (a, &is_used) in ramp_ends[..count].iter().enumerate() {
         if is_used {
             bests[a] = None;
@@ -42,9 +48,9 @@ fn least_best(boundaries: &[u64], bests: &[Option<Candidate>]) -> Option<Candida
 fn next_best(
     context: PartitionContext,
     taken: &Taken,
-    bests: &[Option<Candidate>; 256],
+    bests: &[Option<Candidate>; MAX_ENTRIES],
 ) -> Option<Candidate>
-    requires boundaries_room { numbers_per_boundary * context.count ≤ length context.boundaries.now }
+    requires boundaries_room { HasBoundaries context }
     requires rows { NamedRows context.pairs.now context.starts.now context.count (length taken.now.marks.now) }
     requires safe { (a : ℕ) → a < context.count → OnO (SafeKey context.boundaries.now) (get_or bests.now a None) }
     ensures { (C : Context) (chosen : List MouthProposal) →
@@ -64,7 +70,7 @@ fn next_best(
 pub fn advance(
     context: PartitionContext,
     taken: &mut Taken,
-    bests: &mut [Option<Candidate>; 256],
+    bests: &mut [Option<Candidate>; MAX_ENTRIES],
 ) -> Option<usize>
     requires { (C : Context) × (Lists context.boundaries.now context.pairs.now context.starts.now context.count C
         × Progress C taken.old.marks.now taken.old.removed taken.old.ramp_ends bests.old context.count) }

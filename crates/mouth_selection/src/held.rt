@@ -7,7 +7,8 @@ ghost use Rattle.context.specs.Rows.{NamedRow};
 ghost use Rattle.mouth_proposals.specs.Rows.{rows_of};
 ghost use Rattle.mouth_proposals.specs.Candidates.{Numbered};
 ghost use Rattle.mouth_selection.specs.Entries.{SafeMouth};
-ghost use Rattle.mouth_selection.specs.Held.{hold_at_lem, hold_number, outer_hold, outer_held, inner_held, row_held, held_at, mark_held, mark_outer, mark_inner};
+ghost use Rattle.mouth_selection.specs.Held.{HeldAs, hold_at_lem, hold_number};
+ghost use Rattle.mouth_selection.specs.Held.{outer_hold, outer_held, inner_held, row_held, held_at, mark_held, mark_outer, mark_inner};
 
 use context::PartitionContext;
 use context::pairs::{Pair, row_at};
@@ -43,12 +44,28 @@ impl Hold {
     }
 }
 
+// How region r is held, if it is.
+fn hold_of(marks: &[u16], r: u32) -> Option<Hold>
+    requires { (1 ≤ r) × (r ≤ length marks.now) }
+    ensures { HeldAs (hold_at_lem marks.now r) result }
+{
+    match marks[r as usize - 1] / 2 {
+        0 => None,
+        1 => Some(Hold::Shared),
+        _ => Some(Hold::Alone),
+    }
+}
+
 // Whether region r is held so that it cannot be held in this way too: by two that share it, it can.
 fn is_held(marks: &[u16], r: u32, hold: Hold) -> bool
     requires { (1 ≤ r) × (r ≤ length marks.now) }
     ensures { result ≡ leb 3 (hold_at_lem marks.now r + hold_number hold) }
 {
-    3 <= marks[r as usize - 1] / 2 + hold.number()
+    match hold_of(marks, r) {
+        None => false,
+        Some(Hold::Shared) => hold == Hold::Alone,
+        Some(Hold::Alone) => true,
+    }
 }
 
 // Whether region r is held so that nothing else may name it.
@@ -56,7 +73,7 @@ pub fn region_full(marks: &[u16], r: u32) -> bool
     requires { (1 ≤ r) × (r ≤ length marks.now) }
     ensures { result ≡ leb 2 (hold_at_lem marks.now r) }
 {
-    Hold::Alone.number() <= marks[r as usize - 1] / 2
+    hold_of(marks, r) == Some(Hold::Alone)
 }
 
 fn outer_held(marks: &[u16], outer: Option<u32>, hold: Hold) -> bool
@@ -132,7 +149,7 @@ fn hold_inner(pairs: &[u32], marks: &mut [u16], rows: Range<usize>, outer: Optio
     requires named_rows { (k : ℕ) → rows.start ≤ k → k < rows.end → NamedRow pairs.now (length marks.old) k }
     ensures { marks.new ≡ mark_inner outer marks.old (regions_of (pairs_between pairs.now rows.start rows.end)) }
 {
-    for k in rows.start..rows.end {
+    for k in rows {
         hold_row(&mut *marks, row_at(pairs, k), outer);
     }
 }

@@ -38,7 +38,7 @@ fn ranks_before(boundaries: &[u64], entry: Candidate, other: Candidate) -> bool
     RankKey::of(boundaries, entry) < RankKey::of(boundaries, other)
 }
 
-// Whether an entry ranks before the best so far.
+// Whether an entry ranks before the best so far, or there is none.
 pub fn is_better(boundaries: &[u64], entry: Candidate, best: Option<Candidate>) -> bool
     requires { SafeKey boundaries.now entry × OnO (SafeKey boundaries.now) best }
     ensures { result ≡ is_better boundaries.now entry best }
@@ -47,7 +47,7 @@ pub fn is_better(boundaries: &[u64], entry: Candidate, best: Option<Candidate>) 
 }
 
 // The better of two, of level ones the earlier.
-pub fn better_of(
+pub(crate) fn better_of(
     boundaries: &[u64],
     best: Option<Candidate>,
     later: Option<Candidate>,

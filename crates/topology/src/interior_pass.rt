@@ -64,8 +64,9 @@ pub fn judge_interiors(
         let Some(interior) = interior_at(context, owners, found, i) else {
             continue;
         };
-        let fits = interior_fits(records, context, names, interior);
-        mark_edges(owners, context.count, interior.name, fits, removed);
+        if interior_fits(records, context, names, interior) {
+            mark_edges(owners, context.count, interior.name, removed);
+        }
     }
 }
 

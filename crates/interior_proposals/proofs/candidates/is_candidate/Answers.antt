@@ -8,11 +8,11 @@ use Rattle.interior_proposals.specs.Candidates.{Mapped, spoils_at}
 use Rattle.interior_proposals.proofs.CandidateLaws.{spoilt, unspoilt, unnamed, counted_owned}
 use Rattle.interior_proposals.proofs.candidates.is_candidate.Goals as goal
 
-pub returns-then-parent_of-r : goal.returns-then-parent_of-r
-returns-then-parent_of-r c =
+pub returns-then-name_of-r : goal.returns-then-name_of-r
+returns-then-name_of-r c =
     let k = c.args.known in
-    let own : (C : Context) → Mapped C c.args.context.pairs.now c.args.context.starts.now k.names.now k.marks.now c.args.r → eqb c.parent_of.result c.args.r ≡ eqb (component_of C (components C) c.args.r) c.args.r = λ C M. ap (λ n. eqb n c.args.r) c.parent_of.ensures ∙ M.told.at c.args.r M.from M.upto in
-    λ C M e O. sym (unnamed C _ (sym (own C M) ∙ ne_eqb _ _ c.if-parent_of-r.true))
+    let own : (C : Context) → Mapped C c.args.context.pairs.now c.args.context.starts.now k.names.now k.marks.now c.args.r → eqb c.name_of.result c.args.r ≡ eqb (component_of C (components C) c.args.r) c.args.r = λ C M. ap (λ n. eqb n c.args.r) c.name_of.ensures ∙ M.told.at c.args.r M.from M.upto in
+    λ C M e O. sym (unnamed C _ (sym (own C M) ∙ ne_eqb _ _ c.if-name_of-r.true))
 
 pub returns-then-any : goal.returns-then-any
 returns-then-any c =
@@ -24,9 +24,9 @@ returns-then-any c =
 pub returns : goal.returns
 returns c =
     let k = c.args.known in
-    let own : (C : Context) → Mapped C c.args.context.pairs.now c.args.context.starts.now k.names.now k.marks.now c.args.r → eqb c.parent_of.result c.args.r ≡ eqb (component_of C (components C) c.args.r) c.args.r = λ C M. ap (λ n. eqb n c.args.r) c.parent_of.ensures ∙ M.told.at c.args.r M.from M.upto in
+    let own : (C : Context) → Mapped C c.args.context.pairs.now c.args.context.starts.now k.names.now k.marks.now c.args.r → eqb c.name_of.result c.args.r ≡ eqb (component_of C (components C) c.args.r) c.args.r = λ C M. ap (λ n. eqb n c.args.r) c.name_of.ensures ∙ M.told.at c.args.r M.from M.upto in
     λ C M e O.
-    counted_owned C _ _ M.from M.upto O (own C M) (eq-eqb _ _ c.if-parent_of-r.false) e
+    counted_owned C _ _ M.from M.upto O (own C M) (eq-eqb _ _ c.if-name_of-r.false) e
     (unspoilt C _ e _
     (any_from_range _ _ _ c.any.result (λ i. i < C.count → spoils_at C c.args.r i ≡ true) (λ i. i < C.count → spoils_at C c.args.r i ≡ false)
     c.any.ensures.ran (λ x q k l. let o = O x l in search (rules, tests)) (λ x q k. (search (rules, tests), λ l. let o = O x l in search (rules, tests)))) c.if-any.false)

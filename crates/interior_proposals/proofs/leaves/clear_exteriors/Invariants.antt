@@ -14,5 +14,5 @@ use Rattle.interior_proposals.proofs.leaves.clear_exteriors.Given as goal
 
 abbrev pub invariant-loop-k : goal.invariant-loop-k
 invariant-loop-k l =
-    (l.fn.rows.start ≤ l.k) × (l.k ≤ l.fn.rows.end) × (length l.marks ≡ length l.initial.marks)
-    × ((C : Context) (rs : List ℕ) (w : Walkable l.pairs l.fn.rows.start l.fn.rows.end C.regions) → Marked C (λ y. member y (exteriors rs (pairs_between l.pairs l.fn.rows.start l.fn.rows.end))) l.initial.marks → Clearing C (λ x. member x (exteriors rs (pairs_between l.pairs l.fn.rows.start l.fn.rows.end))) l.pairs l.fn.rows.start l.fn.rows.end w l.initial.marks l.k l.marks)
+    (l.k-iterator.end ≡ l.fn.rows.end) × (l.fn.rows.start ≤ l.k-iterator.start) × (l.k-iterator.start ≤ l.fn.rows.end) × (length l.marks ≡ length l.initial.marks)
+    × ((C : Context) (rs : List ℕ) (w : Walkable l.pairs l.fn.rows.start l.fn.rows.end C.regions) → Marked C (λ y. member y (exteriors rs (pairs_between l.pairs l.fn.rows.start l.fn.rows.end))) l.initial.marks → Clearing C (λ x. member x (exteriors rs (pairs_between l.pairs l.fn.rows.start l.fn.rows.end))) l.pairs l.fn.rows.start l.fn.rows.end w l.initial.marks l.k-iterator.start l.marks)

@@ -14,5 +14,5 @@ use Rattle.interior_proposals.proofs.leaves.expand_rows.Given as goal
 
 abbrev pub invariant-loop-k : goal.invariant-loop-k
 invariant-loop-k l =
-    (l.fn.rows.start ≤ l.k) × (l.k ≤ l.fn.rows.end) × (length l.names ≡ length l.initial.names)
-    × ((C : Context) (i : ℕ) (rs es : List ℕ) (v : Bool) → Ported C l.pairs l.fn.rows.start l.fn.rows.end i → Inside C l.r rs l.initial.names → Marked C (λ y. member y es) l.marks → Held C i l.r (expand_pairs C i es (from rs v) (pairs_between l.pairs l.fn.rows.start l.k)) v l.initial.names l.names l.fit)
+    (l.k-iterator.end ≡ l.fn.rows.end) × (l.fn.rows.start ≤ l.k-iterator.start) × (l.k-iterator.start ≤ l.fn.rows.end) × (length l.names ≡ length l.initial.names)
+    × ((C : Context) (i : ℕ) (rs es : List ℕ) (v : Bool) → Ported C l.pairs l.fn.rows.start l.fn.rows.end i → Inside C l.r rs l.initial.names → Marked C (λ y. member y es) l.marks → Held C i l.r (expand_pairs C i es (from rs v) (pairs_between l.pairs l.fn.rows.start l.k-iterator.start)) v l.initial.names l.names l.fit)

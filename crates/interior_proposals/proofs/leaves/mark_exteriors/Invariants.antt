@@ -13,5 +13,5 @@ use Rattle.interior_proposals.proofs.leaves.mark_exteriors.Given as goal
 
 abbrev pub invariant-loop-k : goal.invariant-loop-k
 invariant-loop-k l =
-    (l.fn.rows.start ≤ l.k) × (l.k ≤ l.fn.rows.end) × (length l.marks ≡ length l.initial.marks)
-    × ((C : Context) (rs : List ℕ) → Walkable l.pairs l.fn.rows.start l.fn.rows.end C.regions → Inside C l.r rs l.names → Marked C (λ y. false) l.initial.marks → Exteriored C rs (pairs_between l.pairs l.fn.rows.start l.k) l.initial.marks l.marks l.fit)
+    (l.k-iterator.end ≡ l.fn.rows.end) × (l.fn.rows.start ≤ l.k-iterator.start) × (l.k-iterator.start ≤ l.fn.rows.end) × (length l.marks ≡ length l.initial.marks)
+    × ((C : Context) (rs : List ℕ) → Walkable l.pairs l.fn.rows.start l.fn.rows.end C.regions → Inside C l.r rs l.names → Marked C (λ y. false) l.initial.marks → Exteriored C rs (pairs_between l.pairs l.fn.rows.start l.k-iterator.start) l.initial.marks l.marks l.fit)

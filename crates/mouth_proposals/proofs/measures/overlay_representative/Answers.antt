@@ -15,5 +15,6 @@ returns-then-fmax-fmin c =
 pub returns-else-fmax-fmin : goal.returns-else-fmax-fmin
 returns-else-fmax-fmin c =
     λ C S hm ha.
-    overlay-not C c.args.m c.args.a (width-shown S c.args.m hm c.width_of-mouth.ensures) (width-shown S c.args.a ha c.width_of-ramp.ensures)
+    c.if-fmax-fmin.false
+    ∙ overlay-not C c.args.m c.args.a (width-shown S c.args.m hm c.width_of-mouth.ensures) (width-shown S c.args.a ha c.width_of-ramp.ensures)
     c.fmax.ensures c.fmin.ensures c.if-fmax-fmin.false

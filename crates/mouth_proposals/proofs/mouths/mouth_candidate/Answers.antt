@@ -11,6 +11,7 @@ use Rattle.mouth_proposals.proofs.SafeLists.{below, stretch_at, named-both, kind
 use Rattle.mouth_proposals.proofs.KnownEnds.{approach_known}
 use Rattle.context.proofs.FullPairs.{between-length}
 use Rattle.mouth_proposals.proofs.mouths.mouth_candidate.Goals as goal
+use Rattle.mouth_proposals.proofs.mouths.mouth_candidate.Goals.{then-has_ramp-via-then-has_ramp, then-has_ramp-via-else-has_ramp+then-not-full_cut}
 
 none_of : {A : Type 0} (o : Option A) → is_some o ≡ false → o ≡ None
 none_of None e = refl
@@ -19,13 +20,12 @@ none_of (Some x) e = absurd (false≢true (sym e))
 pub returns-then-has_ramp : goal.returns-then-has_ramp
 returns-then-has_ramp c =
     λ C S T ramp cut E.
-    has_ramp_lem C c.args.ramp.boundary c.args.m ramp cut (kind-shown S.bounds c.args.m (below S.counted c.requires.places.0) ∙ not-true _ (sym c.has_ramp.ensures ∙ c.if-has_ramp.true))
-
-pub returns-then-not-full_cut : goal.returns-then-not-full_cut
-returns-then-not-full_cut c =
-    λ C S T ramp cut E.
     let lm = below S.counted c.requires.places.0 in
-    not_full C c.args.ramp.boundary c.args.m ramp cut (kind-shown S.bounds c.args.m lm ∙ not-false _ (sym c.has_ramp.ensures ∙ c.if-has_ramp.false)) (sym (c.full_cut.ensures C T lm) ∙ c.if-not-full_cut.true)
+    let a = c.args.ramp.boundary in
+    elim c.then-has_ramp.branch [
+      | then-has_ramp-via-then-has_ramp w ↦ has_ramp_lem C a c.args.m ramp cut (kind-shown S.bounds c.args.m lm ∙ not-true _ (sym c.has_ramp.ensures ∙ w.if-has_ramp.true))
+      | then-has_ramp-via-else-has_ramp+then-not-full_cut w ↦ not_full C a c.args.m ramp cut (kind-shown S.bounds c.args.m lm ∙ not-false _ (sym c.has_ramp.ensures ∙ w.if-has_ramp.false)) (sym (w.full_cut.ensures C T lm) ∙ w.if-not-full_cut.true)
+    ]
 
 pub triangle_representative-triangle-requires : goal.triangle_representative-triangle-requires
 triangle_representative-triangle-requires c =
@@ -58,7 +58,7 @@ triangle_mouth-requires c =
         sym (between-length c.args.context.pairs.now _ _)
             ∙ triangle_two _ _ _ _ c.triangle_representative-triangle.ensures h.1,
       );
-      named_rows = λ k l u. (named-both c.requires.shown c.requires.places.0 k l u).1;
+      named_rows = named-both c.requires.shown c.requires.places.0;
     }
 
 pub returns-then-measures-triangle : goal.returns-then-measures-triangle

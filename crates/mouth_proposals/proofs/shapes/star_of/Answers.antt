@@ -1,16 +1,21 @@
 -- `shapes::star_of` meets its contract: the shape goes by which regions of the first row stand in all rows. Assumes nothing.
-use mathlib.Core.Path.{sym, ap, ◌∙◌}
+use Rattle.std.proofs.Common.{rules, tests, ◌≡◌, ap, ◌∙◌, ℕ}
+use Rattle.std.specs.Prelude.{Option, None, Some, MatchOption}
+use Rattle.std.specs.Option.{IsSomeAnd}
 use Rattle.context.specs.Shown.{pairs_between}
+use Rattle.mouth_proposals.specs.declared.shapes.Shape.{Shape}
+use Rattle.mouth_proposals.specs.declared.shapes.Shape.TheVariants as shape
 use Rattle.mouth_proposals.specs.Rows.{shape_form}
 use Rattle.mouth_proposals.proofs.ShapeTests.{starred, star-shape}
 use Rattle.mouth_proposals.proofs.shapes.star_of.Goals as goal
 
-pub returns-in_err-outer : goal.returns-in_err-outer
-returns-in_err-outer c =
-    ap (shape_form (pairs_between c.args.pairs.now c.args.rows.start c.args.rows.end)) (c.from_residual.ensures ∙ ap starred (sym c.in_err-outer.was))
-    ∙ star-shape c.args.pairs.now c.args.rows.start c.args.rows.end c.requires.0 c.row_at-p.ensures c.in_all-lo.ensures c.in_all-hi.ensures c.region_of.ensures
+-- what `map` gives of a variant's name
+mapped : {L : ℕ → Shape → Type 0} (o : Option ℕ) (r : Option Shape) → ((x : ℕ) (y : Shape) → L x y → y ≡ shape.Star x) → MatchOption o (r ≡ None) (λ x. IsSomeAnd r (L x)) → r ≡ starred o
+mapped None r k h = h
+mapped (Some x) None k h = absurd h
+mapped (Some x) (Some y) k h = ap Some (k x y h)
 
 pub returns : goal.returns
 returns c =
-    ap (λ o. shape_form (pairs_between c.args.pairs.now c.args.rows.start c.args.rows.end) (starred o)) (sym c.in_ok-outer.was)
+    ap (shape_form (pairs_between c.args.pairs.now c.args.rows.start c.args.rows.end)) (mapped c.region_of.result c.map.result (λ x y k. search (rules, tests)) c.map.ensures.cases)
     ∙ star-shape c.args.pairs.now c.args.rows.start c.args.rows.end c.requires.0 c.row_at-p.ensures c.in_all-lo.ensures c.in_all-hi.ensures c.region_of.ensures

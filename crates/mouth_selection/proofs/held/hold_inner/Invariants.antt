@@ -5,4 +5,6 @@ use Rattle.mouth_selection.proofs.Marks.{marked}
 use Rattle.mouth_selection.proofs.held.hold_inner.Given as goal
 
 abbrev pub invariant-loop-k : goal.invariant-loop-k
-invariant-loop-k l = (l.fn.rows.start ≤ l.k) × ((l.k ≤ l.fn.rows.end) × (l.marks ≡ marked l.outer l.initial.marks l.pairs l.fn.rows.start l.k))
+invariant-loop-k l =
+    (l.k-iterator.end ≡ l.fn.rows.end) × (l.fn.rows.start ≤ l.k-iterator.start) × (l.k-iterator.start ≤ l.fn.rows.end)
+    × (l.marks ≡ marked l.outer l.initial.marks l.pairs l.fn.rows.start l.k-iterator.start)

@@ -1,5 +1,6 @@
 -- The interior that `interior_at` finds at a boundary fits or does not, and `mark_edges` marks the edges of one that fits (`InteriorLoops`).
-use Rattle.std.proofs.Common.{◌≡◌, ℕ, ◌+◌, ◌≤◌, ◌<◌, Bool, false, ◌&&◌, ◌||◌, List, length, get_or, arith}
+use Rattle.std.proofs.Common.{◌≡◌, ℕ, ◌+◌, ◌≤◌, ◌<◌, Bool, true, false, ◌&&◌, ◌||◌, List, length, get_or, arith, sym, subst, ◌∙◌}
+use mathlib.Core.Bool.{or-false}
 use Rattle.std.specs.Prelude.{Option}
 use Rattle.definitions.specs.Limits.{max_entries}
 use Rattle.definitions.specs.Context.{Context}
@@ -14,6 +15,7 @@ use Rattle.topology.specs.Interiors.{Asks, Judges, Collapsed}
 use Rattle.topology.specs.Proposals.{Unmarked}
 use Rattle.topology.proofs.InteriorLoops.{judges_asks, Judging, judging_start, judging_past, judging_more, judging_ends}
 use Rattle.topology.proofs.interior_pass.judge_interiors.Goals as goal
+use Rattle.topology.proofs.interior_pass.judge_interiors.Goals.{then-interior_fits, else-interior_fits}
 
 abbrev Inv : (records : List Region) (boundaries pairs starts names : List ℕ) (owners : List FoundRegions) (found : List (Option Ports)) (count : ℕ) (removed : List Bool) (i : ℕ) → Type 0
 Inv records boundaries pairs starts names owners found count removed i =
@@ -54,16 +56,29 @@ module _ {records : List Region} {boundaries pairs starts names : List ℕ} {own
               judging_more T (judged C (judges_asks J T)) (inv.2 C J) m,
         )
 
+        -- what does not fit is left as it was
+        kept : ((C : Context) → Asks C records boundaries pairs names x → false ≡ interior_fits_lem C pairs names x.name x.begin x.ports.first x.ports.second x.end)
+            → Inv records boundaries pairs starts names owners found count removed (i + 1)
+        kept judged = again {f = false} judged removed (λ j h. sym (or-false _)) inv.1
+
 pub loop-i-init : goal.loop-i-init
 loop-i-init c = start c.requires.none_marked
 
-pub interior_fits-fits-requires : goal.interior_fits-fits-requires
-interior_fits-fits-requires c = fits-asked c.requires.interiors_found c.loop-i.invariant c.loop-i-test.true c.in-Some.ensures
+pub interior_fits-requires : goal.interior_fits-requires
+interior_fits-requires c = fits-asked c.requires.interiors_found c.loop-i.invariant c.loop-i-test.true c.in-Some.ensures
 
 pub loop-i-preserved : goal.loop-i-preserved
 loop-i-preserved c =
-    let m = c.mark_edges.ensures in
-    again c.requires.interiors_found c.loop-i.invariant c.loop-i-test.true c.in-Some.ensures c.interior_fits-fits.ensures _ m.removed m.removed_length
+    let a = c.args in
+    let X = a.context in
+    let Next : List Bool → Type 0 = λ l. Inv a.records.now X.boundaries.now X.pairs.now X.starts.now a.names.now a.owners.now a.found.now X.count l (c.loop-i.i + 1) in
+    elim c.if-interior_fits.branch [
+      | then-interior_fits w ↦ subst Next (sym w.removed-is)
+          (again c.requires.interiors_found c.loop-i.invariant c.loop-i-test.true c.in-Some.ensures {f = true} (λ C A. sym w.if-interior_fits.true ∙ c.interior_fits.ensures C A) _ w.mark_edges.ensures.removed
+          w.mark_edges.ensures.removed_length)
+      | else-interior_fits w ↦ subst Next (sym w.removed-is)
+          (kept c.requires.interiors_found c.loop-i.invariant c.loop-i-test.true c.in-Some.ensures (λ C A. sym w.if-interior_fits.false ∙ c.interior_fits.ensures C A))
+    ]
 
 pub loop-i-preserved-in_default : goal.loop-i-preserved-in_default
 loop-i-preserved-in_default c = past c.requires.interiors_found c.loop-i.invariant c.loop-i-test.true c.in_default.ensures
