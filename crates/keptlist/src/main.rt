@@ -3,15 +3,15 @@
 
 #![tactic(auto)]
 
-use sheet_answer::{INPUT_ROOM, OUTPUT_ROOM, keptlist};
+use sheet_answer::{input_room, keptlist, output_room};
 use std::io;
 use std::io::Write;
 use streams::read_full;
 
 fn main(rt: HostRuntime) -> io::Result<()> {
-    let mut input = [0; INPUT_ROOM];
+    let mut input = input_room();
     let count = read_full(&mut rt.stdin(), &mut input)?;
-    let mut output = [0; OUTPUT_ROOM];
+    let mut output = output_room();
     let end = keptlist(&input[..count], &mut output);
     rt.stdout().write_all(&output[..end])
 }

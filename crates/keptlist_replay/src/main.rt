@@ -5,7 +5,7 @@
 
 ghost use Rattle.std.specs.Prelude.{◌≤◌, length};
 
-use sheet_answer::{INPUT_ROOM, OUTPUT_ROOM, keptlist};
+use sheet_answer::{INPUT_ROOM, input_room, keptlist, output_room};
 use std::io;
 use std::io::{Read, Write};
 use streams::read_full;
@@ -23,8 +23,8 @@ fn length_of(opening: &[u8; 3]) -> usize
 
 // Reads a sheet as long as the list, and writes what is printed for it.
 fn answer_to<R: Read, W: Write>(input: &mut R, output: &mut W, sheet: &mut [u8]) -> io::Result<()> {
-    let count = read_full(input, sheet)?;
-    let mut out = [0; OUTPUT_ROOM];
+    let count = read_full(input, &mut *sheet)?;
+    let mut out = output_room();
     let end = keptlist(&sheet[0..count], &mut out);
     output.write_all(&out[..end])
 }
@@ -47,7 +47,7 @@ fn replay_all<R: Read, W: Write>(input: &mut R, output: &mut W, sheet: &mut [u8]
     requires { 65537 ≤ length sheet.old }
 {
     for _ in 0..SHEETS {
-        if !replay(input, output, sheet)? {
+        if !replay(input, output, &mut *sheet)? {
             return Ok(());
         }
     }
@@ -57,6 +57,6 @@ fn replay_all<R: Read, W: Write>(input: &mut R, output: &mut W, sheet: &mut [u8]
 fn main(rt: HostRuntime) -> io::Result<()> {
     let mut input = rt.stdin();
     let mut output = rt.stdout();
-    let mut sheet = [0; INPUT_ROOM];
+    let mut sheet = input_room();
     replay_all(&mut input, &mut output, &mut sheet)
 }

@@ -10,15 +10,15 @@ ghost use Rattle.printed.specs.Contract.{Printed};
 ghost use Rattle.sheet_answer.specs.Contract.{Inside};
 
 use crate::runs::{ROWS_ROOM, run_sheet};
-use definitions::limits::{MAX_ENTRIES, NUMBERS_PER_ROW};
+use definitions::limits::NUMBERS_PER_ROW;
 use printed::{print_kept, print_refused};
 use sheet::SHEET_BYTES_MOST;
 
-// Room for the bytes of a sheet, and one more: it shows that there are too many, so that no more need be read.
+// One byte more than a sheet may have: it shows that there are too many, so that no more need be read.
 pub const INPUT_ROOM: usize = SHEET_BYTES_MOST + 1;
 
-// Room for the longest list that is printed: a line of 64 bytes, and 105 for each row.
-pub const OUTPUT_ROOM: usize = 64 + 105 * MAX_ENTRIES;
+// A line of 64 bytes and 256 rows of 105.
+pub const OUTPUT_ROOM: usize = 26_944;
 
 // What `keptlist` prints for these bytes, and how many they are. The type of `out` gives room for the longest list.
 pub fn keptlist(bytes: &[u8], out: &mut [u8; OUTPUT_ROOM]) -> usize
@@ -33,4 +33,18 @@ pub fn keptlist(bytes: &[u8], out: &mut [u8; OUTPUT_ROOM]) -> usize
         }
         Err(refusal) => print_refused(out, refusal),
     }
+}
+
+// Room for the bytes of a sheet.
+pub fn input_room() -> [u8; INPUT_ROOM]
+    ensures { 65537 ≡ length result }
+{
+    [0; INPUT_ROOM]
+}
+
+// Room for the longest list that is printed.
+pub fn output_room() -> [u8; OUTPUT_ROOM]
+    ensures { 26944 ≡ length result }
+{
+    [0; OUTPUT_ROOM]
 }
