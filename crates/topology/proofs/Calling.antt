@@ -50,6 +50,11 @@ marked_as M needed count boundaries {m} {q} {m'} {q'} {was} {removed} e K = subs
 pub fills-on : {g : TerrainGrid} (x : TerrainGrid) {M : Map} {room regions : ℕ} {l q : List ℕ} → g ≡ x → Fills M room regions x.width x.cells.now l q → Fills M room regions g.width g.cells.now l q
 fills-on x {M} {room} {regions} {l} {q} e F = subst (λ (g : TerrainGrid). Fills M room regions g.width g.cells.now l q) (sym e) F
 
+pub finished-on : {g : TerrainGrid} (x : TerrainGrid) {count : ℕ} {boundaries : List ℕ} {removed : List Bool} {m q o m' q' o' : List ℕ} {r : ℕ} → g ≡ x
+    → Finished (g.height * g.width) count boundaries removed m q o m' q' o' r → Finished (x.height * x.width) count boundaries removed m q o m' q' o' r
+finished-on x {count} {boundaries} {removed} {m} {q} {o} {m'} {q'} {o'} {r} e F =
+    subst (λ (g : TerrainGrid). Finished (g.height * g.width) count boundaries removed m q o m' q' o' r) e F
+
 -- ---- the call
 
 module _ {pass w h : ℕ} {cells spans boundaries anchors : List ℕ} {room output : ℕ} {l m q t p l' m' q' t' p' : List ℕ} where

@@ -9,8 +9,8 @@ use native.Mathlib.Omega.{arith}
 use mathlib.Core.Path.{◌≡◌, refl, sym, ap, subst, ◌∙◌}
 use mathlib.Core.Bool.{Bool, true, false, not, ◌&&◌, cond}
 use Rattle.std.specs.Prelude.{Option, None, Some}
-use mathlib.Core.List.{List, []}
-use lib.ListN.{length, take, get_or}
+use mathlib.Core.List.{List, [], ◌++◌}
+use lib.ListN.{length, take, get_or, get_or-append}
 use lib.Seq.{get_or-take, length-take-le}
 use lib.Dec.{eqb}
 use Rattle.definitions.specs.Context.{Context}
@@ -28,8 +28,8 @@ use Rattle.mouth_regions.specs.Near.{region_near}
 use Rattle.mouth_selection.specs.Entries.{SafeMouth, Known, proposed}
 use Rattle.mouth_selection.specs.Held.{is_refused, TakenState}
 use Rattle.mouth_selection.specs.Keys.{is_better}
-use Rattle.mouth_selection.specs.Rounds.{better}
-use Rattle.mouth_selection.specs.Selecting.{Lists, Progress, BestOf}
+use Rattle.mouth_selection.specs.Rounds.{better, Under, least_among}
+use Rattle.mouth_selection.specs.Selecting.{Lists, Progress, BestOf, ForRamp, row_of}
 use Rattle.mouth_selection.proofs.NearLeast.{best_of}
 use Rattle.mouth_selection.proofs.ProposalLists.{fresh-marks, round_first}
 use Rattle.mouth_selection.proofs.RoundLaws.{better-shown}
@@ -200,3 +200,33 @@ module _ {C : Context} {records : List Region} {boundaries tallies pairs starts 
         of_ramps = record { known = λ a l. absurd (omega (arith, l)); under = λ a l. absurd (omega (arith, l)) };
         anchored = R.shows.anchored;
       }
+
+-- ---- the bests of the first ramps
+
+-- of no ramp anything is known, whatever list is lent
+pub bests-none : {C : Context} {marks : List ℕ} {gone ends : List Bool} {bests bests' : List (Option Candidate)} → Progress C marks gone ends bests 0 → Progress C marks gone ends bests' 0
+bests-none P =
+    record {
+      chosen = P.chosen;
+      state = P.state;
+      same = P.same;
+      of_ramps = record { known = λ a l. absurd (omega (arith, l)); under = λ a l. absurd (omega (arith, l)) };
+      anchored = P.anchored;
+    }
+
+-- what is known of a list is known where others follow
+pub bests-front : {C : Context} {marks : List ℕ} {gone ends : List Bool} {front : List (Option Candidate)} {n : ℕ} (rest : List (Option Candidate)) → n ≤ length front → Progress C marks gone ends front n
+    → Progress C marks gone ends (front ++ rest) n
+bests-front {C} {front = front} rest m P =
+    record {
+      chosen = P.chosen;
+      state = P.state;
+      same = P.same;
+      of_ramps = record {
+        known = λ a l. subst (OnO (ForRamp C a)) (sym (get_or-append front rest None a (omega (arith, l, m)))) (P.of_ramps.known a l);
+        under = λ a l.
+            subst (λ o. Under (ranks_before C) (λ p. not (is_refused C P.chosen p)) (proposed C o) (least_among C P.chosen (row_of C a)))
+            (sym (get_or-append front rest None a (omega (arith, l, m)))) (P.of_ramps.under a l);
+      };
+      anchored = P.anchored;
+    }

@@ -71,18 +71,16 @@ module _ (rs : List Region) (numbers : List ℕ) (i : ℕ) where
 
 -- ---- as many as there is room for
 
-take_least : {A : Type 0} (c k n : ℕ) (l : List A) → c ≡ min (min n (length l)) k → take k (take n l) ≡ take c l
-take_least zero zero n l e = refl
-take_least zero (suc k) zero l e = refl
-take_least zero (suc k) (suc n) [] e = refl
-take_least zero (suc k) (suc n) (x ∷ l) e = absurd (omega (arith, e))
-take_least (suc c) zero n l e = absurd (omega (arith, e))
-take_least (suc c) (suc k) zero l e = absurd (omega (arith, e))
-take_least (suc c) (suc k) (suc n) [] e = absurd (omega (arith, e))
-take_least {A} (suc c) (suc k) (suc n) (x ∷ l) e = ap {B = List A} (λ r. x ∷ r) (take_least c k n l (omega (arith, e)))
+take_least : {A : Type 0} (c k : ℕ) (l : List A) → c ≡ min (length l) k → take k l ≡ take c l
+take_least zero zero l e = refl
+take_least zero (suc k) [] e = refl
+take_least zero (suc k) (x ∷ l) e = absurd (omega (arith, e))
+take_least (suc c) zero l e = absurd (omega (arith, e))
+take_least (suc c) (suc k) [] e = absurd (omega (arith, e))
+take_least {A} (suc c) (suc k) (x ∷ l) e = ap {B = List A} (λ r. x ∷ r) (take_least c k l (omega (arith, e)))
 
-pub all-written : (rs : List Region) (n : ℕ) (numbers : List ℕ) {c : ℕ} → c ≡ min (min n (length rs)) (length numbers / numbers_per_record)
-    → overwrite (all_numbers (map record_of (take c rs))) numbers ≡ with_records (map record_of (take n rs)) numbers
-all-written rs n numbers {c} e =
+pub all-written : (rs : List Region) (numbers : List ℕ) {c : ℕ} → c ≡ min (length rs) (length numbers / numbers_per_record)
+    → overwrite (all_numbers (map record_of (take c rs))) numbers ≡ with_records (map record_of rs) numbers
+all-written rs numbers {c} e =
     let room = length numbers / numbers_per_record in
-    ap (λ l. overwrite (all_numbers l) numbers) (ap (map record_of) (sym (take_least c room n rs e)) ∙ map-take record_of room (take n rs))
+    ap (λ l. overwrite (all_numbers l) numbers) (ap (map record_of) (sym (take_least c room rs e)) ∙ map-take record_of room rs)

@@ -56,6 +56,26 @@ module _ {C : Context} {records : List Region} {boundaries : List ℕ} {full : L
         fits = λ k l. rw (h.shown.counted, h.shown.labelled) (fits k l);
       }
 
+-- what is asked of the first n rows is asked of them as a list of their own, and what is answered of that list is answered of them
+pub allows-front : {C : Context} {records : List Region} {boundaries marks : List ℕ} {rows : List Candidate} {n : ℕ} → Allows C records boundaries marks rows n
+    → Allows C records boundaries marks (take n rows) (length (take n rows))
+allows-front {C} {rows = rows} {n = n} h =
+    let size = length-take-le n rows h.whole in
+    record {
+      held = h.held;
+      told = h.told;
+      few = omega (arith, size, h.few);
+      whole = omega arith;
+      fits = λ k b. subst (λ r. RowFits C.count C.regions (form r)) (sym (get_or-take n rows k nothing (omega (arith, b, size)))) (h.fits k (omega (arith, b, size)));
+    }
+
+pub allowed-front : {C : Context} {rows : List Candidate} {n : ℕ} {allowed : List Bool} → n ≤ length rows → Allowed C (take n rows) (length (take n rows)) allowed → Allowed C rows n allowed
+allowed-front {C} {rows} {n} l a =
+    record {
+      long = a.long;
+      at = λ k b. a.at k (omega (arith, b, length-take-le n rows l)) ∙ ap (λ r. is_allowed C (form r)) (get_or-take n rows k nothing b);
+    }
+
 -- of the first n rows the same is said as of the list that they are cut off from
 pub proposed-front : {C : Context} {rows : List Candidate} {allowed : List Bool} {count regions n : ℕ} → n ≤ length rows → Proposed C count regions rows allowed n
     → Proposed C count regions (take n rows) allowed (length (take n rows))

@@ -1,6 +1,6 @@
 -- The contract of the call for two desks, over the lent records as they are declared, and the words of the contracts of its parts. Definitions only; assumes
 -- nothing.
-use Rattle.std.specs.Prelude.{ℕ, ◌*◌, ◌≡◌, List, [], map, length, drop}
+use Rattle.std.specs.Prelude.{ℕ, ◌*◌, ◌≡◌, cond, eqb, List, [], map, length, drop}
 use Rattle.definitions.specs.Grid.{map_of}
 use Rattle.definitions.specs.Lists.{zeroed}
 use Rattle.definitions.specs.Partition.{region_count}
@@ -16,9 +16,20 @@ use Rattle.topology.specs.Contract.{written}
 use Rattle.topology.specs.declared.two_desks.DesksKept.{DesksKept}
 use Rattle.topology.specs.declared.two_desks.DesksAnswer.{DesksAnswer}
 use Rattle.topology.specs.declared.two_desks.SharedTerrain.{SharedTerrain}
+use Rattle.topology.specs.declared.two_desks.DeskOrder.{DeskOrder}
+use Rattle.topology.specs.declared.two_desks.DeskOrder.TheVariants.{RouteFirst, CoachingFirst}
+use Rattle.desk_checks.specs.declared.own.Desk as lent
 
 abbrev pub desk_of : ℕ → List ℕ → List ℕ → List ℕ → Desk
 desk_of pass boundaries anchors output = record { pass = pass; boundaries = boundaries; anchors = anchors; output = output }
+
+-- the same of a desk as a function takes it, with its output
+abbrev pub desk_in : lent.Desk → List ℕ → Desk
+desk_in d output = desk_of d.pass d.boundaries.now d.anchors.now output
+
+-- which desk goes first, as C tells it
+abbrev pub order_of : ℕ → DeskOrder
+order_of n = cond (eqb n 0) RouteFirst CoachingFirst
 
 -- what C is given of both results
 abbrev pub desks_answer : DesksKept → DesksAnswer
@@ -62,7 +73,7 @@ pub record Terrain (G : Ground) (w h : ℕ) (spans : List ℕ) (regions rows : �
 
 -- the same of a struct of what is told of it, its records and the lists, in this order
 abbrev pub TerrainIn : Ground → SharedTerrain → List Region → (l m q t p : List ℕ) → Type 0
-TerrainIn G x s l m q t p = Terrain G x.width x.height x.spans.now x.ready.regions x.ready.rows l m q t p s
+TerrainIn G x s l m q t p = Terrain G x.asked.width x.asked.height x.asked.spans.now x.ready.regions x.ready.rows l m q t p s
 
 -- a desk was served; masks and queue are as they were
 pub record DeskRan (G : Ground) (w h : ℕ) (spans : List ℕ) (D : Desk) (m q : List ℕ) (a : verdict.Answer) (m' q' o' : List ℕ) : Type 0 where

@@ -14,7 +14,10 @@ use Rattle.context.specs.declared.Region.{Region}
 use Rattle.context.specs.Shown.{ShownBoundaries, ShownTallies, ShownPairs}
 use Rattle.mouth_proposals.specs.Candidates.{is_broad}
 use Rattle.mouth_proposals.specs.Lent.{Placed, Shows}
+use Rattle.mouth_selection.specs.declared.taken.Taken.{Taken}
 use Rattle.mouth_selection.specs.Entries.{Known, proposed}
+use Rattle.mouth_selection.specs.Held.{TakenState}
+use Rattle.mouth_selection.specs.Selecting.{Progress, is_stale}
 use Rattle.mouth_selection.specs.Rounds.{better_near, near_least}
 use Rattle.mouth_regions.specs.Inner.{inner_at, passes}
 use Rattle.mouth_regions.specs.Near.{region_near}
@@ -101,3 +104,13 @@ PassRampAsked C records given = RampAsked C records given.boundaries.now given.t
 
 abbrev pub PassReplaces : Context → List Region → PartitionContext → List ℕ → List ℕ → Type 0
 PassReplaces C records given = Replaces C records given.boundaries.now given.tallies.now given.pairs.now given.starts.now given.count
+
+-- the same of what is taken, as a function takes it
+abbrev pub TakenIn : Context → List MouthProposal → Taken → Type 0
+TakenIn C chosen t = TakenState C chosen t.removed t.ramp_ends t.marks.now
+
+abbrev pub ProgressIn : Context → Taken → List (Option Candidate) → ℕ → Type 0
+ProgressIn C t = Progress C t.marks.now t.removed t.ramp_ends
+
+abbrev pub stale_in : PartitionContext → Taken → Option Candidate → Bool
+stale_in given t = is_stale given.pairs.now given.starts.now t.marks.now t.removed t.ramp_ends

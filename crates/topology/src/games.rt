@@ -45,7 +45,7 @@ pub fn run_kept(
     let graph = divide_kept(grid, asked.spans, &removed, ready.rows, room, lists);
     renew(records, ready.regions, graph.regions, grid, &*lists);
     let kept = finish(
-        asked.height as usize * asked.width as usize,
+        grid.height * grid.width,
         asked.boundaries.len() / NUMBERS_PER_BOUNDARY,
         asked.boundaries,
         &removed,
@@ -83,6 +83,7 @@ pub fn topology_runner_and_guard(
         lists,
     )?;
     let second = run_kept(pass, asked, ready, lists, records, output);
+    // Kept: a name for the list; behind a read of `lists.pairs` itself a proof does not know that it is as it was.
     let pairs = &mut *lists.pairs;
     play(
         second.kept,

@@ -13,30 +13,30 @@ use junction_selection::found::FoundRows;
 use junction_selection::selection::select_proposals;
 
 // What stands where no row was put.
-pub const NO_ROW: Candidate = Candidate {
+pub(crate) const NO_ROW: Candidate = Candidate {
     index: 0,
     kind: Kind::Union,
     first: 0,
     second: 0,
 };
 
-// Which of the n proposals of pass 3 the records of their regions allow.
+// Which of these proposals of pass 3 the records of their regions allow.
 pub fn allow_proposals(
     records: &[Region],
     boundaries: &[u64],
     marks: &[u16],
     rows: &[Candidate],
-    n: usize,
     allowed: &mut [bool; MAX_PROPOSALS],
 )
-    requires rows_fit { (C : Context) × Allows C records.now boundaries.now marks.now rows.now n }
+    requires rows_fit { (C : Context) × Allows C records.now boundaries.now marks.now rows.now (length rows.now) }
     requires allowed_long { length allowed.old ≡ max_proposals }
     ensures { (C : Context) →
-        Allows C records.now boundaries.now marks.now rows.now n →
-        Allowed C rows.now n allowed.new }
+        Allows C records.now boundaries.now marks.now rows.now (length rows.now) →
+        Allowed C rows.now (length rows.now) allowed.new }
 {
-    // Kept: with `zip` over `allowed.iter_mut()` no index would be named, but of what an adapter of `iter_mut` lends a proof knows nothing behind the loop.
-    for (k, &row) in rows[..n].iter().enumerate() {
+    // Kept: `zip` of `allowed.iter_mut()` and the rows would name no index, but of what `zip` lends a proof knows nothing behind the loop; `enumerate` over
+    // `iter_mut` would name one all the same, for the row.
+    for (k, &row) in rows.iter().enumerate() {
         let first = records[first_place(row)];
         let second = records[second_place(row)];
         allowed[k] = is_allowed(boundaries, marks, row, first, second);
@@ -44,7 +44,7 @@ pub fn allow_proposals(
 }
 
 // The proposals of pass 3, as rows, and which of them the records of their regions allow; gives how many rows there are.
-fn allowed_proposals(
+pub(crate) fn allowed_proposals(
     records: &[Region],
     lists: &JunctionLists,
     rows: &mut [Candidate],
@@ -55,30 +55,7 @@ fn allowed_proposals(
     ensures { (C : Context) → PassesIn C records.now lists.now → Proposed C lists.now.count lists.now.regions rows.new allowed.new result }
 {
     let n = find_proposals(lists, rows);
-    allow_proposals(records, lists.boundaries, lists.marks, rows, n, allowed);
-    n
-}
-
-// These, and marks the boundaries of those that are selected. No boundary is marked before.
-pub fn select_junctions(
-    records: &[Region],
-    lists: &JunctionLists,
-    rows: &mut [Candidate],
-    allowed: &mut [bool; MAX_PROPOSALS],
-    removed: &mut [bool; MAX_ENTRIES],
-) -> usize
-    requires lists_show { (C : Context) × PassesIn C records.now lists.now }
-    requires room { (max_proposals ≤ length rows.old) × (length allowed.old ≡ max_proposals) }
-    requires none_marked { Unmarked removed.old lists.now.count }
-    ensures proposed { (C : Context) → PassesIn C records.now lists.now → Proposed C lists.now.count lists.now.regions rows.new allowed.new result }
-    ensures removes { (C : Context) → PassesIn C records.now lists.now → Removes C lists.now.count removed.new }
-{
-    let n = allowed_proposals(records, lists, rows, allowed);
-    let found = FoundRows {
-        lists,
-        rows: &rows[..n],
-    };
-    select_proposals(&found, allowed, removed);
+    allow_proposals(records, lists.boundaries, lists.marks, &rows[..n], allowed);
     n
 }
 
@@ -95,5 +72,10 @@ pub fn remove_junction_boundaries(
 {
     let mut rows = [NO_ROW; MAX_PROPOSALS];
     let mut allowed = [false; MAX_PROPOSALS];
-    select_junctions(records, lists, &mut rows, &mut allowed, removed);
+    let n = allowed_proposals(records, lists, &mut rows, &mut allowed);
+    let found = FoundRows {
+        lists,
+        rows: &rows[..n],
+    };
+    select_proposals(&found, &allowed, removed);
 }

@@ -44,10 +44,11 @@ pub fn topology_kept_boundaries(
     ensures same { SameLists lists.old lists.new }
 {
     let (pass, ready) = prepare(pass, asked, records.len(), output.len(), lists)?;
-    fill(records, ready.regions, asked.grid(), &*lists);
+    let grid = asked.grid();
+    fill(records, ready.regions, grid, &*lists);
     let removed = mark_asked(pass, asked, ready, records, lists);
     let kept = finish(
-        asked.height as usize * asked.width as usize,
+        grid.height * grid.width,
         asked.boundaries.len() / NUMBERS_PER_BOUNDARY,
         asked.boundaries,
         &removed,

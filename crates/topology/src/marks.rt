@@ -110,9 +110,8 @@ pub fn mark_removed(
 }
 
 // The marks of the boundaries that the pass removes of what a call is asked: labels, tallies and pairs are those of its partition.
-// Kept: the lists one by one. With `PartitionLists` this function would lend them to `SpanPartition`, and a proof does not know behind such a loan, by a
-// struct,
-// that a list is as it was.
+// Kept: the lists one by one. With `PartitionLists` this function would lend three of them to `SpanPartition`, and behind a loan by a struct a proof does not
+// know that a list is as it was.
 fn mark_lent(
     pass: Pass,
     asked: Asked,
@@ -165,12 +164,19 @@ pub(crate) fn mark_asked(
     ensures read { SameFilled lists.old lists.new }
     ensures same { SameLists lists.old lists.new }
 {
+    // Kept: each list that is read is lent to a name of its own first; `lists.labels` beside `lists.masks` in one call is what the borrow checker refuses.
     let labels = &mut *lists.labels;
-    let masks = &mut *lists.masks;
-    let queue = &mut *lists.queue;
     let tallies = &mut *lists.tallies;
     let pairs = &mut *lists.pairs;
     mark_lent(
-        pass, asked, ready, records, &*labels, &*tallies, &*pairs, masks, queue,
+        pass,
+        asked,
+        ready,
+        records,
+        &*labels,
+        &*tallies,
+        &*pairs,
+        lists.masks,
+        lists.queue,
     )
 }

@@ -7,9 +7,8 @@ ghost use Rattle.laws.specs.ListLaws.Options.{OnO};
 ghost use Rattle.mouth_proposals.specs.Listed.{proposal_as};
 ghost use Rattle.mouth_regions.specs.Inner.{places_of};
 ghost use Rattle.mouth_selection.specs.Entries.{Known};
-ghost use Rattle.mouth_selection.specs.Held.{TakenState};
-ghost use Rattle.mouth_selection.specs.Selecting.{BestOf, Progress, is_stale};
-ghost use Rattle.topology.specs.Mouths.{near_at, BetterNear, NearBest, NoMarks, Replaced};
+ghost use Rattle.mouth_selection.specs.Selecting.{BestOf};
+ghost use Rattle.topology.specs.Mouths.{near_at, TakenIn, ProgressIn, stale_in, BetterNear, NearBest, NoMarks, Replaced};
 ghost use Rattle.topology.specs.Mouths.{PassLocates, PassEntryAsked, PassNearAsked, PassRampAsked, PassReplaces};
 
 use context::{PartitionContext, Region};
@@ -67,11 +66,9 @@ fn better_near(
     ensures better { (C : Context) (chosen : List definition.MouthProposal) →
         PassEntryAsked C records.now context.entry taken.now.marks.now entry →
         OnO (Known C) best →
-        TakenState C chosen taken.now.removed taken.now.ramp_ends taken.now.marks.now →
+        TakenIn C chosen taken.now →
         BetterNear C chosen best entry result }
-    ensures left { is_stale context.entry.pairs.now context.entry.starts.now taken.now.marks.now taken.now.removed taken.now.ramp_ends best ≡ false →
-        is_stale context.entry.pairs.now context.entry.starts.now taken.now.marks.now taken.now.removed taken.now.ramp_ends result
-        ≡ false }
+    ensures left { stale_in context.entry taken.now best ≡ false → stale_in context.entry taken.now result ≡ false }
 {
     let proposal = entry.proposal();
     if is_better(context.boundaries, entry, best)
@@ -92,12 +89,12 @@ fn best_near(
 ) -> Option<Candidate>
     requires asked { (C : Context) × ((chosen : List definition.MouthProposal)
         × (PassNearAsked C records.now context taken.now.marks.now entries.now (length entries.now)
-        × TakenState C chosen taken.now.removed taken.now.ramp_ends taken.now.marks.now)) }
+        × TakenIn C chosen taken.now)) }
     ensures least { (C : Context) (chosen : List definition.MouthProposal) →
         PassNearAsked C records.now context.entry taken.now.marks.now entries.now (length entries.now) →
-        TakenState C chosen taken.now.removed taken.now.ramp_ends taken.now.marks.now →
+        TakenIn C chosen taken.now →
         NearBest C chosen entries.now (length entries.now) result }
-    ensures left { is_stale context.entry.pairs.now context.entry.starts.now taken.now.marks.now taken.now.removed taken.now.ramp_ends result ≡ false }
+    ensures left { stale_in context.entry taken.now result ≡ false }
 {
     entries.iter().fold(None, |best, &entry| {
         better_near(records, context, taken, best, entry)
@@ -113,12 +110,12 @@ fn best_of_ramp(
     a: usize,
 ) -> Option<Candidate>
     requires { (C : Context) × ((chosen : List definition.MouthProposal) × (PassRampAsked C records.now context taken.now.marks.now counts.now a
-        × TakenState C chosen taken.now.removed taken.now.ramp_ends taken.now.marks.now)) }
+        × TakenIn C chosen taken.now)) }
     ensures best { (C : Context) (chosen : List definition.MouthProposal) →
         PassRampAsked C records.now context.entry taken.now.marks.now counts.now a →
-        TakenState C chosen taken.now.removed taken.now.ramp_ends taken.now.marks.now →
+        TakenIn C chosen taken.now →
         BestOf C chosen a result }
-    ensures left { is_stale context.entry.pairs.now context.entry.starts.now taken.now.marks.now taken.now.removed taken.now.ramp_ends result ≡ false }
+    ensures left { stale_in context.entry taken.now result ≡ false }
 {
     let mut entries = [Candidate::blank(); MAX_ENTRIES];
     let regions = RegionMarks {
@@ -138,15 +135,14 @@ fn find_bests(
     bests: &mut [Option<Candidate>; MAX_ENTRIES],
 )
     requires { (C : Context) × ((marks₀ : List ℕ) × (PassReplaces C records.now context marks₀ counts.now
-        × Progress C taken.now.marks.now taken.now.removed taken.now.ramp_ends bests.old 0)) }
+        × ProgressIn C taken.now bests.old 0)) }
     ensures { (C : Context) (marks₀ : List ℕ) →
         PassReplaces C records.now context.entry marks₀ counts.now →
-        Progress C taken.now.marks.now taken.now.removed taken.now.ramp_ends bests.old 0 →
-        Progress C taken.now.marks.now taken.now.removed taken.now.ramp_ends bests.new context.entry.count }
+        ProgressIn C taken.now bests.old 0 →
+        ProgressIn C taken.now bests.new context.entry.count }
 {
-    // Kept: a is also the boundary whose best is found, and with `iter_mut().enumerate()` it stands beside each best all the same.
-    for a in 0..context.count {
-        bests[a] = best_of_ramp(records, context, counts, taken, a);
+    for (a, best) in bests[..context.count].iter_mut().enumerate() {
+        *best = best_of_ramp(records, context, counts, taken, a);
     }
 }
 

@@ -1,5 +1,5 @@
 // Records of regions in plain numbers, for programs that print them.
-ghost use Rattle.std.specs.Prelude.{◌≡◌, map, ◌+◌, ◌≤◌, length, take};
+ghost use Rattle.std.specs.Prelude.{◌≡◌, map, ◌+◌, ◌≤◌, length};
 ghost use Rattle.std.proofs.lemmas.List.Edits.{sets};
 ghost use Rattle.std.specs.Float.{binary64};
 ghost use Rattle.std.specs.Float.Ieee.{to_bits};
@@ -55,12 +55,11 @@ fn put_numbers(numbers: &mut [u64], at: usize, r: Region)
     numbers[at..at + NUMBERS_PER_RECORD].copy_from_slice(&n);
 }
 
-// Writes the first records in numbers, as many as there is room for.
-pub fn put_records(records: &[Region], first: usize, numbers: &mut [u64])
-    ensures { numbers.new ≡ with_records (map record_of (take first records.now)) numbers.old }
+// Writes the records in numbers, as many as there is room for.
+pub fn put_records(records: &[Region], numbers: &mut [u64])
+    ensures { numbers.new ≡ with_records (map record_of records.now) numbers.old }
 {
-    let lent = first.min(records.len());
-    let count = lent.min(numbers.len() / NUMBERS_PER_RECORD);
+    let count = records.len().min(numbers.len() / NUMBERS_PER_RECORD);
     for (i, &r) in records[..count].iter().enumerate() {
         put_numbers(numbers, NUMBERS_PER_RECORD * i, r);
     }

@@ -1,11 +1,8 @@
 // The call with records of its own, for callers that lend plain lists alone.
-ghost use Rattle.std.specs.Prelude.{◌≡◌, map, replicate};
-ghost use Rattle.definitions.specs.RegionRecord.{empty_region};
-ghost use Rattle.context.specs.Records.{record_of};
 ghost use Rattle.refusals.specs.Answers.{answer_of};
 ghost use Rattle.areas.specs.Lists.{of_lists, SameLists};
 ghost use Rattle.call_partition.specs.Asking.{of_asked};
-ghost use Rattle.topology.specs.Contract.{records_here, lends_here, leaves_here, RanHere};
+ghost use Rattle.topology.specs.Contract.{lends_here, leaves_here, RanHere};
 
 use crate::numbers::{RECORDS_HERE, put_records};
 use crate::topology_kept_boundaries;
@@ -13,13 +10,6 @@ use areas::lists::PartitionLists;
 use call_partition::asked::Asked;
 use context::Region;
 use refusals::Refusal;
-
-fn empty_records() -> [Region; RECORDS_HERE]
-    ensures { map record_of result ≡ replicate records_here empty_region }
-{
-    let empty = Region::empty();
-    [empty; RECORDS_HERE]
-}
 
 // The call with `room` records, at most 512. They are empty at entry and, as far as there is room, written in numbers at the end.
 pub fn kept_boundaries_here(
@@ -35,8 +25,8 @@ pub fn kept_boundaries_here(
     ensures same { SameLists lists.old lists.new }
 {
     let lent = room.min(RECORDS_HERE);
-    let mut records: [Region; RECORDS_HERE] = empty_records();
+    let mut records = [Region::empty(); RECORDS_HERE];
     let answer = topology_kept_boundaries(pass, asked, lists, &mut records[..lent], output);
-    put_records(&records, lent, numbers);
+    put_records(&records[..lent], numbers);
     answer
 }

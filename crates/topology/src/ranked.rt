@@ -14,7 +14,7 @@ ghost use Rattle.call_partition.specs.Asking.{of_asked};
 ghost use Rattle.topology.specs.Lent.{lends, leaves};
 ghost use Rattle.topology.specs.Ranked.{Ranked, RankedFor, RankedOver};
 
-use crate::junction_pass::{NO_ROW, select_junctions};
+use crate::junction_pass::{NO_ROW, allowed_proposals};
 use crate::records::fill;
 use areas::lists::PartitionLists;
 use call_partition::asked::Asked;
@@ -24,6 +24,7 @@ use definitions::limits::{MAX_ENTRIES, NUMBERS_PER_BOUNDARY, NUMBERS_PER_SPAN};
 use junction_proposals::lists::JunctionLists;
 use junction_proposals::proposals::MAX_PROPOSALS;
 use junction_selection::found::FoundRows;
+use junction_selection::selection::select_proposals;
 use pass_lists::{SpanPartition, view};
 use ranked_finish::{RankedKept, finish_ranked};
 use ranked_rows::{RankedRow, list_ranked};
@@ -49,11 +50,12 @@ pub fn rank_junctions(
 {
     let mut rows = [NO_ROW; MAX_PROPOSALS];
     let mut allowed = [false; MAX_PROPOSALS];
-    let n = select_junctions(records, lists, &mut rows, &mut allowed, removed);
+    let n = allowed_proposals(records, lists, &mut rows, &mut allowed);
     let found = FoundRows {
         lists,
         rows: &rows[..n],
     };
+    select_proposals(&found, &allowed, removed);
     list_ranked(&found, &allowed, listed)
 }
 
@@ -131,6 +133,7 @@ pub fn topology_ranked_junctions(
     fill(records, ready.regions, asked.grid(), &*lists);
     let mut removed = [false; MAX_ENTRIES];
     let mut listed = [NO_RANKED; MAX_PROPOSALS];
+    // Kept: each list has a name of its own, as in `mark_asked` of `marks`.
     let labels = &mut *lists.labels;
     let masks = &mut *lists.masks;
     let queue = &mut *lists.queue;

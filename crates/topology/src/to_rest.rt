@@ -1,6 +1,6 @@
 // The call that runs the passes to rest, over the lent slice of region records.
 ghost use Rattle.std.specs.Prelude.{◌≡◌, ◌≤◌, ◌*◌, List, ℕ, false, length, replicate, take};
-ghost use Rattle.definitions.specs.Limits.{max_entries};
+ghost use Rattle.definitions.specs.Limits.{max_entries, numbers_per_boundary};
 ghost use Rattle.definitions.specs.Grid.{Map};
 ghost use Rattle.context.specs.Records.{max_cells};
 ghost use Rattle.topology.specs.Marks.{Lent, MarkedFor, SameFilled};
@@ -24,6 +24,7 @@ use context::Region;
 use definitions::limits::{MAX_ENTRIES, NUMBERS_PER_BOUNDARY, NUMBERS_PER_SPAN};
 use grid_steps::grid::TerrainGrid;
 use refusals::Refusal;
+use refusals::answers::Answer;
 use rest_lists::begin::begin_rest;
 use rest_lists::kept::{KeptLists, Standing, divide_again, finish_rest};
 use rest_lists::turns::{first_turn, next_turn, rounds_of};
@@ -55,11 +56,14 @@ impl From<Result<RestKept, Refusal>> for RestAnswer {
                 value: rest.kept as u64,
                 rounds: rest.rounds,
             },
-            Err(refusal) => RestAnswer {
-                number: refusal.cause.number(),
-                value: refusal.place as u64,
-                rounds: 0,
-            },
+            Err(refusal) => {
+                let Answer { number, value } = Answer::from(refusal);
+                RestAnswer {
+                    number,
+                    value,
+                    rounds: 0,
+                }
+            }
         }
     }
 }
@@ -76,16 +80,18 @@ fn mark_kept<'x>(
 ) -> [bool; MAX_ENTRIES]
     requires few { (standing.kept ≤ max_entries) × (grid.height * grid.width ≤ max_cells) }
     requires map_shown { (M : Map) × Lent M records.now grid.width (grid.height * grid.width) lists.old.labels.now anchors.now
-        standing.regions standing.rows standing.kept (take (9 * standing.kept) kept.now.boundaries)
+        standing.regions standing.rows standing.kept (take (numbers_per_boundary * standing.kept) kept.now.boundaries)
         lists.old.tallies.now lists.old.pairs.now (length lists.old.masks.now) (length lists.old.queue.now) }
     ensures marked { (M : Map) → Lent M records.now grid.entry.width (grid.entry.height * grid.entry.width) lists.old.labels.now anchors.now
-        standing.regions standing.rows standing.kept (take (9 * standing.kept) kept.now.boundaries)
+        standing.regions standing.rows standing.kept (take (numbers_per_boundary * standing.kept) kept.now.boundaries)
         lists.old.tallies.now lists.old.pairs.now (length lists.old.masks.now) (length lists.old.queue.now)
-        → MarkedFor (pass_number pass) M (grid.entry.height * grid.entry.width) standing.kept (take (9 * standing.kept) kept.now.boundaries)
+        → MarkedFor (pass_number pass) M (grid.entry.height * grid.entry.width) standing.kept (take (numbers_per_boundary * standing.kept) kept.now.boundaries)
         lists.old.masks.now lists.old.queue.now lists.new.masks.now lists.new.queue.now (replicate max_entries false) result }
     ensures read { SameFilled lists.old lists.new }
     ensures same { SameLists lists.old lists.new }
 {
+    // Kept: what is kept is put as a call is asked, since `mark_asked` marks for every call; with the grid, the count, the boundaries and the anchors in place
+    // of `Asked` it would take eight parameters, and the three calls that have an `Asked` would take it apart.
     let asked = Asked {
         width: grid.width as u64,
         height: grid.height as u64,

@@ -4,7 +4,7 @@ ghost use Rattle.std.specs.Prelude.{◌≡◌};
 ghost use Rattle.refusals.specs.Answers.{answer_of};
 ghost use Rattle.areas.specs.Lists.{of_lists, SameLists};
 ghost use Rattle.topology.specs.Marks.{SameFilled};
-ghost use Rattle.topology.specs.Desks.{desk_of, desks_answer, Ground, TerrainIn, DeskRan, DesksRan, lends_both, leaves-both, RanBothOver};
+ghost use Rattle.topology.specs.Desks.{desk_in, order_of, desks_answer, Ground, TerrainIn, DeskRan, DesksRan, lends_both, leaves-both, RanBothOver};
 
 use crate::marks::mark_asked;
 use crate::records::fill;
@@ -16,7 +16,6 @@ use context::Region;
 use definitions::limits::NUMBERS_PER_BOUNDARY;
 use desk_checks::own::{Desk, check_desk};
 use desk_checks::shared::prepare_shared;
-use grid_steps::grid::TerrainGrid;
 use pass_lists::finish;
 use refusals::Refusal;
 use refusals::answers::Answer;
@@ -47,13 +46,10 @@ impl From<DesksKept> for DesksAnswer {
     }
 }
 
-// The terrain of both desks, whose partition is ready.
+// The terrain of both desks, as a call with no boundaries and no anchors is asked, whose partition is ready.
 #[derive(Clone, Copy)]
 pub struct SharedTerrain<'a> {
-    pub width: u64,
-    pub height: u64,
-    pub cells: &'a [u8],
-    pub spans: &'a [u64],
+    pub asked: Asked<'a>,
     pub ready: Ready,
 }
 
@@ -68,30 +64,29 @@ pub fn run_desk(
 ) -> Result<usize, Refusal>
     requires { (G : Ground) × of_lists (TerrainIn G terrain records.now) lists.old }
     ensures ran { (G : Ground) → of_lists (TerrainIn G terrain.entry records.now) lists.old
-        → DeskRan G terrain.entry.width terrain.entry.height terrain.entry.spans.now
-        (desk_of desk.entry.pass desk.entry.boundaries.now desk.entry.anchors.now output.old)
+        → DeskRan G terrain.entry.asked.width terrain.entry.asked.height terrain.entry.asked.spans.now
+        (desk_in desk.entry output.old)
         lists.old.masks.now lists.old.queue.now (answer_of result) lists.new.masks.now lists.new.queue.now output.new }
     ensures read { SameFilled lists.old lists.new }
     ensures same { SameLists lists.old lists.new }
 {
-    let SharedTerrain {
-        width,
-        height,
-        spans,
-        ..
-    } = terrain;
-    let pass = check_desk(width, height, spans, desk, output.len())?;
+    let shared = terrain.asked;
+    let pass = check_desk(
+        shared.width,
+        shared.height,
+        shared.spans,
+        desk,
+        output.len(),
+    )?;
     let asked = Asked {
-        width,
-        height,
-        cells: terrain.cells,
-        spans,
         boundaries: desk.boundaries,
         anchors: desk.anchors,
+        ..shared
     };
+    let grid = asked.grid();
     let removed = mark_asked(pass, asked, terrain.ready, records, lists);
     let kept = finish(
-        height as usize * width as usize,
+        grid.height * grid.width,
         desk.boundaries.len() / NUMBERS_PER_BOUNDARY,
         desk.boundaries,
         &removed,
@@ -110,11 +105,14 @@ pub enum DeskOrder {
 }
 
 // As C tells it: 0, or any other number.
-fn order_of(number: u64) -> DeskOrder {
-    if number == 0 {
-        DeskOrder::RouteFirst
-    } else {
-        DeskOrder::CoachingFirst
+impl From<u64> for DeskOrder {
+    ghost from_gives = { λ number order. order ≡ order_of number };
+
+    fn from(number: u64) -> DeskOrder {
+        match number {
+            0 => DeskOrder::RouteFirst,
+            _ => DeskOrder::CoachingFirst,
+        }
     }
 }
 
@@ -131,9 +129,9 @@ pub fn run_desks(
 ) -> DesksKept
     requires { (G : Ground) × of_lists (TerrainIn G terrain records.now) lists.old }
     ensures ran { (G : Ground) → of_lists (TerrainIn G terrain.entry records.now) lists.old
-        → DesksRan G terrain.entry.width terrain.entry.height terrain.entry.spans.now
-        (desk_of route_desk.entry.pass route_desk.entry.boundaries.now route_desk.entry.anchors.now route_output.old)
-        (desk_of coaching_desk.entry.pass coaching_desk.entry.boundaries.now coaching_desk.entry.anchors.now coaching_output.old)
+        → DesksRan G terrain.entry.asked.width terrain.entry.asked.height terrain.entry.asked.spans.now
+        (desk_in route_desk.entry route_output.old)
+        (desk_in coaching_desk.entry coaching_output.old)
         lists.old.masks.now lists.old.queue.now (desks_answer result)
         lists.new.masks.now lists.new.queue.now route_output.new coaching_output.new }
     ensures read { SameFilled lists.old lists.new }
@@ -169,8 +167,8 @@ pub fn topology_two_desks(
     coaching_output: &mut [u64],
 ) -> DesksKept
     ensures ran { RanBothOver order (of_lists (lends_both width height cells.now spans.now) lists.old records.old)
-        (desk_of route_desk.entry.pass route_desk.entry.boundaries.now route_desk.entry.anchors.now route_output.old)
-        (desk_of coaching_desk.entry.pass coaching_desk.entry.boundaries.now coaching_desk.entry.anchors.now coaching_output.old)
+        (desk_in route_desk.entry route_output.old)
+        (desk_in coaching_desk.entry coaching_output.old)
         (desks_answer result)
         (of_lists leaves-both lists.new records.new route_output.new coaching_output.new) }
     ensures same { SameLists lists.old lists.new }
@@ -182,22 +180,20 @@ pub fn topology_two_desks(
             coaching: Err(refusal),
         },
         Ok(ready) => {
-            let grid = TerrainGrid {
-                width: width as usize,
-                height: height as usize,
-                cells,
-            };
-            fill(records, ready.regions, grid, &*lists);
-            clear_scratch(lists.masks, lists.queue, grid.height * grid.width);
-            let terrain = SharedTerrain {
+            let asked = Asked {
                 width,
                 height,
                 cells,
                 spans,
-                ready,
+                boundaries: &[],
+                anchors: &[],
             };
+            let grid = asked.grid();
+            fill(records, ready.regions, grid, &*lists);
+            clear_scratch(lists.masks, lists.queue, grid.height * grid.width);
+            let terrain = SharedTerrain { asked, ready };
             run_desks(
-                order_of(order),
+                DeskOrder::from(order),
                 terrain,
                 records,
                 route_desk,

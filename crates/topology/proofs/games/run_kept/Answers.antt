@@ -1,12 +1,12 @@
 -- Once the first partition is ready each part asks what those before it leave (Gaming).
 use Rattle.std.proofs.Common.{refl, ap, ◌∙◌, length, arith}
 use Rattle.call_partition.specs.Asking.{grid_in}
-use Rattle.topology.proofs.Calling.{needed-few, fills-on}
+use Rattle.topology.proofs.Calling.{needed-few, fills-on, finished-on}
 use Rattle.topology.proofs.Gaming.{runs_fills, runs-lent, runs_divides, runs_first, runs_renews, runs_finishes, ran-kept_graph, source, divides-on, kept-on, divides-still, kept-still}
 use Rattle.topology.proofs.games.run_kept.Goals as goal
 
-pub overflow_mul-asked : goal.overflow_mul-asked
-overflow_mul-asked c = record { fits = omega (arith, needed-few c.requires.1.ready.ready) }
+pub overflow_mul-grid : goal.overflow_mul-grid
+overflow_mul-grid c = rw c.grid-grid.ensures (record { fits = omega (arith, needed-few c.requires.1.ready.ready) })
 
 pub fill-requires : goal.fill-requires
 fill-requires c = (_, fills-on (grid_in c.args.asked) c.grid-grid.ensures (runs_fills c.requires.1))
@@ -59,7 +59,7 @@ finish-kept-requires c =
     let d = c.divide_kept-graph.ensures.same in
     let S = divides-on (grid_in c.args.asked) c.grid-grid.ensures (divides-still read.labels read.tallies read.pairs (runs_divides G F m.masks_long m.queue_long_lem D)) in
     let N = kept-still read.labels read.tallies read.pairs (kept-on (grid_in c.args.asked) c.grid-grid.ensures (c.divide_kept-graph.ensures.divided (source G) S)) in
-    runs_finishes G F m.masks_long m.queue_long_lem D N (d.labels_long ∙ ap length read.labels) d.masks_long d.queue_long_lem
+    rw c.grid-grid.ensures (runs_finishes G F m.masks_long m.queue_long_lem D N (d.labels_long ∙ ap length read.labels) d.masks_long d.queue_long_lem)
 
 pub returns-clause-kept : goal.returns-clause-kept
 returns-clause-kept c = λ B G.
@@ -71,4 +71,5 @@ returns-clause-kept c = λ B G.
     let S = divides-on (grid_in c.args.asked) c.grid-grid.ensures (divides-still read.labels read.tallies read.pairs (runs_divides G F m.masks_long m.queue_long_lem D)) in
     let N = kept-still read.labels read.tallies read.pairs (kept-on (grid_in c.args.asked) c.grid-grid.ensures (c.divide_kept-graph.ensures.divided (source G) S)) in
     let renews = fills-on (grid_in c.args.asked) c.grid-grid.ensures (runs_renews G F m.masks_long m.queue_long_lem D N (d.labels_long ∙ ap length read.labels) d.masks_long d.queue_long_lem c.fill.auto.records) in
-    ran-kept_graph G F m.masks_long m.queue_long_lem D N (d.labels_long ∙ ap length read.labels) d.masks_long d.queue_long_lem (c.renew.ensures _ renews) c.finish-kept.ensures refl refl refl
+    ran-kept_graph G F m.masks_long m.queue_long_lem D N (d.labels_long ∙ ap length read.labels) d.masks_long d.queue_long_lem (c.renew.ensures _ renews)
+    (finished-on (grid_in c.args.asked) c.grid-grid.ensures c.finish-kept.ensures) refl refl refl

@@ -1,8 +1,6 @@
 -- A turn reads the row's two regions from the records, which are those of the context's regions, so the function that judges a row by two records judges it by
 -- the context.
 use Rattle.std.proofs.Common.{◌≡◌, ℕ, ◌+◌, ◌-◌, ◌≤◌, ◌<◌, Bool, List, length, get_or, set, refl, sym, ap, ◌∙◌, subst, length-set, arith}
-use lib.ListN.{take}
-use lib.Seq.{get_or-take, length-take-le}
 use Rattle.definitions.specs.Context.{Context}
 use Rattle.context.specs.declared.Region.{Region}
 use Rattle.junction_proposals.specs.declared.proposals.Candidate.{Candidate}
@@ -14,34 +12,28 @@ use Rattle.topology.specs.Proposals.{Allows, Allowed}
 use Rattle.topology.proofs.ProposalLoops.{asked, allowed_more}
 use Rattle.topology.proofs.junction_pass.allow_proposals.Goals as goal
 
-abbrev Inv : (records : List Region) (boundaries marks : List ℕ) (rows : List Candidate) (n : ℕ) (allowed : List Bool) (k : ℕ) → Type 0
-Inv records boundaries marks rows n allowed k =
-    (k ≤ n) × (length allowed ≡ max_proposals) × ((C : Context) → Allows C records boundaries marks rows n → Allowed C rows k allowed)
+abbrev Inv : (records : List Region) (boundaries marks : List ℕ) (rows : List Candidate) (allowed : List Bool) (k : ℕ) → Type 0
+Inv records boundaries marks rows allowed k =
+    (k ≤ length rows) × (length allowed ≡ max_proposals)
+    × ((C : Context) → Allows C records boundaries marks rows (length rows) → Allowed C rows k allowed)
 
-start : {records : List Region} {boundaries marks : List ℕ} {rows : List Candidate} {n : ℕ} {allowed : List Bool}
-    → length allowed ≡ max_proposals → Inv records boundaries marks rows n allowed 0
+start : {records : List Region} {boundaries marks : List ℕ} {rows : List Candidate} {allowed : List Bool}
+    → length allowed ≡ max_proposals → Inv records boundaries marks rows allowed 0
 start e = (omega arith, e, λ C h. record { long = e; at = λ k l. absurd (omega (arith, l)) })
 
 -- what a turn asks, over plain variables
-module _ {records : List Region} {boundaries marks : List ℕ} {rows : List Candidate} {n : ℕ} {allowed : List Bool} {k : ℕ}
-    (pre : (C : Context) × Allows C records boundaries marks rows n) (inv : Inv records boundaries marks rows n allowed k) where
-  -- the rows that are looked at are the first n
-  inside : k < length (take n rows) → k < n
-  inside l = omega (arith, l, length-take-le n rows pre.1.whole)
-
-  done : length (take n rows) ≤ k → (C : Context) → Allows C records boundaries marks rows n → Allowed C rows n allowed
-  done f C h = let a = inv.2 C h in record { long = a.long; at = λ j l. a.at j (omega (arith, l, f, length-take-le n rows pre.1.whole)) }
+module _ {records : List Region} {boundaries marks : List ℕ} {rows : List Candidate} {allowed : List Bool} {k : ℕ}
+    (pre : (C : Context) × Allows C records boundaries marks rows (length rows)) (inv : Inv records boundaries marks rows allowed k) where
+  done : length rows ≤ k → (C : Context) → Allows C records boundaries marks rows (length rows) → Allowed C rows (length rows) allowed
+  done f C h = let a = inv.2 C h in record { long = a.long; at = λ j l. a.at j (omega (arith, l, f)) }
 
   -- row k, as the loop has it
-  module _ (l : k < length (take n rows)) where
+  module _ (l : k < length rows) where
     abbrev row : Candidate
-    row = get_or (take n rows) k nothing
-
-    item : row ≡ get_or rows k nothing
-    item = get_or-take n rows k nothing (inside l)
+    row = get_or rows k nothing
 
     fits : RowFits pre.0.count pre.0.regions (form row)
-    fits = subst (λ r. RowFits pre.0.count pre.0.regions (form r)) (sym item) (pre.1.fits k (inside l))
+    fits = pre.1.fits k l
 
     first_in_lem : {i : ℕ} → i ≡ row.first - 1 → i < length records
     first_in_lem e = place_in pre.1.held e fits.first_from fits.first_to
@@ -51,21 +43,20 @@ module _ {records : List Region} {boundaries marks : List ℕ} {rows : List Cand
 
     module _ {i j : ℕ} {first second : Region} (p : i ≡ row.first - 1) (a : (d : Region) → first ≡ get_or records i d)
         (q : j ≡ row.second - 1) (b : (d : Region) → second ≡ get_or records j d) where
-      asked_of : (C : Context) → Allows C records boundaries marks rows n → Asked C boundaries marks row first second
-      asked_of C h = subst (λ r. Asked C boundaries marks r first second) (sym item)
-          (asked h (inside l) (p ∙ ap (λ (r : Candidate). r.first - 1) item) a (q ∙ ap (λ (r : Candidate). r.second - 1) item) b)
+      asked_of : (C : Context) → Allows C records boundaries marks rows (length rows) → Asked C boundaries marks row first second
+      asked_of C h = asked h l p a q b
 
       judged : (C : Context) × Asked C boundaries marks row first second
       judged = (_, asked_of pre.0 pre.1)
 
       again : {allowed' : List Bool} {r : Bool} → ((C : Context) → Asked C boundaries marks row first second → r ≡ is_allowed C (form row)) → allowed' ≡ set allowed k r
-          → Inv records boundaries marks rows n allowed' (k + 1)
+          → Inv records boundaries marks rows allowed' (k + 1)
       again {r = r} e stored = (
-        omega (arith, inside l),
+        omega (arith, l),
         ap length stored ∙ length-set allowed k r ∙ inv.1,
         λ C h.
             subst (λ m. Allowed C rows (k + 1) m) (sym stored)
-            (allowed_more r (omega (arith, inside l, inv.1, h.few)) (inv.2 C h) (e C (asked_of C h) ∙ ap (λ r. is_allowed C (form r)) item)),
+            (allowed_more r (omega (arith, l, inv.1, h.few)) (inv.2 C h) (e C (asked_of C h))),
       )
 
 pub loop-k-init : goal.loop-k-init
@@ -88,7 +79,7 @@ is_allowed-requires c =
     judged c.requires.rows_fit c.loop-k.invariant c.loop-k-test.true c.first_place.ensures (λ d. get_d_inside _ _ d _ (first_in_lem c.requires.rows_fit c.loop-k.invariant c.loop-k-test.true c.first_place.ensures)) c.second_place.ensures (λ d. get_d_inside _ _ d _ (second_in_lem c.requires.rows_fit c.loop-k.invariant c.loop-k-test.true c.second_place.ensures))
 
 pub bounds-allowed-k : goal.bounds-allowed-k
-bounds-allowed-k c = omega (arith, c.requires.rows_fit.1.few, inside c.requires.rows_fit c.loop-k.invariant c.loop-k-test.true)
+bounds-allowed-k c = omega (arith, c.requires.rows_fit.1.few, c.loop-k-test.true, c.loop-k.invariant.1)
 
 pub loop-k-preserved : goal.loop-k-preserved
 loop-k-preserved c =

@@ -7,5 +7,5 @@ use Rattle.topology.proofs.junction_pass.allow_proposals.Given as goal
 
 abbrev pub invariant-loop-k : goal.invariant-loop-k
 invariant-loop-k l =
-    (l.k ≤ l.n) × (length l.allowed ≡ max_proposals)
-    × ((C : Context) → Allows C l.records l.boundaries l.marks l.rows l.n → Allowed C l.rows l.k l.allowed)
+    (l.k ≤ length l.rows) × (length l.allowed ≡ max_proposals)
+    × ((C : Context) → Allows C l.records l.boundaries l.marks l.rows (length l.rows) → Allowed C l.rows l.k l.allowed)

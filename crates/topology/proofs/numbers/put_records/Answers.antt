@@ -26,12 +26,12 @@ loop-i-init c = (omega arith, refl, refl)
 -- the records that are walked are the first `count`
 pub put_numbers-requires : goal.put_numbers-requires
 put_numbers-requires c =
-    let few : c.min-count.result ≤ length c.args.records.now = omega (arith, c.min-count.ensures, c.min-lent.ensures) in
+    let few : c.min-count.result ≤ length c.args.records.now = omega (arith, c.min-count.ensures) in
     omega (arith, c.loop-i-test.true, length-take-le c.min-count.result c.args.records.now few, c.loop-i.invariant.1, c.min-count.ensures)
 
 pub loop-i-preserved : goal.loop-i-preserved
 loop-i-preserved c =
-    let few : c.min-count.result ≤ length c.args.records.now = omega (arith, c.min-count.ensures, c.min-lent.ensures) in
+    let few : c.min-count.result ≤ length c.args.records.now = omega (arith, c.min-count.ensures) in
     let below : c.loop-i.i < c.min-count.result = omega (arith, c.loop-i-test.true, length-take-le c.min-count.result c.args.records.now few) in
     let inside : c.loop-i.i < length c.args.records.now = omega (arith, below, few) in (
       omega (arith, below),
@@ -43,8 +43,8 @@ loop-i-preserved c =
 
 pub returns : goal.returns
 returns c =
-    let few : c.min-count.result ≤ length c.args.records.now = omega (arith, c.min-count.ensures, c.min-lent.ensures) in
+    let few : c.min-count.result ≤ length c.args.records.now = omega (arith, c.min-count.ensures) in
     let all : c.loop-i.i ≡ c.min-count.result = omega (arith, c.loop-i.invariant.0, c.loop-i-test.false, length-take-le c.min-count.result c.args.records.now few) in
     c.loop-i.invariant.2
     ∙ ap (λ k. overwrite (all_numbers (map record_of (take k c.args.records.now))) c.args.numbers.now) all
-    ∙ all-written c.args.records.now c.args.first c.args.numbers.now (c.min-count.ensures ∙ omega (arith, c.min-lent.ensures))
+    ∙ all-written c.args.records.now c.args.numbers.now c.min-count.ensures

@@ -1,7 +1,7 @@
 -- A desk over the terrain: its own checks, then the pass and the rows of the call with its lists alone (TwoDesks).
 use Rattle.std.proofs.Common.{rules, sym, ◌≡◌, arith}
 use Rattle.std.specs.Prelude.{Err}
-use Rattle.topology.proofs.Calling.{marked_as}
+use Rattle.topology.proofs.Calling.{marked_as, finished-on}
 use Rattle.topology.proofs.TwoDesks.{sides-within, desk-refused, desk-few, desk-lent, desk_finishes, desk-ran}
 use Rattle.topology.proofs.two_desks.run_desk.Goals as goal
 
@@ -14,10 +14,10 @@ returns-in_err-pass-clause-ran c = λ G T.
     let given : c.from_residual.result ≡ Err c.in_err-pass.field-0.0 = search rules in
     rw given (desk-refused T d.pass d.boundaries.now d.anchors.now c.args.output.now c.in_err-pass.field-0.0 c.in_err-pass.ensures.refused)
 
-pub overflow_mul-height : goal.overflow_mul-height
-overflow_mul-height c =
+pub overflow_mul-grid : goal.overflow_mul-grid
+overflow_mul-grid c =
     let d = c.args.desk in
-    record { fits = omega (arith, desk-few c.requires.1 d.pass d.boundaries.now d.anchors.now c.args.output.now (sym c.in_ok-pass.ensures.refused)) }
+    rw c.grid-grid.ensures (record { fits = omega (arith, desk-few c.requires.1 d.pass d.boundaries.now d.anchors.now c.args.output.now (sym c.in_ok-pass.ensures.refused)) })
 
 pub mark_asked-removed-requires-clause-few : goal.mark_asked-removed-requires-clause-few
 mark_asked-removed-requires-clause-few c =
@@ -34,11 +34,13 @@ finish-kept-requires c =
     let d = c.args.desk in
     let passed = sym c.in_ok-pass.ensures.refused in
     let lent = desk-lent T d.pass d.boundaries.now d.anchors.now c.args.output.now passed in
-    desk_finishes T d.pass d.boundaries.now d.anchors.now c.args.output.now passed (marked_as _ _ _ _ c.in_ok-pass.ensures.named (c.mark_asked-removed.ensures.marked _ lent))
+    rw c.grid-grid.ensures
+    (desk_finishes T d.pass d.boundaries.now d.anchors.now c.args.output.now passed (marked_as _ _ _ _ c.in_ok-pass.ensures.named (c.mark_asked-removed.ensures.marked _ lent)))
 
 pub returns-clause-ran : goal.returns-clause-ran
 returns-clause-ran c = λ G T.
     let d = c.args.desk in
     let passed = sym c.in_ok-pass.ensures.refused in
     let lent = desk-lent T d.pass d.boundaries.now d.anchors.now c.args.output.now passed in
-    desk-ran T d.pass d.boundaries.now d.anchors.now c.args.output.now passed (marked_as _ _ _ _ c.in_ok-pass.ensures.named (c.mark_asked-removed.ensures.marked _ lent)) c.finish-kept.ensures
+    desk-ran T d.pass d.boundaries.now d.anchors.now c.args.output.now passed (marked_as _ _ _ _ c.in_ok-pass.ensures.named (c.mark_asked-removed.ensures.marked _ lent))
+    (finished-on _ c.grid-grid.ensures c.finish-kept.ensures)
