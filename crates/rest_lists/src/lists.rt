@@ -12,12 +12,7 @@ fn same_ends(spans: &[u64], k: usize, boundaries: &[u64], j: usize) -> bool
     ensures { result ≡ (same_point_lem (segment_at spans.now k).a (segment_at boundaries.now j).a
         && same_point_lem (segment_at spans.now k).b (segment_at boundaries.now j).b) }
 {
-    let span = ((spans[k], spans[k + 1]), (spans[k + 2], spans[k + 3]));
-    let boundary = (
-        (boundaries[j], boundaries[j + 1]),
-        (boundaries[j + 2], boundaries[j + 3]),
-    );
-    span == boundary
+    spans[k..k + NUMBERS_PER_SPAN] == boundaries[j..j + NUMBERS_PER_SPAN]
 }
 
 // Both lists have an entry i, with the same endpoints as written.
