@@ -2,7 +2,7 @@
 
 #![tactic(auto)]
 
-ghost use Rattle.std.specs.Prelude.{◌≡◌, List, ℕ, ◌*◌, ◌≤◌, length};
+ghost use Rattle.std.specs.Prelude.{◌≡◌, List, ℕ, ◌/◌, ◌≤◌, length};
 ghost use Rattle.definitions.specs.Limits.{numbers_per_pair};
 ghost use Rattle.definitions.specs.Lists.{overwrite};
 ghost use Rattle.definitions.specs.Refusals.{or_else};
@@ -74,15 +74,14 @@ fn solve(regions: usize, pairs: &[u32], goal: usize, verdicts: &mut [u32])
     solve_edges(regions, edges, goal, verdicts);
 }
 
-// And of the graph of a map, whose first `count` rows of span, smaller and larger region are its pairs.
-pub fn solve_rows(regions: usize, rows: &[u32], count: usize, goal: usize, verdicts: &mut [u32])
-    requires sizes { (regions ≤ max_game_regions) × (1 ≤ goal) × (goal ≤ regions) × (verdicts_room ≤ length verdicts.old) }
-    requires rows { numbers_per_pair * count ≤ length rows.now }
+// And of the graph of a map, whose rows of span, smaller and larger region are its pairs.
+pub fn solve_rows(regions: usize, rows: &[u32], goal: usize, verdicts: &mut [u32])
+    requires { (regions ≤ max_game_regions) × (1 ≤ goal) × (goal ≤ regions) × (verdicts_room ≤ length verdicts.old) }
     ensures { verdicts.new
-        ≡ overwrite (verdict_numbers (graph_of regions (edges_in rows.now count) goal) (place_count regions)) verdicts.old }
+        ≡ overwrite (verdict_numbers (graph_of regions (edges_in rows.now (length rows.now / numbers_per_pair)) goal) (place_count regions)) verdicts.old }
 {
     let (edges, _) = rows.as_chunks::<NUMBERS_PER_PAIR>();
-    solve_edges(regions, &edges[..count], goal, verdicts);
+    solve_edges(regions, edges, goal, verdicts);
 }
 
 // The verdicts, or why the operation refuses. Gives how many verdicts there are.

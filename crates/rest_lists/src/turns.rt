@@ -28,7 +28,7 @@ impl Turn {
     // Behind a pass that removed some, or none.
     pub fn next(self, removed: bool) -> Turn
         requires { (self.quiet ≤ 3) × (self.rounds ≤ 257) }
-        ensures { turn_of result ≡ turn_after (turn_of self.entry) removed }
+        ensures { turn_of result ≡ turn_after (turn_of self) removed }
     {
         let quiet = if removed { 0 } else { self.quiet + 1 };
         let (pass, rounds) = match self.pass {
@@ -46,7 +46,7 @@ impl Turn {
     // The rounds of a run that three quiet passes end: the round in which the last of them stands is the last.
     pub fn rounds_run(self) -> u64
         requires { self.rounds ≤ 257 }
-        ensures { result ≡ cond (eqb (pass_number self.entry.pass) 1) self.entry.rounds (self.entry.rounds + 1) }
+        ensures { result ≡ cond (eqb (pass_number self.pass) 1) self.rounds (self.rounds + 1) }
     {
         match self.pass {
             Pass::ReplaceRampMouths => self.rounds,
