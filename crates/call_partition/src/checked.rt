@@ -64,7 +64,8 @@ pub fn check_entries(asked: Asked) -> Result<(), Refusal>
 
 // Check 10, of lists of these lengths and an output of this one.
 fn check_room(asked: Asked, lists: &PartitionLists, output: usize) -> Result<(), Refusal>
-    ensures { refusal_in result ≡ refusal 10 (unless (of_lengths (partition_room (length asked.entry.cells.now) (length asked.entry.spans.now / numbers_per_span)) lists.now
+    ensures { refusal_in result ≡ refusal 10 (unless (
+        of_lengths (partition_room (length asked.entry.cells.now) (length asked.entry.spans.now / numbers_per_span)) lists.now
         && output_room (length asked.entry.boundaries.now / numbers_per_boundary) output)) }
 {
     let partition = partition_has_room(

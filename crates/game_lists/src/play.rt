@@ -24,8 +24,8 @@ pub struct GameAnswer {
     pub regions: u64,
 }
 
-// Kept: C has a struct of its own for each of these calls, so that three structs are converted to; a refusal's two numbers by way of `Answer` would be as many
-// lines, and a fourth struct to read.
+// Kept: C has a struct of its own for each of these calls, so that three structs are converted to; a refusal's two numbers taken out of an `Answer` would be
+// two lines more.
 impl From<Result<GameKept, Refusal>> for GameAnswer {
     ghost from_gives = { λ given answer. answer_in answer ≡ game_answer_of given };
 
@@ -46,6 +46,8 @@ impl From<Result<GameKept, Refusal>> for GameAnswer {
 }
 
 // Plays on the graph of `count` rows of pairs.
+// Kept: `kept` and the count of rows are lent as they come from the partition, so that one clause tells the call's whole answer and another all verdicts; the
+// caller would put the answer together itself, and prove it.
 pub fn play(
     kept: usize,
     regions: usize,

@@ -30,6 +30,7 @@ fn sweep(board: &Board, won: &Won) -> Won
     ensures { Swept board.now.near board.now.regions board.now.goal won.now.runner won.now.guard result.runner result.guard }
 {
     let mut next = *won;
+    // Kept: two lists are written at g; of what `zip` of two `iter_mut` lends, a proof knows no element behind the loop.
     for g in 0..board.regions {
         next.runner[g] = board.runner_row(won.guard[g], g);
         next.guard[g] = board.guard_row(&won.runner, g);
@@ -95,6 +96,7 @@ pub fn search(board: &Board) -> [u32; RANKS]
         runner: [0; MAX_REGIONS],
         guard: [0; MAX_REGIONS],
     };
+    // Kept: the bound shows that the search ends; a `while` for the sets that differ would ask the same bound as its measure.
     for moves in 0..MAX_SWEEPS {
         let next = sweep(board, &won);
         if next == won {

@@ -200,6 +200,10 @@ pub fn put_verdicts(board: &Board, ranks: &[u32; RANKS], verdicts: &mut [u32])
     let count = place_count(regions);
     // Kept: a place is told by its number c, and of a list that `chunks_exact_mut` lends in parts a proof knows no element behind the loop.
     for c in 0..count {
-        put_verdict(verdicts, NUMBERS_PER_VERDICT * c, ranked.verdict_at(place_at(regions, c)));
+        put_verdict(
+            verdicts,
+            NUMBERS_PER_VERDICT * c,
+            ranked.verdict_at(place_at(regions, c)),
+        );
     }
 }

@@ -29,8 +29,8 @@ fn agrees(spans: &[u64], boundaries: &[u64], i: usize) -> bool
         )
 }
 
-// Kept: `desk_fault` of `desk_checks` asks another relation of the same entries. One search for both would take the relation as a closure, with a contract
-// on what the closure answers, in place of these two lines.
+// Kept: `desk_fault` of `desk_checks` asks another relation of the same entries, as `agrees` and `lies_on` do. One search for both would take the relation as a
+// closure, with a contract on what it answers. Both lists in chunks, zipped, would end with the shorter, whose end would then be a case of its own.
 pub fn lists_fault(spans: &[u64], boundaries: &[u64]) -> Option<usize>
     ensures { result ≡ lists_fault spans.now boundaries.now }
 {
