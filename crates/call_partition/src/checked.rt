@@ -1,5 +1,5 @@
 // Checks 1 to 10 of the table of SPECIFICATION 4, in its order.
-ghost use Rattle.std.specs.Prelude.{◌≡◌, ◌&&◌, ◌≤◌, ◌*◌, length, IfOk};
+ghost use Rattle.std.specs.Prelude.{◌≡◌, ◌&&◌, ◌≤◌, ◌*◌, ◌/◌, length, IfOk};
 ghost use Rattle.definitions.specs.Limits.{max_side, numbers_per_span, numbers_per_boundary, numbers_per_anchor};
 ghost use Rattle.definitions.specs.Refusals.{unless, partition_room, output_room};
 ghost use Rattle.definitions.specs.Verdict.{refusal};
@@ -26,7 +26,7 @@ use refusals::{Cause, Refusal, ensure, no_fault};
 fn all_whole(spans: usize, boundaries: usize, anchors: usize) -> bool
     ensures { result ≡ (is_whole_of numbers_per_span spans && is_whole_of numbers_per_boundary boundaries && is_whole_of numbers_per_anchor anchors) }
 {
-    is_whole(NUMBERS_PER_SPAN, spans) & are_whole(boundaries, anchors)
+    is_whole(NUMBERS_PER_SPAN, spans) && are_whole(boundaries, anchors)
 }
 
 // Checks 1 to 3.
@@ -62,25 +62,25 @@ pub fn check_entries(asked: Asked) -> Result<(), Refusal>
     no_fault(elevations_fault(asked.cells), Cause::Elevation)
 }
 
-// Check 10, of so many cells, spans and boundaries and an output of this length.
-pub fn check_room(
-    cells: usize,
-    spans: usize,
-    boundaries: usize,
-    lists: &PartitionLists,
-    output: usize,
-) -> Result<(), Refusal>
-    ensures { refusal_in result ≡ refusal 10 (unless (of_lengths (partition_room cells spans) lists.now && output_room boundaries output)) }
+// Check 10, of lists of these lengths and an output of this one.
+fn check_room(asked: Asked, lists: &PartitionLists, output: usize) -> Result<(), Refusal>
+    ensures { refusal_in result ≡ refusal 10 (unless (
+        of_lengths (partition_room (length asked.entry.cells.now) (length asked.entry.spans.now / numbers_per_span)) lists.now
+        && output_room (length asked.entry.boundaries.now / numbers_per_boundary) output)) }
 {
     let partition = partition_has_room(
-        cells,
-        spans,
+        asked.cells.len(),
+        asked.spans.len() / NUMBERS_PER_SPAN,
         lists.labels.len(),
         lists.masks.len(),
         lists.queue.len(),
         lists.tallies.len(),
     );
-    ensure(partition & output_has_room(boundaries, output), Cause::Room)
+    let boundaries = asked.boundaries.len() / NUMBERS_PER_BOUNDARY;
+    ensure(
+        partition && output_has_room(boundaries, output),
+        Cause::Room,
+    )
 }
 
 // Checks 5 to 10, of cells as many as the sides say. Of the lists that are filled, only the lengths matter.
@@ -90,13 +90,7 @@ pub fn check_lists(asked: Asked, lists: &PartitionLists, output: usize) -> Resul
     ensures { refusal_in result ≡ of_lengths (of_asked lists_refusal asked.entry) lists.now output }
 {
     check_entries(asked)?;
-    check_room(
-        asked.cells.len(),
-        asked.spans.len() / NUMBERS_PER_SPAN,
-        asked.boundaries.len() / NUMBERS_PER_BOUNDARY,
-        lists,
-        output,
-    )
+    check_room(asked, lists, output)
 }
 
 // All of them, and the pass of the number that is asked for.

@@ -41,7 +41,8 @@ fn lies_on(spans: &[u64], boundaries: &[u64], i: usize) -> bool
 }
 
 // 20: a boundary of the desk is not its shared span up to the order of endpoints, or one of the two is missing.
-// Kept: `lists_fault` of `rest_lists` asks another relation of the same entries: one search for both would take the relation as a closure, with a contract.
+// Kept: `lists_fault` of `rest_lists` asks another relation of the same entries, as `agrees` and `lies_on` do. One search for both would take the relation as a
+// closure, with a contract on what it answers. Both lists in chunks, zipped, would end with the shorter, whose end would then be a case of its own.
 pub fn desk_fault(spans: &[u64], boundaries: &[u64]) -> Option<usize>
     ensures { result ≡ desk_fault spans.now boundaries.now }
 {

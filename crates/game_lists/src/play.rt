@@ -4,6 +4,7 @@ ghost use Rattle.definitions.specs.Limits.{numbers_per_pair};
 ghost use Rattle.game.specs.Graph.{graph_of, edges_in, verdicts_room, verdicts_at_exit};
 ghost use Rattle.game_lists.specs.Forms.{answer_in, game_answer_of, late_answer};
 
+use definitions::limits::NUMBERS_PER_PAIR;
 use game_solver::{check_graph, solve_rows};
 use refusals::Refusal;
 
@@ -23,7 +24,8 @@ pub struct GameAnswer {
     pub regions: u64,
 }
 
-// Kept: C has a struct of its own for each of these calls, so that three structs are converted to.
+// Kept: C has a struct of its own for each of these calls, so that three structs are converted to; a refusal's two numbers taken out of an `Answer` would be
+// two lines more.
 impl From<Result<GameKept, Refusal>> for GameAnswer {
     ghost from_gives = { λ given answer. answer_in answer ≡ game_answer_of given };
 
@@ -44,6 +46,8 @@ impl From<Result<GameKept, Refusal>> for GameAnswer {
 }
 
 // Plays on the graph of `count` rows of pairs.
+// Kept: `kept` and the count of rows are lent as they come from the partition, so that one clause tells the call's whole answer and another all verdicts; the
+// caller would put the answer together itself, and prove it.
 pub fn play(
     kept: usize,
     regions: usize,
@@ -58,6 +62,11 @@ pub fn play(
         ≡ verdicts_at_exit (graph_of regions (edges_in rows.now count) goal) verdicts.old (game_answer_of result).number }
 {
     check_graph(regions as u64, goal)?;
-    solve_rows(regions, rows, count, goal as usize, verdicts);
+    solve_rows(
+        regions,
+        &rows[..NUMBERS_PER_PAIR * count],
+        goal as usize,
+        verdicts,
+    );
     Ok(GameKept { kept, regions })
 }

@@ -5,7 +5,7 @@
 
 pub mod neighbours;
 
-ghost use Rattle.std.specs.Prelude.{◌≡◌, ◌&&◌, cond, ℕ, ◌/◌, ◌%◌, ◌<◌, eqb, get_or, replicate};
+ghost use Rattle.std.specs.Prelude.{◌≡◌, ◌&&◌, cond, ℕ, ◌/◌, ◌%◌, ◌<◌, eqb, get_or};
 ghost use Rattle.game.specs.Game.{Game};
 ghost use Rattle.game_sets.specs.Words.{Plays};
 ghost use Rattle.game_search.specs.Words.{Sized, Swept, set_for, is_new, ranked_by, Ranked};
@@ -13,7 +13,8 @@ ghost use Rattle.game_search.specs.Words.{Sized, Swept, set_for, is_new, ranked_
 use game_sets::board::{Board, MAX_REGIONS, RANKS, RANKS_PER_RUNNER};
 use game_sets::sets::has;
 
-// One more than `sweeps` of the definitions for 32 regions: two places for each two of 33 numbers, since 0 is counted too, and one.
+// One more than `sweeps` of the definitions for 32 regions, which is two places for each two of 33 numbers, since 0 is counted too, and one: the first sweep
+// from the empty sets finds what is won without a move, which the definitions begin with.
 const MAX_SWEEPS: u32 = 2180;
 
 // Of each region of the guard the runner's regions from which he wins, where the runner is to move and where the guard is.
@@ -29,6 +30,7 @@ fn sweep(board: &Board, won: &Won) -> Won
     ensures { Swept board.now.near board.now.regions board.now.goal won.now.runner won.now.guard result.runner result.guard }
 {
     let mut next = *won;
+    // Kept: two lists are written at g; of what `zip` of two `iter_mut` lends, a proof knows no element behind the loop.
     for g in 0..board.regions {
         next.runner[g] = board.runner_row(won.guard[g], g);
         next.guard[g] = board.guard_row(&won.runner, g);
@@ -48,7 +50,7 @@ fn set_for(won: &Won, i: usize) -> u32
 }
 
 // The rank of a place that is in the new set and not in the old one; of another the one that it had.
-fn rank_of(old: u32, new: u32, r: usize, had: u32, rank: u32) -> u32
+fn next_rank(old: u32, new: u32, r: usize, had: u32, rank: u32) -> u32
     requires { r < 32 }
     ensures { result ≡ cond (is_new old new r) rank had }
 {
@@ -69,7 +71,7 @@ fn put_row(old: u32, new: u32, at: usize, rank: u32, ranks: &mut [u32; RANKS])
     }
     for r in 0..MAX_REGIONS {
         let i = RANKS_PER_RUNNER * r + at;
-        ranks[i] = rank_of(old, new, r, ranks[i], rank);
+        ranks[i] = next_rank(old, new, r, ranks[i], rank);
     }
 }
 
@@ -85,20 +87,23 @@ fn put_ranks(won: &Won, next: &Won, rank: u32, ranks: &mut [u32; RANKS])
 
 // The ranks of all places.
 // Kept: 0 for a place that is not won, as `rank_of` of the definitions has it; Options would be turned into these numbers in each contract.
-pub fn search(board: &Board, ranks: &mut [u32; RANKS])
-    requires { Sized board.now.regions board.now.goal × (ranks.old ≡ replicate 2048 0) }
-    ensures { (G : Game) → Plays board.now.near board.now.regions board.now.goal G → Ranked G ranks.new }
+pub fn search(board: &Board) -> [u32; RANKS]
+    requires { Sized board.now.regions board.now.goal }
+    ensures { (G : Game) → Plays board.now.near board.now.regions board.now.goal G → Ranked G result }
 {
+    let mut ranks = [0; RANKS];
     let mut won = Won {
         runner: [0; MAX_REGIONS],
         guard: [0; MAX_REGIONS],
     };
+    // Kept: the bound shows that the search ends; a `while` for the sets that differ would ask the same bound as its measure.
     for moves in 0..MAX_SWEEPS {
         let next = sweep(board, &won);
         if next == won {
-            return;
+            return ranks;
         }
-        put_ranks(&won, &next, moves + 1, ranks);
+        put_ranks(&won, &next, moves + 1, &mut ranks);
         won = next;
     }
+    ranks
 }

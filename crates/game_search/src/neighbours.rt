@@ -12,7 +12,7 @@ use game_sets::sets::with;
 fn is_region(regions: usize, d: u32) -> bool
     ensures { result ≡ is_region regions d }
 {
-    (1 <= d) & (d as usize <= regions)
+    (1..=regions).contains(&(d as usize))
 }
 
 // A step from region a + 1 to region b + 1.

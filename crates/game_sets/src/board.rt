@@ -4,10 +4,10 @@
 pub const MAX_REGIONS: usize = 32;
 
 // How many places there are for a region of the runner: each region of the guard, with either to move.
-pub const RANKS_PER_RUNNER: usize = 64;
+pub const RANKS_PER_RUNNER: usize = 2 * MAX_REGIONS;
 
 // How many places a game has at most, and so how many ranks.
-pub const RANKS: usize = 2048;
+pub const RANKS: usize = RANKS_PER_RUNNER * MAX_REGIONS;
 
 // From each region the set of those where a step leads, how many regions there are, and the goal.
 #[derive(Clone, Copy)]

@@ -1,4 +1,5 @@
 // Sets of regions: bit i of a number is region i + 1.
+// Kept: plain numbers, as the definitions have them in lists of sets; a struct around the number would be unwrapped in each contract that names such a list.
 ghost use Rattle.std.specs.Prelude.{◌≡◌, ◌&&◌, ◌||◌, ℕ, ◌<◌, eqb};
 ghost use Rattle.definitions.specs.RegionRecord.{has_bit};
 ghost use Rattle.game_sets.specs.Words.{do_meet};

@@ -10,7 +10,7 @@ use lib.Seq.{get_or-append-add}
 use lib.Dec.{ltb}
 use borrow.Author.Tests.{ltb-true, ltb-false}
 use Rattle.std.specs.Simd.{first_chunks}
-use Rattle.std.proofs.lemmas.List.{get_or-take}
+use Rattle.std.proofs.lemmas.List.{get_or-take, length-take-le}
 use Rattle.std.proofs.Common.{get_or-drop}
 use Rattle.definitions.specs.Scan.{gather}
 use Rattle.laws.specs.ListLaws.Below.{below_ext}
@@ -94,20 +94,35 @@ module _ (rows : List ℕ) where
     larger : get_or (edges_in rows n) (2 * k + 1) 0 ≡ get_or rows (3 * k + 2) 0
     larger = edge_at n k 1 h (omega arith)
 
-module _ (regions : ℕ) (rows : List ℕ) (count : ℕ) where
-  half : length (edges_in rows count) / 2 ≡ count
-  half = ap (λ n. n / 2) (edges-length rows count) ∙ omega arith
+pub rows_graph : (regions : ℕ) (rows : List ℕ) (goal : ℕ) {lists : List (List ℕ)} → lists ≡ first_chunks 3 (length rows / 3) rows → length lists ≡ length rows / 3
+    → last_two 3 regions lists goal ≡ graph_of regions (edges_in rows (length rows / 3)) goal
+unfolding graph_by graph_of any_joins
+rows_graph regions rows goal {lists} e l =
+    ap (λ m. graph_by regions m (number_in lists 1) (number_in lists 2) goal) l
+    ∙ same_graph regions count (number_in lists 1) (number_in lists 2) (λ k. get_or (edges_in rows count) (2 * k) 0) (λ k. get_or (edges_in rows count) (2 * k + 1) 0) goal
+    (λ k i. number 1 k i (omega arith) ∙ sym (smaller rows count k i))
+    (λ k i. number 2 k i (omega arith) ∙ sym (larger rows count k i))
+    ∙ ap (λ m. graph_by regions m (λ k. get_or (edges_in rows count) (2 * k) 0) (λ k. get_or (edges_in rows count) (2 * k + 1) 0) goal) (sym half)
+  where
+    count : ℕ
+    count = length rows / 3
 
-  pub rows_graph : (goal : ℕ) {lists : List (List ℕ)} → lists ≡ first_chunks 3 (length rows / 3) rows → 3 * count ≤ length rows → length (take count lists) ≡ count
-      → last_two 3 regions (take count lists) goal ≡ graph_of regions (edges_in rows count) goal
-  unfolding graph_by graph_of any_joins
-  rows_graph goal {lists} e h l =
-      ap (λ m. graph_by regions m (number_in (take count lists) 1) (number_in (take count lists) 2) goal) l
-      ∙ same_graph regions count (number_in (take count lists) 1) (number_in (take count lists) 2) (λ k. get_or (edges_in rows count) (2 * k) 0) (λ k. get_or (edges_in rows count) (2 * k + 1) 0) goal
-      (λ k i. number 1 k i (omega arith) ∙ sym (smaller rows count k i))
-      (λ k i. number 2 k i (omega arith) ∙ sym (larger rows count k i))
-      ∙ ap (λ m. graph_by regions m (λ k. get_or (edges_in rows count) (2 * k) 0) (λ k. get_or (edges_in rows count) (2 * k + 1) 0) goal) (sym half)
-    where
-      number : (j k : ℕ) → k < count → j < 3 → number_in (take count lists) j k ≡ get_or rows (3 * k + j) 0
-      number j k i m =
-          ap (λ x. get_or x j 0) (get_or-take count lists k [] i) ∙ ap (λ x. number_in x j k) e ∙ number_chunk 3 (length rows / 3) rows j k (omega (arith, h, i)) m
+    half : length (edges_in rows count) / 2 ≡ count
+    half = ap (λ n. n / 2) (edges-length rows count) ∙ omega arith
+
+    number : (j k : ℕ) → k < count → j < 3 → number_in lists j k ≡ get_or rows (3 * k + j) 0
+    number j k i m = ap (λ x. number_in x j k) e ∙ number_chunk 3 count rows j k i m
+
+-- ---- the front of a list of rows
+
+same_edges : (rows rows' : List ℕ) (n : ℕ) → ((i : ℕ) → i < 3 * n → get_or rows i 0 ≡ get_or rows' i 0) → edges_in rows n ≡ edges_in rows' n
+unfolding edges_in gather
+same_edges rows rows' zero e = refl
+same_edges rows rows' (suc n) e =
+    λ i. same_edges rows rows' n (λ j h. e j (omega (arith, h))) i ++ (e (3 * n + 1) (omega arith) i ∷ e (3 * n + 2) (omega arith) i ∷ [])
+
+pub front_edges : (rows : List ℕ) (count : ℕ) → 3 * count ≤ length rows
+    → edges_in (take (3 * count) rows) (length (take (3 * count) rows) / 3) ≡ edges_in rows count
+front_edges rows count h =
+    ap (edges_in (take (3 * count) rows)) (ap (λ n. n / 3) (length-take-le (3 * count) rows h) ∙ omega arith)
+    ∙ same_edges (take (3 * count) rows) rows count (λ i l. get_or-take (3 * count) rows i 0 l)

@@ -1,2 +1,2 @@
 pub mod Answering
-mod Edges
+pub mod Edges

@@ -2,7 +2,7 @@
 
 #![tactic(auto)]
 
-ghost use Rattle.std.specs.Prelude.{◌≡◌, List, ℕ, ◌*◌, ◌≤◌, length};
+ghost use Rattle.std.specs.Prelude.{◌≡◌, List, ℕ, ◌/◌, ◌≤◌, length};
 ghost use Rattle.definitions.specs.Limits.{numbers_per_pair};
 ghost use Rattle.definitions.specs.Lists.{overwrite};
 ghost use Rattle.definitions.specs.Refusals.{or_else};
@@ -17,21 +17,21 @@ use definitions::limits::NUMBERS_PER_PAIR;
 use game_search::neighbours::find_neighbours;
 use game_search::search;
 use game_sets::board::{Board, MAX_REGIONS, RANKS};
-use game_verdicts::put_verdicts;
+use game_verdicts::{NUMBERS_PER_VERDICT, place_count, put_verdicts};
 use refusals::answers::Answer;
 use refusals::{Cause, Refusal, ensure};
 
 const NUMBERS_PER_EDGE: usize = 2;
 
 // Room for the verdicts of the largest graph.
-pub const VERDICTS_ROOM: usize = 6144;
+pub const VERDICTS_ROOM: usize = NUMBERS_PER_VERDICT * RANKS;
 
 // 23 and 24: more regions than a game has, and a goal that is none of them.
 pub fn check_graph(regions: u64, goal: u64) -> Result<(), Refusal>
     ensures { refusal_in result ≡ or_else (refusal 23 (graph_fault regions)) (refusal 24 (goal_fault regions goal)) }
 {
     ensure(regions <= MAX_REGIONS as u64, Cause::Graph)?;
-    ensure((1 <= goal) & (goal <= regions), Cause::Goal)
+    ensure((1..=regions).contains(&goal), Cause::Goal)
 }
 
 // How many verdicts there are, or why the operation refuses.
@@ -41,7 +41,7 @@ fn count_verdicts(regions: u64, pairs: usize, goal: u64, room: usize) -> Result<
     ensure(pairs % NUMBERS_PER_EDGE == 0, Cause::Entries)?;
     ensure(VERDICTS_ROOM <= room, Cause::Room)?;
     check_graph(regions, goal)?;
-    Ok((2 * (regions * regions)) as usize)
+    Ok(place_count(regions as usize))
 }
 
 // The verdicts of a graph of up to 32 regions, whose edges are the last two numbers of each list and whose goal is one of its regions.
@@ -60,8 +60,7 @@ fn solve_edges<const N: usize>(
         regions,
         goal: goal - 1,
     };
-    let mut ranks = [0u32; RANKS];
-    search(&board, &mut ranks);
+    let ranks = search(&board);
     put_verdicts(&board, &ranks, verdicts);
 }
 
@@ -75,15 +74,14 @@ fn solve(regions: usize, pairs: &[u32], goal: usize, verdicts: &mut [u32])
     solve_edges(regions, edges, goal, verdicts);
 }
 
-// And of the graph of a map, whose first `count` rows of span, smaller and larger region are its pairs.
-pub fn solve_rows(regions: usize, rows: &[u32], count: usize, goal: usize, verdicts: &mut [u32])
-    requires sizes { (regions ≤ max_game_regions) × (1 ≤ goal) × (goal ≤ regions) × (verdicts_room ≤ length verdicts.old) }
-    requires rows { numbers_per_pair * count ≤ length rows.now }
+// And of the graph of a map, whose rows of span, smaller and larger region are its pairs.
+pub fn solve_rows(regions: usize, rows: &[u32], goal: usize, verdicts: &mut [u32])
+    requires { (regions ≤ max_game_regions) × (1 ≤ goal) × (goal ≤ regions) × (verdicts_room ≤ length verdicts.old) }
     ensures { verdicts.new
-        ≡ overwrite (verdict_numbers (graph_of regions (edges_in rows.now count) goal) (place_count regions)) verdicts.old }
+        ≡ overwrite (verdict_numbers (graph_of regions (edges_in rows.now (length rows.now / numbers_per_pair)) goal) (place_count regions)) verdicts.old }
 {
     let (edges, _) = rows.as_chunks::<NUMBERS_PER_PAIR>();
-    solve_edges(regions, &edges[..count], goal, verdicts);
+    solve_edges(regions, edges, goal, verdicts);
 }
 
 // The verdicts, or why the operation refuses. Gives how many verdicts there are.
@@ -100,7 +98,7 @@ fn solve_game(
     Ok(count)
 }
 
-// For other languages too: include/jenwyllt.h declares it as jenwyllt_solve_game.
+// For other languages too: `jenwyllt_c` calls it as jenwyllt_solve_game, which include/jenwyllt.h declares.
 pub fn game_solver_solve_game(
     regions: u64,
     pairs: &[u32],

@@ -16,10 +16,14 @@ ghost use Rattle.game_verdicts.specs.Forms.{is_runner, winner_number, place_of, 
 use game_sets::board::{Board, RANKS, RANKS_PER_RUNNER};
 use game_sets::sets::has;
 
+// Who wins, the moves and the region.
+pub const NUMBERS_PER_VERDICT: usize = 3;
+
+// Each with its number in a verdict.
 #[derive(Clone, Copy, PartialEq, Eq)]
 pub enum Side {
-    Runner,
-    Guard,
+    Runner = 1,
+    Guard = 2,
 }
 
 // Who wins; the moves; the region to go to, if the one to move can force a win.
@@ -50,10 +54,7 @@ impl Side {
     fn number(self) -> u32
         ensures { result ≡ winner_number self }
     {
-        match self {
-            Side::Runner => 1,
-            Side::Guard => 2,
-        }
+        self as u32
     }
 }
 
@@ -115,6 +116,7 @@ impl RankedBoard<'_> {
             result ≡ least_below (suc self.entry.board.now.regions) (serves_by G (rank_at self.entry.ranks.now) (place_of place)) }
         ensures bound { result ≤ 32 }
     {
+        // Kept: some region serves one who can force a win, so that the last need not be asked; asked all, `find` would give an Option that is never None.
         (1..self.board.regions)
             .find(|&d| self.serves(place, d - 1))
             .unwrap_or(self.board.regions)
@@ -162,6 +164,14 @@ fn put_verdict(verdicts: &mut [u32], k: usize, v: Verdict)
     verdicts[k + 2] = v.region.unwrap_or(0);
 }
 
+// How many places a game of so many regions has: two for each region of the runner and each of the guard.
+pub fn place_count(regions: usize) -> usize
+    requires { regions ≤ 32 }
+    ensures { result ≡ place_count regions }
+{
+    2 * (regions * regions)
+}
+
 // The place of number c among those of so many regions.
 fn place_at(regions: usize, c: usize) -> Place
     requires { (regions ≤ 32) × (c < place_count regions) }
@@ -187,9 +197,13 @@ pub fn put_verdicts(board: &Board, ranks: &[u32; RANKS], verdicts: &mut [u32])
 {
     let ranked = RankedBoard { board, ranks };
     let regions = board.regions;
-    let count = 2 * (regions * regions);
+    let count = place_count(regions);
     // Kept: a place is told by its number c, and of a list that `chunks_exact_mut` lends in parts a proof knows no element behind the loop.
     for c in 0..count {
-        put_verdict(verdicts, 3 * c, ranked.verdict_at(place_at(regions, c)));
+        put_verdict(
+            verdicts,
+            NUMBERS_PER_VERDICT * c,
+            ranked.verdict_at(place_at(regions, c)),
+        );
     }
 }

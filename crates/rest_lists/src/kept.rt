@@ -1,6 +1,6 @@
 // Between the passes of a run to rest: what a pass leaves, its partition, and the end.
 ghost use Rattle.std.specs.Prelude.{◌≡◌, List, ℕ, ◌*◌, ◌≤◌, length, take};
-ghost use Rattle.definitions.specs.Limits.{max_entries};
+ghost use Rattle.definitions.specs.Limits.{max_entries, numbers_per_span, numbers_per_boundary, numbers_per_row};
 ghost use Rattle.definitions.specs.Lists.{overwrite, zeroed};
 ghost use Rattle.definitions.specs.RegionRecord.{Region};
 ghost use Rattle.definitions.specs.Rows.{flat_rows};
@@ -20,6 +20,7 @@ use definitions::limits::{
 use grid_steps::grid::TerrainGrid;
 
 // How many boundaries are kept, and the regions and rows of pairs of their partition.
+// Kept: the three counts of one partition, each named by itself in the contracts of a run; a `Ready` inside would put one name more before two of them there.
 #[derive(Clone, Copy)]
 pub struct Standing {
     pub kept: usize,
@@ -28,6 +29,7 @@ pub struct Standing {
 }
 
 // The lists of a run. In front of each stands what is kept: the numbers of boundaries, their endpoints as spans, and the boundaries.
+// Kept: how many are in front is told by a `Standing`, and not by a field here, since a run holds two over these lists, of its first partition and of its last.
 #[derive(Drop)]
 pub struct KeptLists {
     pub numbers: [u64; MAX_ENTRIES],
@@ -39,7 +41,7 @@ impl KeptLists {
     // The first `count` boundaries.
     pub fn front(&self, count: usize) -> &[u64]
         requires { count ≤ max_entries }
-        ensures { result.now ≡ take (9 * count) self.now.boundaries }
+        ensures { result.now ≡ take (numbers_per_boundary * count) self.now.boundaries }
     {
         &self.boundaries[..NUMBERS_PER_BOUNDARY * count]
     }
@@ -48,9 +50,9 @@ impl KeptLists {
     pub fn keep_left(&mut self, removed: &[bool; MAX_ENTRIES], count: usize) -> usize
         requires { count ≤ max_entries }
         ensures numbers { self.new.numbers ≡ overwrite (left_blocks removed.now 1 self.old.numbers count) self.old.numbers }
-        ensures spans { self.new.spans ≡ overwrite (left_blocks removed.now 4 self.old.spans count) self.old.spans }
+        ensures spans { self.new.spans ≡ overwrite (left_blocks removed.now numbers_per_span self.old.spans count) self.old.spans }
         ensures boundaries { self.new.boundaries
-            ≡ overwrite (left_blocks removed.now 9 self.old.boundaries count) self.old.boundaries }
+            ≡ overwrite (left_blocks removed.now numbers_per_boundary self.old.boundaries count) self.old.boundaries }
         ensures answer { result ≡ left_count removed.now count }
     {
         keep_blocks(&mut self.numbers, 1, removed, count);
@@ -61,6 +63,7 @@ impl KeptLists {
 
 // Labels, tallies and pairs of what is kept; beyond them, as far as the first partition filled, zero. It is not refused: no later partition has more regions or
 // pairs than the first.
+// Kept: `kept` is named beside the spans, for it is in the answer too; of a slice of just these spans it would be found by a division.
 pub fn divide_again(
     grid: TerrainGrid,
     spans: &[u64],
@@ -97,7 +100,7 @@ pub fn finish_rest(
     output: &mut [u64],
 )
     requires scratch { (needed ≤ length masks.old) × (needed ≤ length queue.old) }
-    requires room { (count ≤ max_entries) × (5 * count ≤ length output.old) }
+    requires room { (count ≤ max_entries) × (numbers_per_row * count ≤ length output.old) }
     ensures scratch { (masks.new ≡ zeroed needed masks.old) × (queue.new ≡ zeroed needed queue.old) }
     ensures output { output.new ≡ overwrite (flat_rows (rows_at kept.now.numbers kept.now.spans count)) output.old }
 {

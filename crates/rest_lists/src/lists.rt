@@ -12,12 +12,7 @@ fn same_ends(spans: &[u64], k: usize, boundaries: &[u64], j: usize) -> bool
     ensures { result ≡ (same_point_lem (segment_at spans.now k).a (segment_at boundaries.now j).a
         && same_point_lem (segment_at spans.now k).b (segment_at boundaries.now j).b) }
 {
-    let span = ((spans[k], spans[k + 1]), (spans[k + 2], spans[k + 3]));
-    let boundary = (
-        (boundaries[j], boundaries[j + 1]),
-        (boundaries[j + 2], boundaries[j + 3]),
-    );
-    span == boundary
+    spans[k..k + NUMBERS_PER_SPAN] == boundaries[j..j + NUMBERS_PER_SPAN]
 }
 
 // Both lists have an entry i, with the same endpoints as written.
@@ -34,8 +29,8 @@ fn agrees(spans: &[u64], boundaries: &[u64], i: usize) -> bool
         )
 }
 
-// Kept: `desk_fault` of `desk_checks` asks another relation of the same entries. One search for both would take the relation as a closure, with a contract
-// on what the closure answers, in place of these two lines.
+// Kept: `desk_fault` of `desk_checks` asks another relation of the same entries, as `agrees` and `lies_on` do. One search for both would take the relation as a
+// closure, with a contract on what it answers. Both lists in chunks, zipped, would end with the shorter, whose end would then be a case of its own.
 pub fn lists_fault(spans: &[u64], boundaries: &[u64]) -> Option<usize>
     ensures { result ≡ lists_fault spans.now boundaries.now }
 {

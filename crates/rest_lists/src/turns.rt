@@ -2,7 +2,7 @@
 
 ghost use Rattle.std.specs.Prelude.{◌≡◌, cond, ◌+◌, ◌≤◌, eqb};
 ghost use Rattle.checks.specs.Passes.{pass_number};
-ghost use Rattle.rest_lists.specs.Turns.{turn_of, quiet_after, turn_after};
+ghost use Rattle.rest_lists.specs.Turns.{turn_of, turn_after};
 
 use checks::passes::Pass;
 
@@ -24,46 +24,33 @@ pub fn first_turn() -> Turn
     }
 }
 
-fn quiet_after(quiet: u64, removed: bool) -> u64
-    requires { quiet ≤ 3 }
-    ensures { result ≡ quiet_after quiet removed }
-{
-    if removed { 0 } else { quiet + 1 }
-}
-
-// Behind a pass that removed some, or none.
-pub fn next_turn(turn: Turn, removed: bool) -> Turn
-    requires { (turn.quiet ≤ 3) × (turn.rounds ≤ 257) }
-    ensures { turn_of result ≡ turn_after (turn_of turn) removed }
-{
-    let quiet = quiet_after(turn.quiet, removed);
-    let rounds = turn.rounds;
-    match turn.pass {
-        Pass::ReplaceRampMouths => Turn {
-            pass: Pass::CollapseRampInteriors,
+impl Turn {
+    // Behind a pass that removed some, or none.
+    pub fn next(self, removed: bool) -> Turn
+        requires { (self.quiet ≤ 3) × (self.rounds ≤ 257) }
+        ensures { turn_of result ≡ turn_after (turn_of self) removed }
+    {
+        let quiet = if removed { 0 } else { self.quiet + 1 };
+        let (pass, rounds) = match self.pass {
+            Pass::ReplaceRampMouths => (Pass::CollapseRampInteriors, self.rounds),
+            Pass::CollapseRampInteriors => (Pass::RemoveJunctionBoundaries, self.rounds),
+            Pass::RemoveJunctionBoundaries => (Pass::ReplaceRampMouths, self.rounds + 1),
+        };
+        Turn {
+            pass,
             quiet,
             rounds,
-        },
-        Pass::CollapseRampInteriors => Turn {
-            pass: Pass::RemoveJunctionBoundaries,
-            quiet,
-            rounds,
-        },
-        Pass::RemoveJunctionBoundaries => Turn {
-            pass: Pass::ReplaceRampMouths,
-            quiet,
-            rounds: rounds + 1,
-        },
+        }
     }
-}
 
-// The rounds of a run that three quiet passes end: the round in which the last of them stands is the last.
-pub fn rounds_of(turn: Turn) -> u64
-    requires { turn.rounds ≤ 257 }
-    ensures { result ≡ cond (eqb (pass_number turn.pass) 1) turn.rounds (turn.rounds + 1) }
-{
-    match turn.pass {
-        Pass::ReplaceRampMouths => turn.rounds,
-        _ => turn.rounds + 1,
+    // The rounds of a run that three quiet passes end: the round in which the last of them stands is the last.
+    pub fn rounds_run(self) -> u64
+        requires { self.rounds ≤ 257 }
+        ensures { result ≡ cond (eqb (pass_number self.pass) 1) self.rounds (self.rounds + 1) }
+    {
+        match self.pass {
+            Pass::ReplaceRampMouths => self.rounds,
+            _ => self.rounds + 1,
+        }
     }
 }

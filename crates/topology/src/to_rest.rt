@@ -27,7 +27,7 @@ use refusals::Refusal;
 use refusals::answers::Answer;
 use rest_lists::begin::begin_rest;
 use rest_lists::kept::{KeptLists, Standing, divide_again, finish_rest};
-use rest_lists::turns::{first_turn, next_turn, rounds_of};
+use rest_lists::turns::first_turn;
 
 // How many rows are kept, and how many rounds were run.
 #[derive(Clone, Copy)]
@@ -166,12 +166,12 @@ pub fn run_turns(
         let next = turn_once(
             turn.pass, grid, anchors, first, standing, lists, records, kept,
         );
-        turn = next_turn(turn, next.kept != standing.kept);
+        turn = turn.next(next.kept != standing.kept);
         standing = next;
     }
     RestKept {
         kept: standing.kept,
-        rounds: rounds_of(turn),
+        rounds: turn.rounds_run(),
     }
 }
 

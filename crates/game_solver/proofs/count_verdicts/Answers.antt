@@ -44,6 +44,6 @@ returns-in_err-check_graph c =
 pub returns : goal.returns
 unfolding solve_answer
 returns c =
-    λ list l.
-    passed _ _ (ensured 3 (whole list l) c.in_ok-ensure.ensures)
-    (passed _ _ (ensured 10 refl c.in_ok-ensure-2.ensures) (passed [] _ (sym c.in_ok-check_graph.ensures) refl ∙ joined (refusal 23 (graph_fault c.args.regions)) (refusal 24 (goal_fault c.args.regions c.args.goal)) [] (place_count c.args.regions)))
+    λ list l. rw c.place_count.ensures
+    (passed _ _ (ensured 3 (whole list l) c.in_ok-ensure.ensures)
+    (passed _ _ (ensured 10 refl c.in_ok-ensure-2.ensures) (passed [] _ (sym c.in_ok-check_graph.ensures) refl ∙ joined (refusal 23 (graph_fault c.args.regions)) (refusal 24 (goal_fault c.args.regions c.args.goal)) [] (place_count c.args.regions))))

@@ -10,4 +10,4 @@ returns g c =
     let a = c.args in
     let sizes = c.requires.sizes in
     solved (last_two g.row.N a.regions a.edges.now a.goal) _ _ a.verdicts.now _ a.regions (a.goal - 1) sizes.0 (omega (arith, sizes.1, sizes.2)) sizes.3
-    (record { regions_are = refl; goal_is = omega (arith, sizes.1); steps = c.find_neighbours.ensures a.goal }) c.search.ensures c.put_verdicts.ensures
+    (record { regions_are = refl; goal_is = omega (arith, sizes.1); steps = c.find_neighbours.ensures a.goal }) c.search-ranks.ensures c.put_verdicts.ensures
