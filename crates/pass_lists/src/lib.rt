@@ -62,6 +62,7 @@ pub fn view(
 
 // Clears masks and queue, writes the rows of the `count` boundaries that are not removed, and gives how many there are.
 // Never put into its caller: the rows that are sorted here, 10 KiB, would stand on the stack beside the lists of the pass.
+// Kept: `count` is named beside the boundaries; behind these the list may have more, of which the contract does not speak.
 #[inline(never)]
 pub fn finish(
     needed: usize,

@@ -23,6 +23,8 @@ use junction_proposals::lists::JunctionLists;
 use pass_lists::{SpanPartition, view};
 
 // Marks the boundaries that the pass removes. Marks and counts, which show anchored regions and incidents, are its to work in.
+// Kept: the marks of boundaries are lent, and clear at the start. A pass that gave them would make the list, lend it to what marks edge by edge and give it:
+// two lines more in each pass, and a pair as the answer of `rank_junctions`, which counts besides.
 pub fn removed_marks(
     pass: Pass,
     records: &[Region],
@@ -130,6 +132,7 @@ fn mark_lent(
         asked.entry.boundaries.now masks.old queue.old masks.new queue.new (replicate max_entries false) result }
 {
     let width = asked.width as usize;
+    // Kept: `mark_ranked` makes the same; a function of both would promise each of the ten fields, and be longer than the two literals.
     let partition = SpanPartition {
         width,
         needed: asked.height as usize * width,

@@ -90,6 +90,7 @@ pub fn mark_ranked(
         return 0;
     }
     let width = asked.width as usize;
+    // Kept: as in `mark_lent` of `marks`.
     let partition = SpanPartition {
         width,
         needed: asked.height as usize * width,

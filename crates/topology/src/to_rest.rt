@@ -107,6 +107,9 @@ fn mark_kept<'x>(
     mark_asked(pass, asked, ready, records, lists)
 }
 
+// Kept: grid, anchors and the first partition are as they were, the lists change. In a struct of all of them each contract would say of its fields what it says
+// of the parameters here, and besides of the first three that they stay.
+//
 // One pass over what is kept: what it does not mark moves to the front. Where it removes some, the partition and the records of what is left.
 pub fn turn_once(
     pass: Pass,
