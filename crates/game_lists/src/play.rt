@@ -24,8 +24,7 @@ pub struct GameAnswer {
     pub regions: u64,
 }
 
-// Kept: C has a struct of its own for each of these calls, so that three structs are converted to; a refusal's two numbers taken out of an `Answer` would be
-// two lines more.
+// Kept: not the `Answer` of `refusals`, since C's struct of this call has a third number, how many regions the kept graph has.
 impl From<Result<GameKept, Refusal>> for GameAnswer {
     ghost from_gives = { λ given answer. answer_in answer ≡ game_answer_of given };
 

@@ -24,7 +24,6 @@ use context::Region;
 use definitions::limits::{MAX_ENTRIES, NUMBERS_PER_BOUNDARY, NUMBERS_PER_SPAN};
 use grid_steps::grid::TerrainGrid;
 use refusals::Refusal;
-use refusals::answers::Answer;
 use rest_lists::begin::begin_rest;
 use rest_lists::kept::{KeptLists, Standing, divide_again, finish_rest};
 use rest_lists::turns::first_turn;
@@ -45,7 +44,7 @@ pub struct RestAnswer {
     pub rounds: u64,
 }
 
-// Kept: C has a struct of its own for each of these calls, so that three structs are converted to.
+// Kept: not the `Answer` of `refusals`, since C's struct of this call has a third number, how many rounds there were.
 impl From<Result<RestKept, Refusal>> for RestAnswer {
     ghost from_gives = { λ given answer. rest_answer answer ≡ rest_answer_of given };
 
@@ -56,14 +55,11 @@ impl From<Result<RestKept, Refusal>> for RestAnswer {
                 value: rest.kept as u64,
                 rounds: rest.rounds,
             },
-            Err(refusal) => {
-                let Answer { number, value } = Answer::from(refusal);
-                RestAnswer {
-                    number,
-                    value,
-                    rounds: 0,
-                }
-            }
+            Err(refusal) => RestAnswer {
+                number: refusal.cause.number(),
+                value: refusal.place as u64,
+                rounds: 0,
+            },
         }
     }
 }
@@ -85,7 +81,8 @@ fn mark_kept<'x>(
     ensures marked { (M : Map) → Lent M records.now grid.entry.width (grid.entry.height * grid.entry.width) lists.old.labels.now anchors.now
         standing.regions standing.rows standing.kept (take (numbers_per_boundary * standing.kept) kept.now.boundaries)
         lists.old.tallies.now lists.old.pairs.now (length lists.old.masks.now) (length lists.old.queue.now)
-        → MarkedFor (pass_number pass) M (grid.entry.height * grid.entry.width) standing.kept (take (numbers_per_boundary * standing.kept) kept.now.boundaries)
+        → MarkedFor (pass_number pass) M (grid.entry.height * grid.entry.width) standing.kept
+        (take (numbers_per_boundary * standing.kept) kept.now.boundaries)
         lists.old.masks.now lists.old.queue.now lists.new.masks.now lists.new.queue.now (replicate max_entries false) result }
     ensures read { SameFilled lists.old lists.new }
     ensures same { SameLists lists.old lists.new }
@@ -107,8 +104,8 @@ fn mark_kept<'x>(
     mark_asked(pass, asked, ready, records, lists)
 }
 
-// Kept: grid, anchors and the first partition are as they were, the lists change. In a struct of all of them each contract would say of its fields what it says
-// of the parameters here, and besides of the first three that they stay.
+// Kept: grid, anchors and the first partition stay, the lists change. In a struct of all of them each contract would say of its fields what it says of the
+// parameters here, and of the first three besides that they stay.
 //
 // One pass over what is kept: what it does not mark moves to the front. Where it removes some, the partition and the records of what is left.
 pub fn turn_once(
