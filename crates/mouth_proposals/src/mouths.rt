@@ -200,15 +200,12 @@ fn approach_mouth(
         Measured C m a measures →
         candidate_form C m a result ≡ approach_mouth C m a approach }
 {
-    match approach? {
-        Approach::Single(sides) => {
-            let blocked = other_end_at(ends, sides.approach);
-            single_mouth(regions, sides, blocked, measures)
-        }
-        Approach::Star(sides) => {
-            let blocked = other_end_at(ends, sides.approach);
-            star_mouth(context, regions, m, sides, blocked, measures)
-        }
+    let approach = approach?;
+    let (Approach::Single(sides) | Approach::Star(sides)) = approach;
+    let blocked = other_end_at(ends, sides.approach);
+    match approach {
+        Approach::Single(_) => single_mouth(regions, sides, blocked, measures),
+        Approach::Star(_) => star_mouth(context, regions, m, sides, blocked, measures),
     }
 }
 
