@@ -1,11 +1,10 @@
 -- What is found of a mouth and a ramp, by the tests in the order in which the code makes them. Assumes nothing.
 use Prim.Native.Nat.{ℕ, ◌+◌, ◌*◌, ◌<◌}
-use native.Mathlib.Omega.{arith}
 use mathlib.Core.Path.{◌≡◌, refl, sym, ap, ◌∙◌}
 use mathlib.Core.Bool.{Bool, true, false, not, ◌&&◌, ◌||◌, cond, false≢true}
-use Rattle.std.specs.Prelude.{Option, None, Some}
-use mathlib.Core.List.{List, [], ◌∷◌}
-use lib.ListN.{length, get_or}
+use Rattle.std.specs.Prelude.{Option, None, Some, is_some}
+use mathlib.Core.List.{List}
+use lib.ListN.{get_or}
 use lib.Dec.{eqb}
 use borrow.Author.Tests.{not-false}
 use Rattle.definitions.specs.Limits.{numbers_per_boundary}
@@ -15,7 +14,8 @@ use Rattle.definitions.specs.MouthShapes.{distinct_regions, mouth_shape, triangl
 use Rattle.definitions.specs.Context.{Context, full_cut, full_pair, no_ramp}
 use Rattle.definitions.specs.RampMouths.{MouthProposal, broad_mouth, nearby_representative, overlay_representative, shaped_mouth, triangle_mouth, triangle, triangle_or}
 use Rattle.laws.specs.ListLaws.Lists.{All}
-use Rattle.mouth_proposals.specs.Rows.{rows_of}
+use Rattle.mouth_proposals.specs.Rows.{rows_of, TriangleOf}
+use Rattle.mouth_proposals.specs.declared.shapes.Edges.{Edges}
 use Rattle.mouth_proposals.specs.Lent.{Shows}
 use Rattle.mouth_proposals.specs.Candidates.{Measured, approach_of, approach_mouth, found_mouth}
 use Rattle.mouth_proposals.specs.declared.measures.Measures.{Measures}
@@ -23,17 +23,6 @@ use Rattle.mouth_proposals.specs.declared.approaches.Approach.{Approach}
 use Rattle.mouth_proposals.proofs.ApproachLaws.{Named}
 use Rattle.mouth_proposals.proofs.SafeLists.{kind-shown, triangle-shown}
 use Rattle.mouth_proposals.proofs.ShapedMouths.{shaped_is}
-
--- a triangle has two rows
-pub triangle_two : (l k : List Pair) (rs : List ℕ) (t : Bool) → triangle_representative l k ≡ only_if t rs → t ≡ true → length l ≡ 2
-unfolding triangle_representative
-triangle_two l k rs t e h = go l k (e ∙ ap (λ b. only_if b rs) h)
-  where
-    go : (l k : List Pair) → triangle_representative l k ≡ Some rs → length l ≡ 2
-    go [] k e = absurd (let z : ◌≡◌ {A = ℕ} 0 1 = cc in omega arith)
-    go (p ∷ []) k e = absurd (let z : ◌≡◌ {A = ℕ} 0 1 = cc in omega arith)
-    go (p ∷ q ∷ []) k e = refl
-    go (p ∷ q ∷ r ∷ l) k e = absurd (let z : ◌≡◌ {A = ℕ} 0 1 = cc in omega arith)
 
 module _ (C : Context) (a m : ℕ) where
   abbrev near : Bool
@@ -92,16 +81,16 @@ pub record Tried (C : Context) (a m : ℕ) (t : Bool) (A : Option Approach) : Ty
 -- from the lists; k says whether the mouth has a ramp
 pub tried : {boundaries pairs starts counts marks : List ℕ} {count : ℕ} {C : Context} → Shows boundaries pairs starts counts marks count C → {m a : ℕ} → m < C.count → a < C.count → no_ramp C a ≡ false → full_cut C a ≡ true
     → {k : Bool} → k ≡ not (eqb (get_or boundaries (numbers_per_boundary * m + 5) 0) 0) → k ≡ false → full_cut C m ≡ true
-    → {t : Bool} → triangle_representative (rows_of pairs starts m) (rows_of pairs starts a) ≡ only_if t (distinct_regions (rows_of pairs starts m))
-    → {A : Option Approach} → A ≡ approach_of (full_pair C a) (mouth_shape true (C.pairs m)) → Tried C a m t A
-tried S {m} {a} lm la ramp cut e z full {t} h by =
+    → (o : Option Edges) → TriangleOf (rows_of pairs starts m) (rows_of pairs starts a) o
+    → {A : Option Approach} → A ≡ approach_of (full_pair C a) (mouth_shape true (C.pairs m)) → Tried C a m (is_some o) A
+tried S {m} {a} lm la ramp cut e z full o h by =
     record {
       ramp = ramp;
       cut = cut;
       plain = kind-shown S.bounds m lm ∙ not-false _ (sym e ∙ z);
       full = full;
       named = S.rows.named m lm;
-      three = triangle-shown S.rows m a lm la t h;
+      three = triangle-shown S.rows m a lm la o h;
       by = by;
     }
 

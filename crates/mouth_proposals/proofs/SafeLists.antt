@@ -3,8 +3,8 @@ use Prim.Native.Nat.{ℕ, ◌+◌, ◌*◌, ◌≤◌, ◌<◌}
 use native.Mathlib.Omega.{arith}
 use native.Mathlib.Nat.{le_trans}
 use mathlib.Core.Path.{◌≡◌, sym, ap, ap₂, ◌∙◌, subst}
-use mathlib.Core.Bool.{Bool, true}
-use Rattle.std.specs.Prelude.{Option}
+use mathlib.Core.Bool.{true}
+use Rattle.std.specs.Prelude.{Option, None, Some, is_some}
 use mathlib.Core.List.{List}
 use lib.ListN.{length, get_or}
 use lib.Dec.{eqb}
@@ -13,13 +13,16 @@ use Rattle.definitions.specs.Scan.{only_if}
 use Rattle.definitions.specs.Grid.{Pair}
 use Rattle.definitions.specs.MouthShapes.{distinct_regions, mouth_shape, triangle_representative}
 use Rattle.definitions.specs.Context.{Context, no_ramp}
+use Rattle.laws.specs.ListLaws.Lists.{All, done, more}
 use Rattle.context.specs.Shown.{ShownBoundaries, ShownPairs}
 use Rattle.context.specs.Rows.{Stretch, NamedRow}
 use Rattle.context.proofs.ShownLaws.{shown-stretch, shown-rows}
 use Rattle.mouth_proposals.specs.Lent.{Shown}
-use Rattle.mouth_proposals.specs.Rows.{rows_of}
+use Rattle.mouth_proposals.specs.Rows.{rows_of, EdgesWithin, edges_form, TriangleOf}
 use Rattle.mouth_proposals.specs.Candidates.{approach_of, Within}
 use Rattle.mouth_proposals.specs.declared.approaches.Approach.{Approach}
+use Rattle.mouth_proposals.specs.declared.shapes.Edges.{Edges}
+use Rattle.mouth_proposals.proofs.ApproachLaws.{Named}
 use Rattle.mouth_proposals.proofs.Within.{within_more, approach_within}
 
 pub below : {i n k : ℕ} → n ≡ k → i < k → i < n
@@ -55,9 +58,21 @@ module _ {C : Context} where
   kind-shown S m l = ap (λ b. eqb b.kind 0) (S.at m l)
 
   module _ {pairs starts : List ℕ} (P : ShownPairs C pairs starts) where
-    pub triangle-shown : (m a : ℕ) → m < C.count → a < C.count → (t : Bool) → triangle_representative (rows_of pairs starts m) (rows_of pairs starts a) ≡ only_if t (distinct_regions (rows_of pairs starts m))
-        → triangle_representative (C.pairs m) (C.pairs a) ≡ only_if t (distinct_regions (C.pairs m))
-    triangle-shown m a h k t e = ap₂ triangle_representative (P.at m h) (P.at a k) ∙ e ∙ ap (λ l. only_if t (distinct_regions l)) (sym (P.at m h))
+    pub triangle-shown : (m a : ℕ) → m < C.count → a < C.count → (o : Option Edges) → TriangleOf (rows_of pairs starts m) (rows_of pairs starts a) o
+        → triangle_representative (C.pairs m) (C.pairs a) ≡ only_if (is_some o) (distinct_regions (C.pairs m))
+    triangle-shown m a h k None e = ap₂ triangle_representative (P.at m h) (P.at a k) ∙ e
+    triangle-shown m a h k (Some s) e = ap₂ triangle_representative (P.at m h) (P.at a k) ∙ e.1 ∙ ap (λ l. Some (distinct_regions l)) (sym (P.at m h))
+
+    -- the edges of a triangle are the rows of mouth m
+    pub edges-shown : (m : ℕ) → m < C.count → (r : List Pair) {o : Option Edges} → TriangleOf (rows_of pairs starts m) r o → {s : Edges} → o ≡ Some s → C.pairs m ≡ edges_form s
+    edges-shown m h r t e = P.at m h ∙ (subst (TriangleOf (rows_of pairs starts m) r) e t).0
+
+    -- their regions are numbered
+    pub edges_within : (m : ℕ) → m < C.count → {s : Edges} → C.pairs m ≡ edges_form s → EdgesWithin C.regions s
+    edges_within m h {s} e = go (subst (All (Named C.regions)) e (P.named m h))
+      where
+        go : All (Named C.regions) (edges_form s) → EdgesWithin C.regions s
+        go (more p (more q done)) = (((p.0, omega (arith, p)), (omega (arith, p), p.1.1)), ((q.0, omega (arith, q)), (omega (arith, q), q.1.1)))
 
     pub approach_named : (m : ℕ) → m < C.count → (o : Option Pair) {A : Option Approach} → A ≡ approach_of o (mouth_shape true (C.pairs m)) → Within C.regions A
     approach_named m h o e = subst (Within C.regions) (sym e) (approach_within (C.pairs m) (P.named m h) o)

@@ -12,10 +12,11 @@ use Rattle.definitions.specs.Grid.{Pair, contains}
 use Rattle.definitions.specs.MouthShapes.{MouthShape, single, star, distinct_regions, mouth_shape}
 use Rattle.laws.specs.ListLaws.Lists.{All, done, more, all_filter}
 use Rattle.laws.specs.ListLaws.NumberLists.{all-add_all}
-use Rattle.mouth_proposals.specs.Rows.{is_outer, inner_of, one_of}
+use Rattle.mouth_proposals.specs.Rows.{is_outer, inner_of, one_of, EdgesWithin}
 use Rattle.mouth_proposals.specs.Candidates.{single_at, star_at, approach_of, Within, Numbered}
 use Rattle.mouth_proposals.specs.declared.approaches.Approach.{Approach}
 use Rattle.mouth_proposals.specs.declared.approaches.Approach.TheVariants as approach
+use Rattle.mouth_proposals.specs.declared.shapes.Edges.{Edges}
 use Rattle.mouth_proposals.proofs.ApproachLaws.{Named, single-pairs, all_of_one}
 use Rattle.mouth_proposals.proofs.StarShapes.{star_is}
 use Rattle.mouth_proposals.proofs.Fitting.{all-named-regions}
@@ -24,6 +25,9 @@ pub within_more : {n k : ℕ} → n ≤ k → (A : Option Approach) → Within n
 within_more h None w = tt
 within_more h (Some (approach.Single s)) w = ((w.0.0, le_trans w.0.1 h), (w.1.0, le_trans w.1.1 h))
 within_more h (Some (approach.Star s)) w = ((w.0.0, le_trans w.0.1 h), (w.1.0, le_trans w.1.1 h))
+
+pub edges_more : {n k : ℕ} → n ≤ k → (e : Edges) → EdgesWithin n e → EdgesWithin k e
+edges_more h e w = (((w.0.0.0, le_trans w.0.0.1 h), (w.0.1.0, le_trans w.0.1.1 h)), ((w.1.0.0, le_trans w.1.0.1 h), (w.1.1.0, le_trans w.1.1.1 h)))
 
 module _ {n : ℕ} where
   single-within : (p : Pair) → Named n p → (o : Option ℕ) → Numbered n o → Within n (single_at p o)

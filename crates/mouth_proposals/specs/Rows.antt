@@ -1,11 +1,13 @@
 -- The rows of a boundary, and what the answers on them stand for. Definitions only; assumes nothing.
 use Rattle.std.specs.Option.{option_eq}
-use Rattle.std.specs.Prelude.{ℕ, ◌+◌, Bool, not, List, [], ◌∷◌, get_or, eqb, Option, None, Some}
+use Rattle.std.specs.Prelude.{ℕ, ◌+◌, ◌≡◌, ◌≤◌, Bool, not, List, [], ◌∷◌, get_or, eqb, Option, None, Some}
 use Rattle.definitions.specs.Scan.{filter}
 use Rattle.definitions.specs.Grid as grid
-use Rattle.definitions.specs.MouthShapes.{MouthShape, single, star, distinct_regions}
+use Rattle.definitions.specs.MouthShapes.{MouthShape, single, star, distinct_regions, triangle_representative}
 use Rattle.context.specs.Shown.{pairs_between}
 use Rattle.context.specs.Rows.{pair_form}
+use Rattle.region_pairs.specs.declared.Pair as declared
+use Rattle.mouth_proposals.specs.declared.shapes.Edges.{Edges}
 use Rattle.mouth_proposals.specs.declared.shapes.Shape.{Shape}
 use Rattle.mouth_proposals.specs.declared.shapes.Shape.TheVariants as shape
 
@@ -27,6 +29,22 @@ abbrev pub shape_form : List grid.Pair → Option Shape → Option MouthShape
 shape_form l None = None
 shape_form l (Some (shape.Single p)) = Some (single (pair_form p))
 shape_form l (Some (shape.Star outer)) = Some (star outer (filter (λ r. not (eqb r outer)) (distinct_regions l)))
+
+-- both regions of the pair are numbered from 1 to n
+abbrev pub PairWithin : ℕ → declared.Pair → Type 0
+PairWithin n p = ((1 ≤ p.lo) × (p.lo ≤ n)) × ((1 ≤ p.hi) × (p.hi ≤ n))
+
+abbrev pub EdgesWithin : ℕ → Edges → Type 0
+EdgesWithin n e = PairWithin n e.first × PairWithin n e.second
+
+-- the rows that the edges are
+abbrev pub edges_form : Edges → List grid.Pair
+edges_form e = pair_form e.first ∷ pair_form e.second ∷ []
+
+-- the mouth's edges where its rows and the ramp's form a triangle, and none where they do not
+abbrev pub TriangleOf : List grid.Pair → List grid.Pair → Option Edges → Type 0
+TriangleOf mouth ramp None = triangle_representative mouth ramp ≡ None
+TriangleOf mouth ramp (Some e) = (mouth ≡ edges_form e) × (triangle_representative mouth ramp ≡ Some (distinct_regions mouth))
 
 -- the one number of a list, where there is just one
 abbrev pub one_of : List ℕ → Option ℕ

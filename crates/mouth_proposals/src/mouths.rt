@@ -1,12 +1,12 @@
 // What a mouth and a ramp propose, before the records of regions are looked at.
-ghost use Rattle.std.specs.Prelude.{◌≡◌, Some, true, false, cond, ℕ, ◌+◌, ◌-◌, ◌≤◌, ◌<◌, length, get_or};
-ghost use Rattle.definitions.specs.Limits.{max_entries};
+ghost use Rattle.std.specs.Prelude.{◌≡◌, Some, true, false, cond, ℕ, ◌+◌, ◌≤◌, ◌<◌, length, get_or};
 ghost use Rattle.definitions.specs.Scan.{all};
 ghost use Rattle.definitions.specs.MouthShapes.{regions_of, distinct_regions};
 ghost use Rattle.definitions.specs.Context.{Context, full_cut, no_ramp};
 ghost use Rattle.definitions.specs.RampMouths.{other_end_incident, triangle_mouth};
 ghost use Rattle.context.specs.Shown.{pairs_between, ShownTallies, ShownPairs, ShownIncidents, ShownAnchored};
 ghost use Rattle.context.specs.Rows.{Stretch};
+ghost use Rattle.mouth_proposals.specs.Rows.{EdgesWithin, edges_form};
 ghost use Rattle.mouth_proposals.specs.Lent.{NamedBetween, PassShows, PassShown};
 ghost use Rattle.mouth_proposals.specs.Outers.{mark_at, inner_fits, with_region};
 ghost use Rattle.mouth_proposals.specs.Candidates.{plain, broad, is_triangular, is_broad, Within, Measured, candidate_form, found_mouth, approach_mouth};
@@ -16,7 +16,7 @@ use crate::approaches::{Approach, Sides, approach_of};
 use crate::ends::{OtherEnds, Ramp, other_end_at};
 use crate::measures::Measures;
 use crate::regions::RegionMarks;
-use crate::shapes::triangle_representative;
+use crate::shapes::{Edges, triangle_representative};
 use context::PartitionContext;
 use context::found_regions::FoundRegions;
 use context::pairs::row_at;
@@ -151,23 +151,20 @@ fn with_region(regions: RegionMarks, found: FoundRegions, r: u32) -> FoundRegion
     }
 }
 
-// The proposal of a triangle, whose regions two rows of mouth m name: one of them at most is anchored, and that one is outside.
-fn triangle_mouth(context: PartitionContext, regions: RegionMarks, m: usize) -> Option<Mouth>
-    requires places { (m < max_entries) × (get_or context.starts.now (m + 1) 0 - get_or context.starts.now m 0 ≡ 2) }
-    requires named_rows { NamedBetween context.pairs.now regions (get_or context.starts.now m 0) (get_or context.starts.now (m + 1) 0) }
-    ensures { (C : Context) (a : ℕ) →
-        ShownPairs C context.entry.pairs.now context.entry.starts.now →
+// The proposal of a triangle, whose regions the mouth's edges name: one of them at most is anchored, and that one is outside.
+fn triangle_mouth(regions: RegionMarks, edges: Edges) -> Option<Mouth>
+    requires { EdgesWithin (length regions.marks.now) edges }
+    ensures { (C : Context) (m a : ℕ) →
         ShownAnchored C regions.entry.marks.now →
-        m < C.count →
+        EdgesWithin C.regions edges →
+        C.pairs m ≡ edges_form edges →
         candidate_form C m a result ≡ triangle_mouth C m a (distinct_regions (C.pairs m)) }
 {
-    let first = context.rows(m).start;
-    let p = row_at(context.pairs, first);
-    let q = row_at(context.pairs, first + 1);
-    let one = with_region(regions, FoundRegions::None, p.lo);
-    let two = with_region(regions, one, p.hi);
-    let three = with_region(regions, two, q.lo);
-    let outer = match with_region(regions, three, q.hi) {
+    let Edges { first, second } = edges;
+    let one = with_region(regions, FoundRegions::None, first.lo);
+    let two = with_region(regions, one, first.hi);
+    let three = with_region(regions, two, second.lo);
+    let outer = match with_region(regions, three, second.hi) {
         FoundRegions::None => None,
         FoundRegions::One(r) => Some(r),
         FoundRegions::Several => return None,
@@ -200,15 +197,12 @@ fn approach_mouth(
         Measured C m a measures →
         candidate_form C m a result ≡ approach_mouth C m a approach }
 {
-    match approach? {
-        Approach::Single(sides) => {
-            let blocked = other_end_at(ends, sides.approach);
-            single_mouth(regions, sides, blocked, measures)
-        }
-        Approach::Star(sides) => {
-            let blocked = other_end_at(ends, sides.approach);
-            star_mouth(context, regions, m, sides, blocked, measures)
-        }
+    let approach = approach?;
+    let (Approach::Single(sides) | Approach::Star(sides)) = approach;
+    let blocked = other_end_at(ends, sides.approach);
+    match approach {
+        Approach::Single(_) => single_mouth(regions, sides, blocked, measures),
+        Approach::Star(_) => star_mouth(context, regions, m, sides, blocked, measures),
     }
 }
 
@@ -235,15 +229,15 @@ pub fn mouth_candidate(
     }
     let triangle = triangle_representative(context, m, a);
     let approach = approach_of(context, m, a);
-    if !triangle & approach.is_none() {
+    if triangle.is_none() & approach.is_none() {
         return None;
     }
     let measures = Measures::of(context.boundaries, m, a);
     if !measures.any() {
         return None;
     }
-    if measures.nearby & triangle {
-        return triangle_mouth(context, regions, m);
+    match triangle {
+        Some(edges) if measures.nearby => triangle_mouth(regions, edges),
+        _ => approach_mouth(context, regions, m, ramp.ends, approach, measures),
     }
-    approach_mouth(context, regions, m, ramp.ends, approach, measures)
 }

@@ -1,12 +1,12 @@
 // The shape of a mouth, from its rows: `star` and `triangle_representative`.
-ghost use Rattle.std.specs.Prelude.{◌≡◌, true, cond, [], ◌∷◌, ◌+◌, ◌*◌, ◌≤◌, length, eqb, None, Some, MatchOption};
+ghost use Rattle.std.specs.Prelude.{◌≡◌, true, cond, ◌+◌, ◌*◌, ◌≤◌, length, eqb, None, Some, MatchOption};
 ghost use Rattle.definitions.specs.Limits.{numbers_per_pair};
 ghost use Rattle.definitions.specs.Scan.{any, all, filter, only_if};
 ghost use Rattle.definitions.specs.Grid.{contains, pair_eq};
 ghost use Rattle.definitions.specs.MouthShapes.{mouth_shape, distinct_regions, triangle_representative};
 ghost use Rattle.context.specs.Shown.{pair_at, pairs_between};
 ghost use Rattle.context.specs.Rows.{Stretch, pair_form};
-ghost use Rattle.mouth_proposals.specs.Rows.{rows_of, shape_form};
+ghost use Rattle.mouth_proposals.specs.Rows.{rows_of, shape_form, edges_form, TriangleOf};
 
 use context::PartitionContext;
 use context::pairs::{Pair, row_at};
@@ -65,9 +65,9 @@ pub fn star(context: PartitionContext, m: usize) -> Option<Shape>
 
 // The rows of a full cut that has two: the edges of a mouth or of a ramp.
 #[derive(Clone, Copy)]
-struct Edges {
-    first: Pair,
-    second: Pair,
+pub struct Edges {
+    pub first: Pair,
+    pub second: Pair,
 }
 
 impl Edges {
@@ -76,7 +76,7 @@ impl Edges {
         requires { Stretch context.pairs.now context.starts.now i }
         ensures { MatchOption result
             (length (rows_of context.entry.pairs.now context.entry.starts.now i) ≡ 2 → ⊥)
-            (λ e. rows_of context.entry.pairs.now context.entry.starts.now i ≡ pair_form e.first ∷ pair_form e.second ∷ []) }
+            (λ e. rows_of context.entry.pairs.now context.entry.starts.now i ≡ edges_form e) }
     {
         let Range { start, end } = context.rows(i);
         if end - start != 2 {
@@ -90,14 +90,14 @@ impl Edges {
 
     // Whether one of the two names region r.
     fn name(self, r: u32) -> bool
-        ensures { result ≡ any (contains r) (pair_form self.first ∷ pair_form self.second ∷ []) }
+        ensures { result ≡ any (contains r) (edges_form self) }
     {
         self.first.contains(r) | self.second.contains(r)
     }
 
     // Whether p is one of the two.
     fn have(self, p: Pair) -> bool
-        ensures { result ≡ any (pair_eq (pair_form p)) (pair_form self.first ∷ pair_form self.second ∷ []) }
+        ensures { result ≡ any (pair_eq (pair_form p)) (edges_form self) }
     {
         (p == self.first) | (p == self.second)
     }
@@ -105,7 +105,7 @@ impl Edges {
 
 // Whether the two rows have three regions.
 fn has_three(mouth: Edges) -> bool
-    ensures { result ≡ eqb (length (distinct_regions (pair_form mouth.first ∷ pair_form mouth.second ∷ []))) 3 }
+    ensures { result ≡ eqb (length (distinct_regions (edges_form mouth))) 3 }
 {
     let Edges { first, second } = mouth;
     let two = first.hi != first.lo;
@@ -116,9 +116,7 @@ fn has_three(mouth: Edges) -> bool
 
 // Whether the rows of the ramp name each region of the mouth's.
 fn all_named(mouth: Edges, ramp: Edges) -> bool
-    ensures { result
-        ≡ all (λ x. any (contains x) (pair_form ramp.first ∷ pair_form ramp.second ∷ []))
-        (distinct_regions (pair_form mouth.first ∷ pair_form mouth.second ∷ [])) }
+    ensures { result ≡ all (λ x. any (contains x) (edges_form ramp)) (distinct_regions (edges_form mouth)) }
 {
     ramp.name(mouth.first.lo)
         & ramp.name(mouth.first.hi)
@@ -128,9 +126,7 @@ fn all_named(mouth: Edges, ramp: Edges) -> bool
 
 // Whether just one of the mouth's rows is one of the ramp's.
 fn one_edge(mouth: Edges, ramp: Edges) -> bool
-    ensures { result
-        ≡ eqb (length (filter (λ e. any (pair_eq e) (pair_form ramp.first ∷ pair_form ramp.second ∷ []))
-        (pair_form mouth.first ∷ pair_form mouth.second ∷ []))) 1 }
+    ensures { result ≡ eqb (length (filter (λ e. any (pair_eq e) (edges_form ramp)) (edges_form mouth))) 1 }
 {
     let first = ramp.have(mouth.first);
     let second = ramp.have(mouth.second);
@@ -138,24 +134,18 @@ fn one_edge(mouth: Edges, ramp: Edges) -> bool
 }
 
 fn is_triangle(mouth: Edges, ramp: Edges) -> bool
-    ensures { triangle_representative (pair_form mouth.first ∷ pair_form mouth.second ∷ []) (pair_form ramp.first ∷ pair_form ramp.second ∷ [])
-        ≡ only_if result (distinct_regions (pair_form mouth.first ∷ pair_form mouth.second ∷ [])) }
+    ensures { triangle_representative (edges_form mouth) (edges_form ramp) ≡ only_if result (distinct_regions (edges_form mouth)) }
 {
     has_three(mouth) & all_named(mouth, ramp) & one_edge(mouth, ramp)
 }
 
-// Whether mouth m and ramp a, both full cuts, form a triangle; its regions are those of the mouth's rows.
-pub fn triangle_representative(context: PartitionContext, m: usize, a: usize) -> bool
+// The edges of mouth m where it and ramp a, both full cuts, form a triangle; its regions are those of the mouth's edges.
+pub fn triangle_representative(context: PartitionContext, m: usize, a: usize) -> Option<Edges>
     requires { Stretch context.pairs.now context.starts.now m × Stretch context.pairs.now context.starts.now a }
-    ensures { triangle_representative (rows_of context.entry.pairs.now context.entry.starts.now m)
-        (rows_of context.entry.pairs.now context.entry.starts.now a)
-        ≡ only_if result (distinct_regions (rows_of context.entry.pairs.now context.entry.starts.now m)) }
+    ensures { TriangleOf (rows_of context.entry.pairs.now context.entry.starts.now m)
+        (rows_of context.entry.pairs.now context.entry.starts.now a) result }
 {
-    let Some(mouth) = Edges::of(context, m) else {
-        return false;
-    };
-    let Some(ramp) = Edges::of(context, a) else {
-        return false;
-    };
-    is_triangle(mouth, ramp)
+    let mouth = Edges::of(context, m)?;
+    let ramp = Edges::of(context, a)?;
+    is_triangle(mouth, ramp).then_some(mouth)
 }
