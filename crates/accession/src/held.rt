@@ -20,8 +20,8 @@ pub struct Held<const SLOTS: usize, const ROOM: usize> {
     links: [u32; ROOM],
 }
 
-// Kept: the records are lent at each call. As a field, the contracts of `new` and `hold` would promise besides that they are the same list, and no
-// call would be shorter.
+// Kept: the records are lent at each call. As a field, the contracts of `new` and `hold` would promise besides that they are the same list, to spare an
+// argument of two calls.
 impl<const SLOTS: usize, const ROOM: usize> Held<SLOTS, ROOM> {
     pub fn new() -> Self
         requires { (0 < SLOTS) × (SLOTS < 2 ^ 32) × (ROOM < 2 ^ 32) }

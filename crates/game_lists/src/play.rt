@@ -45,8 +45,8 @@ impl From<Result<GameKept, Refusal>> for GameAnswer {
 }
 
 // Plays on the graph of `count` rows of pairs.
-// Kept: `kept` and the count of rows are lent as they come from the partition, so that one clause tells the call's whole answer and another all verdicts; the
-// caller would put the answer together itself, and prove it.
+// Kept: `kept` and the count of rows are handed on as the partition gives them, so that one clause tells the call's whole answer; without `kept` the caller
+// would put the answer together, and prove it.
 pub fn play(
     kept: usize,
     regions: usize,

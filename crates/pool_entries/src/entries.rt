@@ -19,7 +19,7 @@ fn show(entries: &mut [u64], accession: &[u64; NUMBERS_PER_ACCESSION])
     ensures { Shown entries.old (record_in accession.now) entries.new }
 {
     let [own, map, day, superseded] = *accession;
-    // Kept: std says nothing of what a slice ends as that `as_chunks_mut` has lent, so that the entry is written by its place.
+    // Kept: std says nothing of what a slice holds once `as_chunks_mut` has lent its chunks, so that the entry is written by its place.
     if let Some(k) = place_of(entries, map) {
         let at = NUMBERS_PER_ENTRY * k;
         entries[at + 1] = own;

@@ -111,8 +111,8 @@ fn least_doubtful(terms: &[u64], keys: &mut [u64]) -> usize
     least_astray(terms, keys)
 }
 
-// Kept: maps and keys go as two lists. In a struct of two arrays their size would be a const parameter of each function that works in them, and all
-// of these would be compiled for either size.
+// Kept: maps and keys go as two lists. A struct of two lent slices would be made anew where both are cut to the count, and each contract would say of its
+// fields what it says here; one of two arrays would make their size a const parameter of all these functions.
 // Takes the terms whose maps are in the part: the map of each, and its position as a key. Gives how many are taken.
 fn take_terms(
     terms: &[u64],
@@ -124,7 +124,7 @@ fn take_terms(
     ensures { Keyed terms.now (term_count terms.now) part.low part.high keys.new result }
 {
     let mut taken = 0;
-    // Kept: the position is what is taken, and of the term only its map; over chunks with `enumerate` that would be `numbers[0]`, a bare index for a name.
+    // Kept: the position is what is taken, and of the term only its map; chunks with `enumerate` and `Term::read` would say the same in a line more.
     for i in 0..terms.len() / NUMBERS_PER_TERM {
         if taken == keys.len() {
             return Err(NoRoom { at: i });

@@ -44,8 +44,8 @@ fn with_call(
 {
     match kept {
         Ok(kept) => {
-            // Kept: a call is asked for its pass by number, and only that it was accepted says that the number names one; its callers have no `Pass` to give.
             let (rows, _) = output.as_chunks::<NUMBERS_PER_ROW>();
+            // Kept: the callers have the pass as a number only; that the call was accepted says that it names one.
             with_kept(report, Pass::try_from(pass).unwrap(), &rows[..kept], count)
         }
         Err(refusal) => with_refused(report, refusal.cause),

@@ -20,7 +20,8 @@ use definitions::limits::{
 use grid_steps::grid::TerrainGrid;
 
 // How many boundaries are kept, and the regions and rows of pairs of their partition.
-// Kept: the three counts of one partition, each named by itself in the contracts of a run; a `Ready` inside would put one name more before two of them there.
+// Kept: the three counts of one partition. A `Ready` inside would spare `divide_again` and `mark_kept` making one of the other, and put one name more before
+// two of the counts in each contract and law.
 #[derive(Clone, Copy)]
 pub struct Standing {
     pub kept: usize,

@@ -151,7 +151,7 @@ pub fn judge(bytes: &[u8], at: usize, count: usize, most: u64) -> Result<usize, 
 }
 
 // The number at an offset where one was judged before, if it has one byte or two: its bytes are there, and its last one is not a 0 that pads it.
-// Kept: beside `number_at`, which reads such bytes too: what both share is one sum, and its tests, of the end and of padding, are what is spared here.
+// Kept: `number_at` reads such bytes too, but tests for the end and for padding, which is spared here; the two would share one sum.
 fn short_at(bytes: &[u8], at: usize) -> Option<Found<u64>>
     requires { Held grammar.number bytes.now at 1 }
     ensures { ShortTold bytes.now at result }
@@ -192,7 +192,7 @@ pub fn fill_numbers(bytes: &[u8], at: usize, count: usize, out: &mut [u64])
     ensures { out.new ≡ overwrite (values_at grammar.number bytes.now at count) out.old }
 {
     let mut next = at;
-    // Kept: i is also the place from which `fill_rest` goes on, and of entries that `iter_mut` lends with `enumerate` a proof knows nothing behind the loop.
+    // Kept: the loop may be left early, and i is then the place from which `fill_rest` goes on; `enumerate` over `iter_mut` would name i all the same.
     for i in 0..count {
         let Some(read) = short_at(bytes, next) else {
             fill_rest(bytes, next, &mut out[i..count]);
@@ -204,8 +204,8 @@ pub fn fill_numbers(bytes: &[u8], at: usize, count: usize, out: &mut [u64])
 }
 
 // Fills a list with cells that were judged before.
-// Kept: beside `fill_rest`: one function over a trait with a ghost number, as `Entry` is, would take the limit and the grammar's reader beside `T`, and a
-// method that narrows and that only the cells need: more lines than these four.
+// Kept: beside `fill_rest`: one function over a trait with a ghost number, as `Entry` of put_shortest is, would take the limit and the grammar's reader
+// beside `T`, and a method that narrows and that only the cells need: more lines than this loop has.
 fn fill_cells(bytes: &[u8], at: usize, out: &mut [u8])
     requires { Held cell bytes.now at (length out.old) }
     ensures { out.new ≡ values_at cell bytes.now at (length out.old) }

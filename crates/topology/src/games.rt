@@ -83,7 +83,7 @@ pub fn topology_runner_and_guard(
         lists,
     )?;
     let second = run_kept(pass, asked, ready, lists, records, output);
-    // Kept: a name for the list; behind a read of `lists.pairs` itself a proof does not know that it is as it was.
+    // Kept: a name for the list; behind a read of `lists.pairs` itself a proof does not know that the list is as it was.
     let pairs = &mut *lists.pairs;
     play(
         second.kept,

@@ -167,7 +167,7 @@ pub(crate) fn mark_asked(
     ensures read { SameFilled lists.old lists.new }
     ensures same { SameLists lists.old lists.new }
 {
-    // Kept: each list that is read is lent to a name of its own first; `lists.labels` beside `lists.masks` in one call is what the borrow checker refuses.
+    // Kept: each list that is read has a name of its own first; `lists.labels` beside `lists.masks` in one call is refused here, though Rust takes it.
     let labels = &mut *lists.labels;
     let tallies = &mut *lists.tallies;
     let pairs = &mut *lists.pairs;
