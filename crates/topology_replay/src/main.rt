@@ -51,17 +51,13 @@ fn replay<W: Write>(out: &mut W, opening: &Opening, bytes: &[u8]) -> io::Result<
     if read_sheet(bytes, &mut cells, &mut spans, &mut boundaries, &mut anchors).is_err() {
         return out.write_all(b"no sheet\n");
     }
-    let cells_end = length_within(opening.cells, cells.len());
-    let spans_end = length_within(opening.spans, spans.len());
-    let boundaries_end = length_within(opening.boundaries, boundaries.len());
-    let anchors_end = length_within(opening.anchors, anchors.len());
     let asked = Asked {
         width: u64::from(opening.width),
         height: u64::from(opening.height),
-        cells: &cells[0..cells_end],
-        spans: &spans[0..spans_end],
-        boundaries: &boundaries[0..boundaries_end],
-        anchors: &anchors[0..anchors_end],
+        cells: &cells[..length_within(opening.cells, cells.len())],
+        spans: &spans[..length_within(opening.spans, spans.len())],
+        boundaries: &boundaries[..length_within(opening.boundaries, boundaries.len())],
+        anchors: &anchors[..length_within(opening.anchors, anchors.len())],
     };
     lend(out, opening, asked)
 }
@@ -69,7 +65,5 @@ fn replay<W: Write>(out: &mut W, opening: &Opening, bytes: &[u8]) -> io::Result<
 fn main(rt: HostRuntime) -> io::Result<()> {
     let mut input = rt.stdin();
     let mut out = rt.stdout();
-    replay_cases(&mut input, &mut out, |out, opening, bytes| {
-        replay(out, opening, bytes)
-    })
+    replay_cases(&mut input, &mut out, replay)
 }
