@@ -94,10 +94,9 @@ pub fn interior_at(
         context.entry.count →
         StandsAt C context.entry.pairs.now names owners.now i result }
 {
-    let ports = found[i]?;
-    // Kept: ports stand only where a component owns the boundary, so that a name beside them in `found` would save this test. But then what `propose_at`,
-    // `propose_all` and `find_interiors` promise of `found` would have to say of each entry's name too that it is the owner's.
-    let FoundRegions::One(name) = owners[i] else {
+    // Kept: ports stand only where a component owns the boundary, so that its name beside them in `found` would save the test of the owner. But each entry
+    // would hold a second time what `owners` holds, in a list of MAX_ENTRIES on the stack, and each promise of `found` would have to say that the two agree.
+    let (Some(ports), FoundRegions::One(name)) = (found[i], owners[i]) else {
         return None;
     };
     let low = i.min(ports.first.min(ports.second));
