@@ -30,6 +30,14 @@ pub fn name_of(parents: &[u32], r: u32) -> u32
     parents[r as usize - 1]
 }
 
+// Whether region x is named r.
+pub fn is_named(names: &[u32], x: u32, r: u32) -> bool
+    requires { (1 ≤ x) × (x ≤ length names.now) }
+    ensures { result ≡ eqb (get_or names.now (x - 1) 0) r }
+{
+    name_of(names, x) == r
+}
+
 pub(crate) fn set_name(parents: &mut [u32], r: u32, p: u32)
     requires { (1 ≤ r) × (r ≤ length parents.old) }
     ensures { parents.new ≡ set parents.old (r - 1) p }

@@ -9,7 +9,7 @@ ghost use Rattle.interior_proposals.specs.Given.{Marked};
 ghost use Rattle.interior_proposals.specs.Owners.{Walkable, entry_at};
 ghost use Rattle.interior_proposals.specs.Leaves.{Reachable, Inside, Exteriored, Cleared, from, Held, RowOf, Ported, Walked};
 
-use crate::components::{EXTERIOR, SINGLE, name_of, set_name};
+use crate::components::{EXTERIOR, SINGLE, is_named, set_name};
 use context::pairs::{Pair, row_at};
 use std::ops::Range;
 
@@ -66,7 +66,7 @@ fn mark_exteriors(
     let mut fit = true;
     for k in rows {
         let Pair { lo, hi } = row_at(pairs, k);
-        match (name_of(names, lo) == r, name_of(names, hi) == r) {
+        match (is_named(names, lo, r), is_named(names, hi, r)) {
             (true, true) => fit = false,
             (true, false) => mark_exterior(marks, hi),
             (false, true) => mark_exterior(marks, lo),
@@ -102,7 +102,7 @@ fn rows_split(names: &[u32], pairs: &[u32], mut rows: Range<usize>, r: u32) -> b
 {
     rows.all(|k| {
         let pair = row_at(pairs, k);
-        (name_of(names, pair.lo) == r) != (name_of(names, pair.hi) == r)
+        is_named(names, pair.lo, r) != is_named(names, pair.hi, r)
     })
 }
 
@@ -117,7 +117,7 @@ fn expand_row(names: &mut [u32], marks: &[u16], pair: Pair, r: u32) -> bool
         Held C i r (expand_pair C i es (from rs v) (pair_form pair)) v names.old names.new result }
     ensures names_length { length names.new ≡ length names.old }
 {
-    if (name_of(names, pair.lo) == r) | (name_of(names, pair.hi) == r) {
+    if is_named(names, pair.lo, r) | is_named(names, pair.hi, r) {
         return true;
     }
     let a = is_exterior(marks, pair.lo);

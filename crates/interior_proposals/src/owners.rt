@@ -7,7 +7,7 @@ ghost use Rattle.context.specs.Shown.{pairs_between};
 ghost use Rattle.interior_proposals.specs.Given.{Kept, SomeKept, AllKept};
 ghost use Rattle.interior_proposals.specs.Owners.{Walkable, pair_named, Common, Owned, Owners};
 
-use crate::components::{is_ordinary, name_of};
+use crate::components::{is_named, is_ordinary, name_of};
 use context::PartitionContext;
 use context::found_regions::FoundRegions;
 use context::pairs::row_at;
@@ -30,7 +30,7 @@ pub fn touches(names: &[u32], pairs: &[u32], mut rows: Range<usize>, r: u32) -> 
 {
     rows.any(|k| {
         let pair = row_at(pairs, k);
-        (name_of(names, pair.lo) == r) | (name_of(names, pair.hi) == r)
+        is_named(names, pair.lo, r) | is_named(names, pair.hi, r)
     })
 }
 
@@ -43,7 +43,7 @@ fn common_name(names: &[u32], pairs: &[u32], mut rows: Range<usize>) -> FoundReg
         return FoundRegions::None;
     }
     let name = name_of(names, row_at(pairs, rows.start).lo);
-    if rows.all(|k| name_of(names, row_at(pairs, k).lo) == name) {
+    if rows.all(|k| is_named(names, row_at(pairs, k).lo, name)) {
         FoundRegions::One(name)
     } else {
         FoundRegions::Several

@@ -15,13 +15,15 @@ ghost use Rattle.interior_regions.specs.Places.{region_at, Readable, is_named};
 use context::PartitionContext;
 use context::found_regions::FoundRegions;
 use definitions::limits::MAX_ENTRIES;
-use interior_proposals::components::{name_components, name_of};
+use interior_proposals::components::{is_named, name_components};
 use interior_proposals::owners::find_owners;
 use interior_proposals::ports::Ports;
 use interior_proposals::proposals::propose_all;
 use region_pairs::{REGIONS_PER_PAIR, region_at};
 
 // The component at a boundary, the places of rows among which its regions stand, and its ports.
+// Kept: with `places: Range<usize>` for `begin` and `end` this would be no Copy, and the walk in `interior_fits` would take the range out of it. There the name
+// and the ports are read beside the walk, and `judge_interiors` reads the name behind the call, so that it would have to copy the name out before.
 #[derive(Clone, Copy)]
 pub struct Interior {
     pub name: u32,
@@ -31,6 +33,8 @@ pub struct Interior {
 }
 
 // Where the record of the region at place k of the rows stands.
+// Kept: the regions are walked place by place, two to a row, so that a turn of the walk in `interior_fits` asks of one region's name and record. Row by row,
+// with `row_at`, a turn would ask the same of the lesser region and of the greater, in a loop within the loop.
 pub fn record_place(pairs: &[u32], k: usize) -> usize
     requires { (n : ℕ) × Readable pairs.now n k }
     ensures { result ≡ region_at pairs.now k - 1 }
@@ -43,7 +47,7 @@ pub fn is_inside(pairs: &[u32], names: &[u32], name: u32, k: usize) -> bool
     requires { Readable pairs.now (length names.now) k }
     ensures { result ≡ is_named pairs.now names.now name k }
 {
-    name_of(names, region_at(pairs, k)) == name
+    is_named(names, region_at(pairs, k), name)
 }
 
 // Marks the boundaries that the component with the name owns.
@@ -90,8 +94,9 @@ pub fn interior_at(
         context.entry.count →
         StandsAt C context.entry.pairs.now names owners.now i result }
 {
-    let ports = found[i]?;
-    let FoundRegions::One(name) = owners[i] else {
+    // Kept: ports stand only where a component owns the boundary, so that its name beside them in `found` would save the test of the owner. But each entry
+    // would hold a second time what `owners` holds, in a list of MAX_ENTRIES on the stack, and each promise of `found` would have to say that the two agree.
+    let (Some(ports), FoundRegions::One(name)) = (found[i], owners[i]) else {
         return None;
     };
     let low = i.min(ports.first.min(ports.second));

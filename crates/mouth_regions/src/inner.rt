@@ -18,6 +18,8 @@ pub fn places(context: PartitionContext, m: usize) -> usize
 }
 
 // The region at place k of the rows of the proposal's mouth, if it is not the region outside.
+// Kept: by place, two to a row, so that a step of a walk asks of one region's record. By row, with `row_at`, this would give two regions of which either may be
+// the one outside, and the caller would ask the same of both.
 pub fn inner_region(context: PartitionContext, proposal: MouthProposal, k: usize) -> Option<u32>
     requires stretch { Stretch context.pairs.now context.starts.now proposal.mouth }
     requires k_within { k < places_of context.starts.now proposal.mouth }

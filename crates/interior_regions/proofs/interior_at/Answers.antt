@@ -34,12 +34,11 @@ module _ {pairs starts : List ℕ} {owners : List FoundRegions} {found : List (O
   ended None E = record { upto = omega (arith, l); none = λ j a b. E.none j (omega arith) b }
   ended (Some j) E = E.1
 
-pub returns-in_err-ports : goal.returns-in_err-ports
-returns-in_err-ports c =
-    λ C b t n I. rw c.from_residual.ensures (stretched_none I _ (omega (arith, I.owning.counted, c.requires.i_within)) c.in_err-ports.was)
-
 pub returns-in_default : goal.returns-in_default
-returns-in_default c = λ C bs t ns I. stretched_other I _ (omega (arith, I.owning.counted, c.requires.i_within)) c.in_default.not-One
+returns-in_default c = λ C bs t ns I. stretched_other I _ (omega (arith, I.owning.counted, c.requires.i_within)) c.in_default.not-One-1
+
+pub returns-in_default-2 : goal.returns-in_default-2
+returns-in_default-2 c = λ C bs t ns I. stretched_none I _ (omega (arith, I.owning.counted, c.requires.i_within)) c.in_default.is-0
 
 pub overflow_mul-result : goal.overflow_mul-result
 overflow_mul-result c =
@@ -49,17 +48,17 @@ overflow_mul-result c =
 pub rows-requires-2 : goal.rows-requires-2
 rows-requires-2 c =
     let E = ended c.requires.interiors c.requires.i_within c.last_edge.result c.last_edge.ensures in
-    omega (arith, c.max.ensures, c.max-high.ensures, c.unwrap_or-last.ensures, high c.requires.interiors c.requires.i_within c.in_ok-ports.was _ E, few c.requires.interiors c.requires.i_within)
+    omega (arith, c.max.ensures, c.max-high.ensures, c.unwrap_or-last.ensures, high c.requires.interiors c.requires.i_within c.in-Some-One.is-0 _ E, few c.requires.interiors c.requires.i_within)
 
 pub overflow_mul-result-2 : goal.overflow_mul-result-2
 overflow_mul-result-2 c =
     let E = ended c.requires.interiors c.requires.i_within c.last_edge.result c.last_edge.ensures in
-    let upto : c.max-high.result + 1 ≤ c.args.context.count = omega (arith, c.max.ensures, c.max-high.ensures, c.unwrap_or-last.ensures, high c.requires.interiors c.requires.i_within c.in_ok-ports.was _ E) in
+    let upto : c.max-high.result + 1 ≤ c.args.context.count = omega (arith, c.max.ensures, c.max-high.ensures, c.unwrap_or-last.ensures, high c.requires.interiors c.requires.i_within c.in-Some-One.is-0 _ E) in
     rw c.rows-2.ensures.1 (search (rules, short c.requires.interiors c.requires.i_within (c.max-high.result + 1) upto))
 
 pub returns : goal.returns
 returns c =
     λ C bs t ns I.
     let E = ended c.requires.interiors c.requires.i_within c.last_edge.result c.last_edge.ensures in
-    rw (c.rows.ensures.0, c.rows-2.ensures.1) (stretched_two I c.args.i (omega (arith, I.owning.counted, c.requires.i_within)) c.in_ok-ports.was c.in-One.is E
+    rw (c.rows.ensures.0, c.rows-2.ensures.1) (stretched_two I c.args.i (omega (arith, I.owning.counted, c.requires.i_within)) c.in-Some-One.is-0 c.in-Some-One.is-1 E
     (c.min-low.ensures ∙ ap (min c.args.i) c.min.ensures) (omega (arith, c.max-high.ensures, c.max.ensures, c.unwrap_or-last.ensures)))

@@ -1,8 +1,6 @@
 -- `components::prepare` meets its contract. The invariant: the marks of the regions passed are stored. Assumes nothing.
 use native.Mathlib.Omega.{arith}
-use mathlib.Core.Path.{◌≡◌, sym, subst}
-use lib.ListN.{length, take}
-use lib.Seq.{length-take-le}
+use mathlib.Core.Path.{sym, subst}
 use Rattle.parents.specs.Forest.{Forest}
 use Rattle.interior_proposals.proofs.Preparing.{prepared, stored-front, front-length, front-beyond}
 use Rattle.interior_proposals.proofs.components.prepare.Goals as goal

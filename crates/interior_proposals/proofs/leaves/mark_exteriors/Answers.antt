@@ -1,10 +1,9 @@
 -- `leaves::mark_exteriors` meets its contract. The invariant: the exteriors of the rows passed are marked. Assumes nothing.
-use Prim.Native.Nat.{◌≤◌, ◌<◌}
+use Prim.Native.Nat.{◌<◌}
 use native.Mathlib.Omega.{arith}
 use mathlib.Core.Path.{refl, sym, ap, ◌∙◌}
 use mathlib.Core.Bool.{true, false, and-true, and-false}
 use Rattle.context.specs.Shown.{pair_at}
-use borrow.Author.Tests.{eq-eqb, ne_eqb}
 use Rattle.interior_proposals.proofs.Walks.{row_low, row_high}
 use Rattle.interior_proposals.proofs.ExteriorLaws.{marking-start, marking-by, marking-end}
 use Rattle.interior_proposals.proofs.leaves.mark_exteriors.Goals as goal
@@ -26,8 +25,8 @@ loop-k-preserved-in-true-true c =
       inv.3,
       λ C rs w I M.
           rw step.1.2
-          (marking-by C rs _ _ _ _ _ I w k inv.1 in_rows (row_low c.args.pairs.now k read) (row_high c.args.pairs.now k read) c.name_of.ensures c.name_of-in-loop-k.ensures (inv.4 C rs w I M) true true
-          (eq-eqb _ _ c.in-true-true.is-0) (eq-eqb _ _ c.in-true-true.is-1) refl (sym (and-false _))),
+          (marking-by C rs _ _ _ _ _ I w k inv.1 in_rows (row_low c.args.pairs.now k read) (row_high c.args.pairs.now k read) refl refl (inv.4 C rs w I M) true true
+          (sym c.is_named.ensures ∙ c.in-true-true.if-is_named-true) (sym c.is_named-in-loop-k.ensures ∙ c.in-true-true.if-is_named-2-true) refl (sym (and-false _))),
     )
 
 pub loop-k-preserved-in-true-false : goal.loop-k-preserved-in-true-false
@@ -43,8 +42,8 @@ loop-k-preserved-in-true-false c =
       c.mark_exterior.ensures.marks_length ∙ inv.3,
       λ C rs w I M.
           rw step.1.2
-          (marking-by C rs _ _ _ _ _ I w k inv.1 in_rows (row_low c.args.pairs.now k read) (row_high c.args.pairs.now k read) c.name_of.ensures c.name_of-in-loop-k.ensures (inv.4 C rs w I M) true false
-          (eq-eqb _ _ c.in-true-false.is-0) (ne_eqb _ _ c.in-true-false.is-1) c.mark_exterior.ensures.marks (sym (and-true _))),
+          (marking-by C rs _ _ _ _ _ I w k inv.1 in_rows (row_low c.args.pairs.now k read) (row_high c.args.pairs.now k read) refl refl (inv.4 C rs w I M) true false
+          (sym c.is_named.ensures ∙ c.in-true-false.if-is_named-true) (sym c.is_named-in-loop-k.ensures ∙ c.in-true-false.if-is_named-2-false) c.mark_exterior.ensures.marks (sym (and-true _))),
     )
 
 pub loop-k-preserved-in-false-true : goal.loop-k-preserved-in-false-true
@@ -60,8 +59,8 @@ loop-k-preserved-in-false-true c =
       c.mark_exterior-in-false-true.ensures.marks_length ∙ inv.3,
       λ C rs w I M.
           rw step.1.2
-          (marking-by C rs _ _ _ _ _ I w k inv.1 in_rows (row_low c.args.pairs.now k read) (row_high c.args.pairs.now k read) c.name_of.ensures c.name_of-in-loop-k.ensures (inv.4 C rs w I M) false true
-          (ne_eqb _ _ c.in-false-true.is-0) (eq-eqb _ _ c.in-false-true.is-1) c.mark_exterior-in-false-true.ensures.marks (sym (and-true _))),
+          (marking-by C rs _ _ _ _ _ I w k inv.1 in_rows (row_low c.args.pairs.now k read) (row_high c.args.pairs.now k read) refl refl (inv.4 C rs w I M) false true
+          (sym c.is_named.ensures ∙ c.in-false-true.if-is_named-false) (sym c.is_named-in-loop-k.ensures ∙ c.in-false-true.if-this-true) c.mark_exterior-in-false-true.ensures.marks (sym (and-true _))),
     )
 
 pub loop-k-preserved : goal.loop-k-preserved
@@ -77,8 +76,8 @@ loop-k-preserved c =
       inv.3,
       λ C rs w I M.
           rw step.1.2
-          (marking-by C rs _ _ _ _ _ I w k inv.1 in_rows (row_low c.args.pairs.now k read) (row_high c.args.pairs.now k read) c.name_of.ensures c.name_of-in-loop-k.ensures (inv.4 C rs w I M) false false
-          (ne_eqb _ _ c.in-false-false.is-0) (ne_eqb _ _ c.in-false-false.is-1) refl (sym (and-true _))),
+          (marking-by C rs _ _ _ _ _ I w k inv.1 in_rows (row_low c.args.pairs.now k read) (row_high c.args.pairs.now k read) refl refl (inv.4 C rs w I M) false false
+          (sym c.is_named.ensures ∙ c.in-false-false.if-is_named-false) (sym c.is_named-in-loop-k.ensures ∙ c.in-false-false.if-this-false) refl (sym (and-true _))),
     )
 
 pub returns-clause-marked : goal.returns-clause-marked
