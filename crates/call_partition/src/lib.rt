@@ -48,8 +48,7 @@ pub fn divide(
     let labels = &mut *lists.labels;
     let masks = &mut *lists.masks;
     let regions = label_regions(grid, spans, labels, masks, lists.queue);
-    // Kept: what a refusal leaves is cleared in its branch, here and below; `ensure` behind the branch would ask the same test
-    // again.
+    // Kept: what a refusal leaves is cleared in its branch, here and below; `ensure` behind the branch would ask the same test again.
     if room < regions {
         clear_scratch(masks, lists.queue, needed);
         let filled = TALLIES_PER_SPAN * (spans.len() / NUMBERS_PER_SPAN);

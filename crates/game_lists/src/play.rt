@@ -45,8 +45,8 @@ impl From<Result<GameKept, Refusal>> for GameAnswer {
 }
 
 // Plays on the graph of `count` rows of pairs.
-// Kept: `kept` and the count of rows are handed on as the partition gives them, so that one clause tells the call's whole answer; without `kept` the caller
-// would put the answer together, and prove it.
+// Kept: `kept` is handed on so that one clause tells the call's whole answer; without it the caller would put the answer together, and prove it. The count is
+// that of `edges_in`, which the contract asks of the whole list.
 pub fn play(
     kept: usize,
     regions: usize,

@@ -22,8 +22,8 @@ use interior_proposals::proposals::propose_all;
 use region_pairs::{REGIONS_PER_PAIR, region_at};
 
 // The component at a boundary, the places of rows among which its regions stand, and its ports.
-// Kept: with `places: Range<usize>` for `begin` and `end` this would be no Copy, and the walk in `interior_fits` would take the range out of it. There the name
-// and the ports are read beside the walk, and `judge_interiors` reads the name behind the call, so that it would have to copy the name out before.
+// Kept: with `places: Range<usize>` for `begin` and `end` this would be no Copy: `interior_fits` takes it by value, and `judge_interiors` reads the name behind
+// that call, so that it would copy the name out before, or lend the whole and clone the range for the walk.
 #[derive(Clone, Copy)]
 pub struct Interior {
     pub name: u32,

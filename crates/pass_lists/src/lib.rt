@@ -62,8 +62,8 @@ pub fn view(
 
 // Clears masks and queue, writes the rows of the `count` boundaries that are not removed, and gives how many there are.
 // Never put into its caller: the rows that are sorted here, 10 KiB, would stand on the stack beside the lists of the pass.
-// Kept: `count` is named beside the boundaries, as `canonical_output` and the contract's words take it; found here by a division, each contract would name the
-// quotient in its place.
+// Kept: `count` is named beside the boundaries, as `canonical_output` and the contract's words take it; were it found here by a division, each contract would
+// name the quotient in its place.
 #[inline(never)]
 pub fn finish(
     needed: usize,

@@ -111,9 +111,9 @@ fn least_doubtful(terms: &[u64], keys: &mut [u64]) -> usize
     least_astray(terms, keys)
 }
 
+// Takes the terms whose maps are in the part: the map of each, and its position as a key. Gives how many are taken.
 // Kept: maps and keys go as two lists. A struct of two lent slices would be made anew where both are cut to the count, and each contract would say of its
 // fields what it says here; one of two arrays would make their size a const parameter of all these functions.
-// Takes the terms whose maps are in the part: the map of each, and its position as a key. Gives how many are taken.
 fn take_terms(
     terms: &[u64],
     part: Part,

@@ -134,7 +134,7 @@ pub fn topology_ranked_junctions(
     fill(records, ready.regions, asked.grid(), &*lists);
     let mut removed = [false; MAX_ENTRIES];
     let mut listed = [NO_RANKED; MAX_PROPOSALS];
-    // Kept: the lists that are read have names as in `mark_asked` of `marks`; masks and queue are lent twice, to the pass and to the end of the call.
+    // Kept: the lists that are read have names as in `mark_asked` of `marks`; masks and queue, which two calls are lent, have theirs beside them.
     let labels = &mut *lists.labels;
     let masks = &mut *lists.masks;
     let queue = &mut *lists.queue;
