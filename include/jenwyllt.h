@@ -165,7 +165,7 @@ struct jenwyllt_region {
    5 and 6 are tested span by span, 5 first. With 1 to 10 every list stays as it was. With 11 labels are filled, and masks, queue and tallies are zero; with
    12 labels and tallies are filled, masks and queue are zero, and pairs are zero over the whole list; the other lists stay as they were.
 
-   A call needs 26 KiB of stack. */
+   A call needs 24 KiB of stack. */
 struct jenwyllt_answer jenwyllt_kept_boundaries(
     uint64_t pass, uint64_t width, uint64_t height,
     const uint8_t *cells, size_t cells_length,
@@ -250,7 +250,7 @@ struct jenwyllt_rest {
 
    11 and 12 come of the first pass, which has the most of both. With 1 to 10 and 16 every list stays as it was. With 11 labels are filled, and masks, queue
    and tallies are zero; with 12 labels and tallies are filled, masks and queue are zero, and pairs are zero over the whole list, all of the first pass; the
-   other lists stay as they were. A call needs 64 KiB of stack. */
+   other lists stay as they were. A call needs 52 KiB of stack. */
 struct jenwyllt_rest jenwyllt_run_to_rest(
     uint64_t width, uint64_t height,
     const uint8_t *cells, size_t cells_length,
@@ -309,7 +309,7 @@ struct jenwyllt_desks_answer {
    With a refusal of the shared lists these are as `jenwyllt_kept_boundaries` leaves them, and both outputs stay as they were. With one of a desk's own the
    shared lists are as on success, and its output stays as it was.
 
-   A call needs 27 KiB of stack. */
+   A call needs 25 KiB of stack. */
 struct jenwyllt_desks_answer jenwyllt_two_desks(
     uint64_t order, uint64_t width, uint64_t height,
     const uint8_t *cells, size_t cells_length,
@@ -407,7 +407,7 @@ struct jenwyllt_game_answer {
      24      the goal is 0 or above its regions                                               0
 
    11 and 12 come of the first partition alone. With 23 and 24 the lists are as on success, and the verdicts as they were; with 16 every list stays as it was.
-   A call needs 35 KiB of stack. */
+   A call needs 32 KiB of stack. */
 struct jenwyllt_game_answer jenwyllt_runner_and_guard(
     uint64_t pass, uint64_t width, uint64_t height,
     const uint8_t *cells, size_t cells_length,
@@ -580,7 +580,7 @@ struct jenwyllt_answer jenwyllt_write_sheet(
              endpoints than its boundary, or the same in the other order
      10      the list is shorter than the new sheet                             0
 
-   A call needs 39 KiB of stack. */
+   A call needs 25 KiB of stack. */
 struct jenwyllt_answer jenwyllt_convert_sheet(
     const uint8_t *bytes, size_t bytes_length,
     uint8_t *out, size_t out_length);
@@ -682,13 +682,13 @@ struct jenwyllt_reported {
 
 /* Reads a sheet, runs its pass and adds the run, with the limits of the program `keptlist`: a sheet of over 65,536 bytes is refused 14 at 65536, one of over
    4,096 cells 1, a map of over 512 regions 11 and one of over 2,048 pairs 12. Nothing else is lent. A report of 10,000 runs or more: number 3, value 0,
-   nothing is read, and the report stays as it was. A call needs 182 KiB of stack. */
+   nothing is read, and the report stays as it was. A call needs 180 KiB of stack. */
 struct jenwyllt_reported jenwyllt_report_sheet(
     struct jenwyllt_report report,
     const uint8_t *bytes, size_t bytes_length);
 
 /* Makes the call `jenwyllt_kept_boundaries` over the lists that are lent, and adds what it answered to the report: what is refused for its lists, with 10, 11
-   or 12, too. A report of 10,000 runs or more: number 3, value 0, no call is made, and report and lists stay as they were. A call needs 29 KiB of stack. */
+   or 12, too. A report of 10,000 runs or more: number 3, value 0, no call is made, and report and lists stay as they were. A call needs 26 KiB of stack. */
 struct jenwyllt_reported jenwyllt_report_run(
     struct jenwyllt_report report,
     uint64_t pass, uint64_t width, uint64_t height,
