@@ -64,7 +64,9 @@ pub fn span_of(span: [u64; NUMBERS_PER_SPAN]) -> SpanGeometry
     SpanGeometry::new(segment_at(&span, 0))
 }
 
-// The cut steps of all spans, in masks of zeros.
+// The cut steps of all spans, in masks of zeros. Never put into its caller: in one function with labelling and assessing, each loop has
+// fewer registers, and a partition takes up to 8 percent more instructions.
+#[inline(never)]
 pub fn mark_spans(grid: TerrainGrid, spans: &[u64], masks: &mut [u16])
     requires checked { Checked grid.width grid.height grid.cells.now spans.now }
     requires sizes { (grid.height * grid.width ≤ length masks.old) × ((c : ℕ) → c < grid.height * grid.width → get_or masks.old c 0 ≡ 0) }

@@ -93,23 +93,23 @@ pub trait StepVisitor {
 }
 
 // Visits the cut steps of one cell. Most cells have none.
-fn walk_cell<V: StepVisitor>(walk: SpanWalk, visitor: &mut V, cell: WalkPosition)
-    requires asked { CellIn walk cell }
-    requires is_ready { V.ready (walk_map walk) (cell_steps walk cell) 1 visitor.old }
-    ensures { V.visited (walk_map walk.entry) (cell_steps walk.entry cell) 1 visitor.old visitor.new }
+fn walk_cell<V: StepVisitor>(walk: &SpanWalk, visitor: &mut V, cell: WalkPosition)
+    requires asked { CellIn walk.now cell }
+    requires is_ready { V.ready (walk_map walk.now) (cell_steps walk.now cell) 1 visitor.old }
+    ensures { V.visited (walk_map walk.now) (cell_steps walk.now cell) 1 visitor.old visitor.new }
 {
     if !walk.is_near(cell) {
         return;
     }
     let directions = walk.cut_directions(cell);
-    visitor.visit(walk, cell, directions);
+    visitor.visit(*walk, cell, directions);
 }
 
 // Visits the cut steps of the candidates in column, or row, k. Those beyond the span have none, and are not asked.
-fn walk_column<V: StepVisitor>(walk: SpanWalk, visitor: &mut V, k: usize)
-    requires asked { ColumnIn walk k }
-    requires is_ready { V.ready (walk_map walk) (column_steps walk k) max_side visitor.old }
-    ensures { V.visited (walk_map walk.entry) (column_steps walk.entry k) max_side visitor.old visitor.new }
+fn walk_column<V: StepVisitor>(walk: &SpanWalk, visitor: &mut V, k: usize)
+    requires asked { ColumnIn walk.now k }
+    requires is_ready { V.ready (walk_map walk.now) (column_steps walk.now k) max_side visitor.old }
+    ensures { V.visited (walk_map walk.now) (column_steps walk.now k) max_side visitor.old visitor.new }
 {
     let columns = walk.strip.columns;
     let breadth = walk.breadth(columns);
@@ -120,10 +120,16 @@ fn walk_column<V: StepVisitor>(walk: SpanWalk, visitor: &mut V, k: usize)
 }
 
 // The place two before `beyond`, where there is one and it is below the limit.
+// Kept: both tests, of which the compiler makes one, and not `beyond.checked_sub(2).filter(|&m| m < limit)`, with which the partition of `comb` (bench/) takes a
+// fifth more instructions.
 fn place_before(beyond: usize, limit: usize) -> Option<usize>
     ensures { result ≡ cond (leb 2 beyond && ltb (beyond - 2) limit) (Some (beyond - 2)) None }
 {
-    beyond.checked_sub(2).filter(|&m| m < limit)
+    if 2 <= beyond && beyond - 2 < limit {
+        Some(beyond - 2)
+    } else {
+        None
+    }
 }
 
 // Visits the cut steps of the cell at `beyond` - 2 across column, or row, k, if there is one. Its changes of sides are given. Whether the strip goes by columns
@@ -250,20 +256,20 @@ fn part_end(parts: Parts, k: usize) -> usize
 }
 
 // Visits the cut steps of a part: by the line between the span's ends, and of a single column, or row, those of every candidate.
-fn walk_part<V: StepVisitor>(walk: SpanWalk, visitor: &mut V, from: usize, to: usize)
-    requires asked { ColumnsIn walk from to }
-    requires part { PartAsked (segment_of walk.g) walk.strip from to }
-    requires is_ready { V.ready (walk_map walk) (columns_steps walk from to) (max_side * (to - from)) visitor.old }
-    ensures { V.visited (walk_map walk.entry) (columns_steps walk.entry from to) (max_side * (to - from)) visitor.old visitor.new }
+fn walk_part<V: StepVisitor>(walk: &SpanWalk, visitor: &mut V, from: usize, to: usize)
+    requires asked { ColumnsIn walk.now from to }
+    requires part { PartAsked (segment_of walk.now.g) walk.now.strip from to }
+    requires is_ready { V.ready (walk_map walk.now) (columns_steps walk.now from to) (max_side * (to - from)) visitor.old }
+    ensures { V.visited (walk_map walk.now) (columns_steps walk.now from to) (max_side * (to - from)) visitor.old visitor.new }
 {
     if to <= from + 1 {
         walk_column(walk, visitor, from);
         return;
     }
     if walk.strip.columns {
-        walk_between::<V, true>(walk, visitor, from, to);
+        walk_between::<V, true>(*walk, visitor, from, to);
     } else {
-        walk_between::<V, false>(walk, visitor, from, to);
+        walk_between::<V, false>(*walk, visitor, from, to);
     }
 }
 
@@ -284,7 +290,7 @@ pub fn walk_span<V: StepVisitor>(grid: TerrainGrid, g: SpanGeometry, visitor: &m
     // then called at two places.
     while k < parts.end {
         let next = part_end(parts, k);
-        walk_part(walk, visitor, k, next);
+        walk_part(&walk, visitor, k, next);
         k = next;
     }
 }

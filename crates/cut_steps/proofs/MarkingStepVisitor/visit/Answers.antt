@@ -1,8 +1,6 @@
 -- The visit of `Marking` meets the trait's contract: the bits of the directions are those of the cell's cut steps (`cell-marked`). Assumes nothing.
 use lib.Bits.{bit_or}
 use lib.ListN.{get_or, set}
-use lib.Arith.{digits_lt}
-use native.Mathlib.Omega.{arith}
 use mathlib.Core.Path.{refl, subst⁻¹}
 use Rattle.cut_steps.specs.Marking.{Marked}
 use Rattle.cut_steps.specs.Walks.{walk_map, cell_steps}

@@ -11,7 +11,7 @@ use Rattle.cut_steps.proofs.walk.walk_cell.Goals as goal
 pub returns-then-not-is_near : goal.returns-then-not-is_near
 returns-then-not-is_near g c =
     let a = c.args in
-    let walk = a.walk in
+    let walk = a.walk.now in
     let none = c.is_near.ensures.where_false (not-true _ c.if-not-is_near.true-raw) in
     visited_none g.met.V.StepVisitor.laws (walk_map walk) 1 a.visitor.now (sym (no_cut (walk_map walk) (segment_of walk.g) (at a.cell.x a.cell.y) none.bits))
 

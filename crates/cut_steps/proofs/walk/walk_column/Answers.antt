@@ -12,13 +12,13 @@ use Rattle.cut_steps.proofs.walk.walk_column.Goals as goal
 
 pub loop-m-init : goal.loop-m-init
 loop-m-init g c =
-    let walk = c.args.walk in
+    let walk = c.args.walk.now in
     let r = c.near_range-range.result in
     passing-start g.met.V.StepVisitor.laws (walk_map walk) (cut_across (walk_map walk) (segment_of walk.g) walk.strip.columns c.args.k) 1 r.first (r.last + 1)
 
 pub walk_cell-requires : goal.walk_cell-requires
 walk_cell-requires g c =
-    let walk = c.args.walk in
+    let walk = c.args.walk.now in
     let M = walk_map walk in
     let k = c.args.k in
     let r = c.near_range-range.result in
@@ -34,7 +34,7 @@ walk_cell-requires g c =
 
 pub loop-m-preserved : goal.loop-m-preserved
 loop-m-preserved g c =
-    let walk = c.args.walk in
+    let walk = c.args.walk.now in
     let M = walk_map walk in
     let k = c.args.k in
     let r = c.near_range-range.result in
@@ -43,7 +43,7 @@ loop-m-preserved g c =
 
 pub returns : goal.returns
 returns g c =
-    let walk = c.args.walk in
+    let walk = c.args.walk.now in
     let M = walk_map walk in
     let k = c.args.k in
     let r = c.near_range-range.result in

@@ -17,7 +17,7 @@ single a = omega arith
 pub walk_column-requires : goal.walk_column-requires
 walk_column-requires g c =
     let a = c.args in
-    let walk = a.walk in
+    let walk = a.walk.now in
     let part = c.requires.part in
     let one = part-single (walk_map walk) (segment_of walk.g) walk.strip part.some c.if-to-from.true in
     record {
@@ -28,7 +28,7 @@ walk_column-requires g c =
 pub returns-then-to-from : goal.returns-then-to-from
 returns-then-to-from g c =
     let a = c.args in
-    let walk = a.walk in
+    let walk = a.walk.now in
     let part = c.requires.part in
     let laws = g.met.V.StepVisitor.laws in
     visited_as laws (walk_map walk) (part-single (walk_map walk) (segment_of walk.g) walk.strip part.some c.if-to-from.true)

@@ -1,6 +1,6 @@
 -- `SpanWalk::is_cut_onward` meets its contract: where one of the first two tests fails there is no step, and past them `cuts` decides. Assumes nothing.
 use mathlib.Core.Path.{sym, ◌∙◌}
-use mathlib.Core.Bool.{true≢false, false≢true}
+use mathlib.Core.Bool.{true≢false}
 use Rattle.definitions.specs.Grid.{at}
 use Rattle.span_geometry.specs.Shapes.{segment_of}
 use Rattle.grid_steps.specs.Walk.{grid_of}
