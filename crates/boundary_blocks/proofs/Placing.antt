@@ -7,14 +7,14 @@ use mathlib.Core.Bool.{true, false, not}
 use mathlib.Core.List.{List, [], ◌∷◌, ◌++◌, append_assoc, append-nil}
 use lib.ListN.{length, get_or, set, take, drop, replicate, length-append}
 use lib.Seq.{sets, drop-cons, take-suc, length-take-le}
-use Rattle.std.proofs.lemmas.List.{get_or-take, length-map, map-append}
+use Rattle.std.proofs.lemmas.List.{length-map, map-append}
 use Rattle.std.specs.Simd.{first_chunks}
 use Rattle.definitions.specs.Scan.{collect, concat_map, only_if}
 use Rattle.definitions.specs.Sort.{sort, list_lt}
 use Rattle.definitions.specs.Grid.{at, canonical, boundary_at}
 use Rattle.definitions.specs.Rows.{Row, row_key, rows_from, flat_rows}
 use Rattle.definitions.specs.Lists.{overwrite}
-use Rattle.laws.specs.ListLaws.FlatRows.{row_at, rows_in_lem, rows_of-flat, flat_append, flat-length}
+use Rattle.laws.specs.ListLaws.FlatRows.{row_at, rows_in_lem, rows_of-flat, flat_append, flat-length, rows_held, held_are}
 use Rattle.laws.specs.ListLaws.Lists.{All}
 use Rattle.laws.specs.ListLaws.Options.{on_only, on_list}
 use Rattle.laws.specs.ListLaws.Overwritten.{overwrite_more, sets_append}
@@ -27,7 +27,7 @@ use Rattle.rows.specs.Contract.{not_removed, kept_rows}
 use Rattle.rest.specs.FlatLists.{flat_segment}
 use Rattle.rest.specs.StartMaps.{count-all}
 use Rattle.boundary_blocks.specs.Blocks.{part}
-use Rattle.boundary_blocks.specs.Start.{rows_of_all, rows_held, NamedIn, place_row, rows_at}
+use Rattle.boundary_blocks.specs.Start.{rows_of_all, NamedIn, place_row, rows_at}
 
 -- ---- parts, number by number
 
@@ -130,23 +130,6 @@ rows-read lent count n old e =
     ∙ ap (λ m. rows_in_lem m (overwrite (flat_rows written) old)) (sym (rows-count lent count n))
     ∙ rows_of-flat written (drop (length (flat_rows written)) old)
     ∙ rows_all lent count n
-
--- a row cut off behind its numbers
-row_alone : (l : List ℕ) → row_at (take 5 l) 0 ≡ row_at l 0
-row_alone l =
-    λ i. record {
-      number = one 0 (omega arith) i;
-      line = record { a = at (one 1 (omega arith) i) (one 2 (omega arith) i); b = at (one 3 (omega arith) i) (one 4 (omega arith) i) };
-    }
-  where
-    one : (j : ℕ) → j < 5 → get_or (take 5 l) j 0 ≡ get_or l j 0
-    one j h = get_or-take 5 l j 0 h
-
-held_are : (count n : ℕ) (l : List ℕ) → count ≤ n → rows_held (take count (first_chunks 5 n l)) ≡ rows_in_lem count l
-unfolding rows_in_lem
-held_are zero n l h = refl
-held_are (suc count) zero l h = absurd (omega arith)
-held_are (suc count) (suc n) l h = ap₂ {C = List Row} (λ r t. r ∷ t) (row_alone l) (held_are count n (drop 5 l) (omega arith))
 
 -- the same, read row by row
 module _ (lent : List ℕ) (count n : ℕ) (old : List ℕ) {rows : List ℕ} {chunks : List (List ℕ)} (e : rows ≡ overwrite (flat_rows (kept_rows lent count (replicate n false))) old) (f : chunks ≡ first_chunks 5 (length rows / 5) rows) (h : count ≤ length rows / 5) where

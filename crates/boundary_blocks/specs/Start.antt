@@ -1,20 +1,15 @@
 -- The starting list over flat lists, and the rows of what is kept. Definitions only; assumes nothing.
-use Rattle.std.specs.Prelude.{ℕ, ◌+◌, ◌*◌, ◌≤◌, true, List, [], ◌∷◌, length, map, get_or, Some}
+use Rattle.std.specs.Prelude.{ℕ, ◌+◌, ◌*◌, ◌≤◌, true, List, [], ◌∷◌, length, get_or, Some}
 use Rattle.definitions.specs.Limits.{numbers_per_span, numbers_per_boundary}
 use Rattle.definitions.specs.Scan.{collect, concat_map}
 use Rattle.definitions.specs.Grid.{Boundary, segment_at, boundary_at}
 use Rattle.definitions.specs.Rows.{Row, rows_from}
-use Rattle.laws.specs.ListLaws.FlatRows.{row_at}
 use Rattle.rest.specs.FlatLists.{flat_segment, flat_boundary}
 
 -- the rows of the first boundaries of a list, all of them, in row order
 unfoldable pub rows_of_all : List ℕ → ℕ → List Row
 unfolding rows_from
 rows_of_all boundaries count = rows_from count (λ i. boundary_at boundaries (numbers_per_boundary * i)) (λ i. true)
-
--- rows, of whose numbers each list has one behind the other
-abbrev pub rows_held : List (List ℕ) → List Row
-rows_held rows = map (λ row. row_at row 0) rows
 
 -- the list has the boundary that a row names
 abbrev pub NamedIn : List ℕ → Row → Type 0

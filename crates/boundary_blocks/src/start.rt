@@ -5,9 +5,9 @@ ghost use Rattle.definitions.specs.Limits.{max_entries, numbers_per_boundary, nu
 ghost use Rattle.definitions.specs.Lists.{overwrite};
 ghost use Rattle.definitions.specs.Rows.{flat_rows};
 ghost use Rattle.laws.specs.ListLaws.Lists.{All};
-ghost use Rattle.laws.specs.ListLaws.FlatRows.{row_at};
+ghost use Rattle.laws.specs.ListLaws.FlatRows.{row_at, rows_held};
 ghost use Rattle.rest.specs.FlatLists.{flat_boundary};
-ghost use Rattle.boundary_blocks.specs.Start.{rows_of_all, rows_held, numbers_of, ends_of_lem, turned_in, turned_of, NamedIn, rows_at};
+ghost use Rattle.boundary_blocks.specs.Start.{rows_of_all, numbers_of, ends_of_lem, turned_in, turned_of, NamedIn, rows_at};
 
 use crate::blocks::copy_block;
 use definitions::limits::{MAX_ENTRIES, NUMBERS_PER_BOUNDARY, NUMBERS_PER_ROW, NUMBERS_PER_SPAN};

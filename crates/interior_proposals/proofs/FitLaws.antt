@@ -7,7 +7,7 @@ use lib.ListN.{length}
 use Rattle.std.specs.Prelude.{MatchBool}
 use Rattle.std.specs.List.{AllWithin, HoldsAt}
 use lib.Dec.{eqb}
-use lib.Ieee.{binary64, of_bits, le}
+use lib.Ieee.{le}
 use borrow.Author.Tests.{not-true, not-false}
 use Rattle.definitions.specs.Limits.{numbers_per_boundary}
 use Rattle.definitions.specs.Scan.{all, all_below}
@@ -16,7 +16,6 @@ use Rattle.definitions.specs.Geometry.{Point, center, distance}
 use Rattle.definitions.specs.RegionRecord.{Region, corners}
 use Rattle.definitions.specs.Context.{Context, full_cut}
 use Rattle.definitions.specs.RampMouths.{max_approach_radius}
-use Rattle.definitions.specs.Junctions.{within_distance}
 use Rattle.definitions.specs.RampInteriors.{ports_fit, is_allowed_elevation, region_fits}
 use Rattle.laws.specs.ListLaws.Lists.{All, all_both}
 use Rattle.laws.specs.FloatLaws.DistanceRange.{DistanceInRange}
@@ -25,7 +24,7 @@ use Rattle.geometry.specs.declared.Point as geometry
 use Rattle.geometry.specs.Forms.{point_form}
 use Rattle.context.specs.Shown.{ShownBoundaries}
 use Rattle.context.proofs.Asked.{all-asked}
-use Rattle.context.proofs.Radius.{radius_is}
+use Rattle.context.proofs.Radius.{within, within_is}
 use Rattle.interior_proposals.specs.declared.fits.Reach.{Reach}
 use Rattle.interior_proposals.specs.Fits.{Aimed, elevation_fits, is_within}
 
@@ -54,14 +53,6 @@ aimed {a = a} {b = b} B l m d e p q =
     }
 
 -- ---- a corner
-
--- the code's test of two points
-abbrev within : Point → Point → Bool
-within p q = within_distance p q (of_bits binary64 0x4080000000000000)
-
-within_is : (p q : Point) → within p q ≡ le (distance p q) max_approach_radius
-unfolding within_distance
-within_is p q = ap (le (distance p q)) radius_is
 
 module _ (c p q : Point) {u : Bool} (e : u ≡ within c p) where
   pub corner_first : u ≡ true → u ≡ is_within p q c

@@ -6,30 +6,21 @@ use mathlib.Core.List.{List, map}
 use lib.ListN.{length}
 use Rattle.std.specs.Prelude.{MatchBool}
 use Rattle.std.specs.List.{AllWithin, HoldsAt}
-use lib.Ieee.{binary64, le, of_bits}
+use lib.Ieee.{le}
 use Rattle.definitions.specs.Scan.{all}
 use Rattle.definitions.specs.Grid.{Segment}
 use Rattle.definitions.specs.Geometry.{Point, center, distance}
 use Rattle.definitions.specs.RegionRecord.{Region, corners}
 use Rattle.definitions.specs.Context.{Context}
 use Rattle.definitions.specs.RampMouths.{max_approach_radius}
-use Rattle.definitions.specs.Junctions.{within_distance}
 use Rattle.laws.specs.ListLaws.Lists.{All}
 use Rattle.laws.specs.FloatLaws.Pixels.{PixelPoint, PixelSegment, PixelRegion, pixel-half, center-half, corners-pixel}
 use Rattle.laws.specs.FloatLaws.DistanceRange.{DistanceInRange, distance-in_range}
 use Rattle.context.proofs.Asked.{all-asked}
-use Rattle.context.proofs.Radius.{radius_is}
+use Rattle.context.proofs.Radius.{within, within_is}
 use Rattle.geometry.specs.declared.Point as code
 use Rattle.geometry.specs.Forms.{point_form}
 use Rattle.mouth_regions.specs.Near.{corner_near, region_near}
-
--- the code's test of two points
-abbrev within : Point → Point → Bool
-within p q = within_distance p q (of_bits binary64 0x4080000000000000)
-
-within_is : (p q : Point) → within p q ≡ le (distance p q) max_approach_radius
-unfolding within_distance
-within_is p q = ap (le (distance p q)) radius_is
 
 module _ (ramp mouth c : Point) (broad : Bool) {u : Bool} (e : u ≡ within c ramp) where
   pub near-ramp : u ≡ true → u ≡ corner_near ramp mouth broad c

@@ -8,6 +8,7 @@ use mathlib.Core.Bool.{Bool, true, false}
 use lib.Dec.{ltb}
 use borrow.Author.Tests.{ltb-true, ltb-false, lt-ltb, le-ltb}
 use lib.ListN.{length, length-append}
+use Rattle.std.proofs.lemmas.List.{nil_from_length}
 use Rattle.definitions.specs.Printed.{digits, decimal}
 use Rattle.byte_writer.specs.declared.Writer.{Writer}
 use Rattle.byte_writer.specs.Contract.{HasRoom, Appends}
@@ -67,10 +68,6 @@ pub written_none : (old : Writer) (n count : ℕ) → Written old n count count 
 written_none old n count =
     record { bytes = []; so_far = record { put = record { stored = refl; next_is = sym (add-zero old.at) }; same = refl }; long = omega arith; are = λ h. absurd (omega arith) }
 
-nothing : (l : List ℕ) → length l ≡ 0 → l ≡ []
-nothing [] e = refl
-nothing (k ∷ l) e = absurd (omega arith)
-
 module _ {old now : Writer} {n count place : ℕ} (D : DigitCount n count) (W : Written old n count place now) where
   pub written_room : HasRoom old most_digits → 0 < place → HasRoom now 1
   written_room r h = omega (arith, r, h, D.most, W.long, W.so_far.put.next_is, appends_long W.so_far)
@@ -90,7 +87,7 @@ module _ {old now : Writer} {n count place : ℕ} (D : DigitCount n count) (W : 
           ap (λ l. l ++ (byte ∷ [])) (W.are (omega (arith, some, e)) ∙ ap (above n) (sym e)) ∙ ap (λ d. above n (suc k) ++ (d ∷ [])) b ∙ sym (above_next D k some)
       go false t =
           let last : suc k ≡ count = omega (arith, ltb-false (suc k) count t, W.long, e) in
-          ap (λ l. l ++ (byte ∷ [])) (nothing W.bytes (omega (arith, W.long, e, last))) ∙ ap (λ d. d ∷ []) b ∙ sym (above_first D k last)
+          ap (λ l. l ++ (byte ∷ [])) (nil_from_length W.bytes (omega (arith, W.long, e, last))) ∙ ap (λ d. d ∷ []) b ∙ sym (above_first D k last)
 
 pub written_all : {old now : Writer} {n count : ℕ} → DigitCount n count → Written old n count 0 now → Appends old (decimal n) now × (now.at ≤ old.at + most_digits)
 written_all {old} {now} {n} D W =

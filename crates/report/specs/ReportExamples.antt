@@ -1,10 +1,10 @@
 -- Computed examples of request 13: what case J (SPECIFICATION 18) adds, runs added in two orders, a run beyond the last, means, lengths, and sums that wrap.
 -- Assumes nothing.
-use Rattle.std.specs.Prelude.{ℕ, ◌-◌, ◌^◌, ◌≡◌, refl, List, [], ◌∷◌, map, replicate, Option, None, Some}
+use Rattle.std.specs.Prelude.{ℕ, ◌-◌, ◌^◌, ◌≡◌, refl, List, [], ◌∷◌, map, replicate, None, Some}
 use Rattle.definitions.specs.Grid.{Segment, at}
 use Rattle.definitions.specs.SheetExamples.{Example, ◌gives◌, bytes_j}
 use Rattle.report.specs.Runs.{Figures, Run, refused_run, accepted_run, square_apart, squared_lengths, figures_from, sheet_run}
-use Rattle.report.specs.Report.{Report, Mean, no_figures, empty_report, add_run, add_runs, mean_kept, max_runs}
+use Rattle.report.specs.Report.{Report, no_figures, empty_report, add_run, add_runs, mean_kept, max_runs}
 
 abbrev pub figures : ℕ → ℕ → ℕ → ℕ → Figures
 figures accepted boundaries kept removed = record { accepted = accepted; boundaries = boundaries; kept = kept; removed = removed }

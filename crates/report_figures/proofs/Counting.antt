@@ -3,10 +3,9 @@ use Rattle.std.proofs.Common.{◌≡◌, ℕ, not, ◌||◌, eqb, List, [], ◌�
 use Rattle.std.specs.List.{list_any, filter, range_with_len}
 use Rattle.definitions.specs.Scan.{any}
 use Rattle.definitions.specs.Rows.{Row}
-use Rattle.laws.specs.ListLaws.FlatRows.{row_at}
+use Rattle.laws.specs.ListLaws.FlatRows.{row_at, rows_held}
 use Rattle.range_laws.specs.Ranges.{counted_range}
 use Rattle.report.specs.ReportLaws.Named.{named, unnamed_below}
-use Rattle.report_figures.specs.Forms.{rows_held}
 
 pub named_held : (i : ℕ) (rows : List (List ℕ)) → list_any (λ row. eqb (row_at row 0).number i) rows ≡ named (rows_held rows) i
 unfolding named any

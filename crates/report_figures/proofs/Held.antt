@@ -1,36 +1,16 @@
 -- The rows that a flat list begins with, as lists of one row each. Assumes nothing.
-use Rattle.std.proofs.Common.{◌≡◌, ℕ, zero, suc, ◌/◌, ◌<◌, ◌≤◌, List, ◌∷◌, length, get_or, take, drop, sym, refl, ap, ap₂, ◌∙◌, subst, arith}
+use Rattle.std.proofs.Common.{◌≡◌, ℕ, ◌/◌, ◌≤◌, List, length, get_or, take, sym, ap, ◌∙◌, subst, arith}
 use Rattle.std.specs.Simd.{first_chunks}
-use Rattle.std.proofs.lemmas.List.{get_or-take}
 use Rattle.std.proofs.Math.ListN.{get_or-map}
 use Rattle.std.proofs.lemmas.List.{length-map}
 use Rattle.checks.specs.Passes.{pass_number}
 use Rattle.checks.specs.declared.passes.Pass.{Pass}
 use Rattle.report.specs.Runs.{accepted_run, squared_lengths}
 use Rattle.report.specs.ReportLaws.Named.{unnamed_below}
-use Rattle.definitions.specs.Grid.{at}
-use Rattle.definitions.specs.Rows.{Row}
-use Rattle.laws.specs.ListLaws.FlatRows.{row_at, rows_in_lem, rows-length, row_in}
+use Rattle.laws.specs.ListLaws.FlatRows.{row_at, rows_in_lem, rows-length, row_in, rows_held, held_are}
 use Rattle.laws.specs.FloatLaws.Pixels.{PixelSegment}
-use Rattle.report_figures.specs.Forms.{rows_held, HeldOnMap, RowsOnMap}
+use Rattle.report_figures.specs.Forms.{HeldOnMap, RowsOnMap}
 use Rattle.report_figures.specs.Calls.{call_run, kept_run}
-
--- a row cut off behind its numbers
-row_alone : (l : List ℕ) → row_at (take 5 l) 0 ≡ row_at l 0
-row_alone l =
-    λ i. record {
-      number = one 0 (omega arith) i;
-      line = record { a = at (one 1 (omega arith) i) (one 2 (omega arith) i); b = at (one 3 (omega arith) i) (one 4 (omega arith) i) };
-    }
-  where
-    one : (j : ℕ) → j < 5 → get_or (take 5 l) j 0 ≡ get_or l j 0
-    one j h = get_or-take 5 l j 0 h
-
-pub held_are : (kept n : ℕ) (l : List ℕ) → kept ≤ n → rows_held (take kept (first_chunks 5 n l)) ≡ rows_in_lem kept l
-unfolding rows_in_lem
-held_are zero n l h = refl
-held_are (suc kept) zero l h = absurd (omega arith)
-held_are (suc kept) (suc n) l h = ap₂ {C = List Row} (λ r t. r ∷ t) (row_alone l) (held_are kept n (drop 5 l) (omega arith))
 
 -- the first rows of a list whose rows lie on a map
 pub held-on_map : (kept : ℕ) (l : List ℕ) {rows : List (List ℕ)} → RowsOnMap kept l → rows ≡ first_chunks 5 (length l / 5) l → HeldOnMap (take kept rows)

@@ -3,9 +3,8 @@ use Rattle.std.proofs.Common.{◌≡◌, ℕ, ◌+◌, ◌*◌, ◌≤◌, List,
 use Rattle.std.specs.List.{sum, sum_by}
 use Rattle.std.proofs.lemmas.List.Sums.{sum-map, sum_by-cons}
 use Rattle.laws.specs.FloatLaws.Pixels.{max_pixel}
-use Rattle.laws.specs.ListLaws.FlatRows.{row_at}
+use Rattle.laws.specs.ListLaws.FlatRows.{row_at, rows_held}
 use Rattle.report.specs.Runs.{squared_length, squared_lengths}
-use Rattle.report_figures.specs.Forms.{rows_held}
 
 pub square-few : {n : ℕ} → n ≤ max_pixel → n * n ≤ max_pixel * max_pixel
 square-few h = mul-le-mul h h

@@ -1,8 +1,7 @@
 -- What the declared types say, in the words of the report, and what is asked of rows. Definitions only; assumes nothing.
-use Rattle.std.specs.Prelude.{ℕ, ◌*◌, ◌<◌, ◌≤◌, true, false, List, [], ◌∷◌, length, get_or, map, Option, None, Some}
+use Rattle.std.specs.Prelude.{ℕ, ◌*◌, ◌<◌, ◌≤◌, true, false, List, [], ◌∷◌, length, get_or, Option, None, Some}
 use Rattle.definitions.specs.Limits.{max_entries, numbers_per_row}
 use Rattle.laws.specs.FloatLaws.Pixels.{PixelSegment}
-use Rattle.definitions.specs.Rows.{Row}
 use Rattle.laws.specs.ListLaws.FlatRows.{row_at}
 use Rattle.report.specs.Runs as def
 use Rattle.report.specs.Report as def'
@@ -37,10 +36,6 @@ pub record RowsOnMap (kept : ℕ) (output : List ℕ) : Type 0 where
   pub few : kept ≤ max_entries
   pub held : numbers_per_row * kept ≤ length output
   pub lines : (k : ℕ) → k < kept → PixelSegment (row_at output (numbers_per_row * k)).line
-
--- rows, of whose numbers each list has one behind the other
-abbrev pub rows_held : List (List ℕ) → List Row
-rows_held rows = map (λ row. row_at row 0) rows
 
 -- the same of such rows: no more than a map has boundaries, and their lines lie on a map
 pub record HeldOnMap (rows : List (List ℕ)) : Type 0 where

@@ -3,7 +3,8 @@ ghost use Rattle.std.specs.Prelude.{◌≡◌, nat_lt};
 ghost use Rattle.report.specs.Report.{sum64, max_runs, added_by};
 ghost use Rattle.refusals.specs.Answers.{answer_of};
 ghost use Rattle.checks.specs.Passes.{pass_number};
-ghost use Rattle.report_figures.specs.Forms.{report_form, rows_held, HeldOnMap};
+ghost use Rattle.laws.specs.ListLaws.FlatRows.{rows_held};
+ghost use Rattle.report_figures.specs.Forms.{report_form, HeldOnMap};
 ghost use Rattle.report_figures.specs.Calls.{call_run, kept_run, CallLeft, ReportedCall};
 
 use crate::row_lengths::{count_unnamed, squared_lengths};

@@ -1,11 +1,11 @@
 // What the rows of an accepted run add: the numbers that none of them has, and the squares of their lengths.
 ghost use Rattle.std.specs.Prelude.{◌≡◌, ◌*◌, ◌≤◌};
 ghost use Rattle.laws.specs.FloatLaws.Pixels.{max_pixel, PixelSegment};
-ghost use Rattle.laws.specs.ListLaws.FlatRows.{row_at};
+ghost use Rattle.laws.specs.ListLaws.FlatRows.{row_at, rows_held};
 ghost use Rattle.report.specs.Runs.{square_apart, squared_length, squared_lengths};
 ghost use Rattle.report.specs.ReportLaws.OneRun.{max_square};
 ghost use Rattle.report.specs.ReportLaws.Named.{named, unnamed_below};
-ghost use Rattle.report_figures.specs.Forms.{rows_held, HeldOnMap};
+ghost use Rattle.report_figures.specs.Forms.{HeldOnMap};
 
 use definitions::limits::NUMBERS_PER_ROW;
 

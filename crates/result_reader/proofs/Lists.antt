@@ -1,10 +1,9 @@
 -- A list behind its count: what is answered of it, from what was found of the count and of the entries. Assumes nothing.
 use Prim.Native.Nat.{ℕ, ◌*◌, ◌≤◌}
 use mathlib.Core.Path.{◌≡◌, refl, sym, ap, ◌∙◌}
-use mathlib.Core.Bool.{Bool, true, false, not}
+use mathlib.Core.Bool.{not}
 use Rattle.std.specs.Prelude.{Option, None, Some, Result, Ok, Err, eqb}
 use Rattle.std.specs.Result.{result_err}
-use Rattle.std.specs.Bool.{then_some}
 use mathlib.Core.List.{List, []}
 use lib.ListN.{length, drop}
 use Rattle.definitions.specs.Limits.{tallies_per_span}
@@ -31,10 +30,6 @@ module _ {state : Result ℕ ℕ} (regions place : ℕ) where
   pub turns-broken : {first : ℕ} → state ≡ Err first → Some first ≡ labels_fault regions place (turns_from regions state [])
   unfolding turns_from
   turns-broken e = sym (ap (λ s. labels_fault regions place (turns_from regions s [])) e)
-
-pub only_then : (t : Bool) (place : ℕ) → then_some t place ≡ only_if t place
-only_then true place = refl
-only_then false place = refl
 
 pub ascent_behind : (key : List ℕ → List ℕ) (state : Result (Option (List ℕ)) ℕ) → result_err state ≡ ascent_from key state []
 unfolding ascent_from ascent_fault fault_behind

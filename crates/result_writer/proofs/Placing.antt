@@ -4,7 +4,7 @@ use native.Mathlib.Numerals.{add-one}
 use mathlib.Core.Path.{◌≡◌, ap}
 use mathlib.Core.List.{List, [], ◌++◌}
 use lib.ListN.{length, drop, get_or, length-append, drop_of_length-le}
-use lib.Seq.{drop-cons}
+use Rattle.result_writer.proofs.Spending.{next_bytes}
 use Rattle.definitions.specs.Scan.{concat_map}
 use Rattle.results.specs.Shortest.{shortest, list_bytes}
 use Rattle.results.specs.Result.{Result}
@@ -15,10 +15,8 @@ use Rattle.byte_writer.specs.Contract.{Appends}
 use Rattle.byte_writer.specs.Chains.{appends_then}
 
 -- the numbers from i on: the next one, and those behind it
-pub placing_next : (numbers : List ℕ) (i : ℕ) → i < length numbers
-    → concat_map shortest (drop i numbers) ≡ shortest (get_or numbers i 0) ++ concat_map shortest (drop (i + 1) numbers)
-unfolding concat_map
-placing_next numbers i h = rw (add-one i) (ap (concat_map shortest) (drop-cons numbers i 0 h))
+pub placing_next : (numbers : List ℕ) (i : ℕ) → i < length numbers → concat_map shortest (drop i numbers) ≡ shortest (get_or numbers i 0) ++ concat_map shortest (drop (i + 1) numbers)
+placing_next numbers i h = rw (add-one i) (next_bytes numbers i h)
 
 -- behind the last one there is none
 pub placing_none : (numbers : List ℕ) {i : ℕ} → length numbers ≤ i → concat_map shortest (drop i numbers) ≡ []

@@ -77,7 +77,7 @@ spent-behind size w e = e ∙ ap (λ s. spent s size) (sym w)
 
 -- ---- the numbers of a list
 
-next_bytes : (numbers : List ℕ) (i : ℕ) → i < length numbers → concat_map shortest (drop i numbers) ≡ shortest (get_or numbers i 0) ++ concat_map shortest (drop (suc i) numbers)
+pub next_bytes : (numbers : List ℕ) (i : ℕ) → i < length numbers → concat_map shortest (drop i numbers) ≡ shortest (get_or numbers i 0) ++ concat_map shortest (drop (suc i) numbers)
 unfolding concat_map
 next_bytes numbers i h = ap (concat_map shortest) (drop-cons numbers i 0 h)
 

@@ -1,5 +1,5 @@
 -- Words of the crate's contracts. Definitions only; assumes nothing.
-use Rattle.std.specs.Prelude.{ℕ, ◌+◌, ◌-◌, ◌*◌, ◌≤◌, cond, List, ◌++◌, leb, length, take, drop, Option, None, Some}
+use Rattle.std.specs.Prelude.{ℕ, ◌+◌, ◌-◌, cond, List, ◌++◌, leb, take, drop, Option, None, Some}
 use Rattle.results.specs.Result.{Result, in_turn}
 use Rattle.result_writer.specs.declared.RunResult.{RunResult}
 

@@ -1,6 +1,7 @@
 -- "A result that was written reads as itself" (document 02, request 1), over the definitions. Each reader gives back what was written, at any offset
 -- (`Back`), part by part; the places of the entries then depend on the offset, and the rules do not ask for them (SameRules). Assumes nothing.
-use Rattle.std.specs.Prelude.{ℕ, zero, suc, ◌+◌, ◌*◌, ◌/◌, ◌%◌, ◌^◌, ◌<◌, ◌≤◌, ◌≡◌, refl, ◌&&◌, List, [], ◌∷◌, ◌++◌, map, length, take, drop, get_or, None}
+use Rattle.std.proofs.lemmas.List.{nil_from_length}
+use Rattle.std.specs.Prelude.{ℕ, zero, suc, ◌+◌, ◌*◌, ◌/◌, ◌%◌, ◌^◌, ◌<◌, ◌≡◌, refl, List, [], ◌∷◌, ◌++◌, map, length, take, drop, get_or, None}
 use Rattle.std.proofs.Common.{arith, sym, ap, ◌∙◌, append_assoc, append-nil, take-append-drop, length-drop, length-take-le}
 use Rattle.definitions.specs.Limits.{tallies_per_span, numbers_per_pair, numbers_per_row}
 use Rattle.definitions.specs.Scan.{concat_map}
@@ -72,17 +73,10 @@ record BackList (reader : Reader (List Entry)) (bytes : List ℕ) (chunked : Lis
   pub same : (offset : ℕ) → reader offset bytes ≡ found (found_there offset) (next offset) rest
   pub numbers : (offset : ℕ) → numbers_in (found_there offset) ≡ chunked
 
-no_numbers : {l : List ℕ} → length l ≡ 0 → l ≡ []
-no_numbers {l} h = go l h
-  where
-    go : (l : List ℕ) → length l ≡ 0 → l ≡ []
-    go [] h = refl
-    go (x ∷ l) h = absurd (omega arith)
-
 back-entries : (n size : ℕ) {l : List ℕ} → Words l → length l ≡ n * size → (rest : List ℕ) → BackList (times_entry n size) (concat_map shortest l ++ rest) (chunks n size l) rest
 unfolding times_entry chunks concat_map
 back-entries zero size {l} w h rest =
-    let e : l ≡ [] = no_numbers (omega arith) in
+    let e : l ≡ [] = nil_from_length l (omega arith) in
     record {
       found_there = λ offset. [];
       next = λ offset. offset;
@@ -121,7 +115,7 @@ back-list size {l} w few h rest =
 
 join-chunks : (n size : ℕ) (l : List ℕ) → length l ≡ n * size → concat_map (λ c. c) (chunks n size l) ≡ l
 unfolding chunks concat_map
-join-chunks zero size l h = sym (no_numbers (omega arith))
+join-chunks zero size l h = sym (nil_from_length l (omega arith))
 join-chunks (suc n) size l h = ap (λ m. take size l ++ m) (join-chunks n size (drop size l) (omega (arith, length-drop size l))) ∙ take-append-drop size l
 
 join-numbers : (es : List Entry) → concat_map (λ e. e.numbers) es ≡ concat_map (λ c. c) (numbers_in es)

@@ -1,30 +1,26 @@
 -- What is printed for a sheet that was read and run, or was not, is what `keptlist` prints. Assumes nothing.
-use Prim.Native.Nat.{ℕ, zero, suc, ◌+◌, ◌*◌, ◌/◌, ◌≤◌}
+use Prim.Native.Nat.{ℕ, zero, suc, ◌/◌}
 use native.Mathlib.Omega.{arith}
-use mathlib.Core.Path.{◌≡◌, refl, sym, ap, subst, ◌∙◌}
+use mathlib.Core.Path.{◌≡◌, refl, sym, ap, ◌∙◌}
 use mathlib.Core.Bool.{Bool, true, false, cond}
 use mathlib.Core.List.{List, [], ◌∷◌, ◌++◌}
 use lib.ListN.{length, take}
 use lib.Dec.{ltb}
-use Rattle.std.specs.Prelude.{Result, Ok, Err}
 use Rattle.std.specs.Simd.{first_chunks}
 use Rattle.std.proofs.lemmas.List.{length-map}
-use Rattle.definitions.specs.Limits.{max_entries, numbers_per_boundary, numbers_per_row}
 use Rattle.definitions.specs.Scan.{concat_map}
-use Rattle.definitions.specs.Rows.{Row, rows_of}
-use Rattle.definitions.specs.Sheet.{Sheet, Reading, well_formed, refused, read_sheet, keptlist_cell_limit}
-use Rattle.definitions.specs.Verdict.{Lent, Answer, map_in, verdict}
+use Rattle.definitions.specs.Rows.{rows_of}
+use Rattle.definitions.specs.Sheet.{Reading, well_formed, refused, read_sheet, keptlist_cell_limit}
+use Rattle.definitions.specs.Verdict.{Lent, Answer, map_in}
 use Rattle.definitions.specs.Printed.{max_sheet_bytes, refused_line, kept_line, row_line, lent_for, printed_answer, printed_reading, keptlist}
-use Rattle.laws.specs.ListLaws.FlatRows.{row_at, rows_in_lem, rows-length}
+use Rattle.laws.specs.ListLaws.FlatRows.{row_at, rows_in_lem, rows-length, rows_held, held_are}
 use Rattle.laws.specs.TableLaws.KeptRows.{boundary_count_lem}
 use Rattle.printed.specs.Contract.{row_lines}
 use Rattle.refusals.specs.Refusals.{number_of}
 use Rattle.refusals.specs.declared.Refusal.{Refusal}
 use Rattle.refusals.proofs.Steps.{positive}
-use Rattle.report_figures.specs.Forms.{rows_held, RowsOnMap}
-use Rattle.report_figures.specs.Calls.{CallLeft}
+use Rattle.report_figures.specs.Forms.{RowsOnMap}
 use Rattle.report_figures.proofs.Called.{call-left, rows_are}
-use Rattle.report_figures.proofs.Held.{held_are}
 use Rattle.sheet_answer.specs.Contract.{keptlist_reading, reading_answer, RunOf}
 use Rattle.sheet_answer.specs.declared.runs.SheetRun.{SheetRun}
 

@@ -1,7 +1,8 @@
 -- `replay` meets its contract: at a line's end the line is counted, and within a line nothing is. Assumes nothing.
-use mathlib.Core.Path.{◌≡◌, refl, sym, ap, ◌∙◌}
-use mathlib.Core.Bool.{Bool, true, false}
+use mathlib.Core.Path.{◌≡◌, sym, ap, ◌∙◌}
+use mathlib.Core.Bool.{Bool}
 use mir.Val.{bool_byte}
+use Rattle.laws.specs.ListLaws.Flags.{bool-bit}
 use Rattle.definitions.specs.Scan.{bit}
 use mathlib.Core.List.{[]}
 use Prim.Native.Nat.{ℕ, ◌+◌}
@@ -13,12 +14,8 @@ use Rattle.hypotenuse_replay.proofs.Replayed.{at_end, within}
 use Rattle.hypotenuse_replay.proofs.replay.Goals as goal
 use Rattle.hypotenuse_replay.proofs.replay.Goals.{then-b-eq10+in_ok-ours, else-b-eq10}
 
-as_bit : (b : Bool) → bool_byte b ≡ bit b
-as_bit true = refl
-as_bit false = refl
-
 sum_is : (b a n : ℕ) (ours test : Bool) → b ≡ a + n → n ≡ bool_byte ours → ours ≡ test → b ≡ a + bit test
-sum_is b a n ours test e f g = e ∙ ap (λ m. a + m) (f ∙ ap bool_byte g ∙ as_bit test)
+sum_is b a n ours test e f g = e ∙ ap (λ m. a + m) (f ∙ ap bool_byte g ∙ bool-bit test)
 
 pub loop-i-preserved : goal.loop-i-preserved
 loop-i-preserved g c =

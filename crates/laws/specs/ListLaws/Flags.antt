@@ -1,7 +1,13 @@
 -- A flag as a number (`bit`), read back and in the last digit; and a list of flags that are not set. Assumes nothing.
 use Rattle.std.specs.Prelude.{ℕ, zero, suc, ◌%◌, ◌≤◌, ◌<◌, ◌≡◌, refl, Bool, true, false, eqb, get_or, replicate}
 use Rattle.std.proofs.Common.{arith}
+use mir.Val.{bool_byte}
 use Rattle.definitions.specs.Scan.{bit}
+
+-- the number that code makes of it
+pub bool-bit : (b : Bool) → bool_byte b ≡ bit b
+bool-bit true = refl
+bool-bit false = refl
 
 pub bit_le : (b : Bool) → bit b ≤ 1
 bit_le true = omega arith

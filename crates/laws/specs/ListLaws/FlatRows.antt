@@ -1,6 +1,8 @@
--- Rows as the output holds them, five numbers a row: reading them back. Assumes nothing.
-use Rattle.std.specs.Prelude.{ℕ, zero, suc, ◌+◌, ◌*◌, ◌≤◌, ◌<◌, ◌≡◌, refl, List, [], ◌∷◌, ◌++◌, length, get_or, drop}
-use Rattle.std.proofs.Common.{arith, ap, ◌∙◌, get_or-drop}
+-- Rows as the output holds them, five numbers a row: reading them back, from the numbers one behind the other or from a list for each row. Assumes nothing.
+use Rattle.std.specs.Prelude.{ℕ, zero, suc, ◌+◌, ◌*◌, ◌≤◌, ◌<◌, ◌≡◌, refl, List, [], ◌∷◌, ◌++◌, length, map, get_or, take, drop}
+use Rattle.std.proofs.Common.{arith, ap, ap₂, ◌∙◌, get_or-drop}
+use Rattle.std.proofs.lemmas.List.{get_or-take}
+use Rattle.std.specs.Simd.{first_chunks}
 use Rattle.definitions.specs.Grid.{at}
 use Rattle.definitions.specs.Rows.{Row, flat_rows}
 
@@ -17,6 +19,10 @@ flat-length (r ∷ l) = omega (arith, flat-length l)
 -- the row whose five numbers stand at k and behind it
 abbrev pub row_at : List ℕ → ℕ → Row
 row_at l k = record { number = get_or l k 0; line = record { a = at (get_or l (k + 1) 0) (get_or l (k + 2) 0); b = at (get_or l (k + 3) 0) (get_or l (k + 4) 0) } }
+
+-- rows, of whose numbers each list has one behind the other
+abbrev pub rows_held : List (List ℕ) → List Row
+rows_held rows = map (λ row. row_at row 0) rows
 
 -- the first k rows
 unfoldable pub rows_in_lem : ℕ → List ℕ → List Row
@@ -73,3 +79,23 @@ unfolding rows_in_lem
 row_in zero l d i h = absurd (omega arith)
 row_in (suc k) l d zero h = refl
 row_in (suc k) l d (suc i) h = row_in k (drop 5 l) d i (omega arith) ∙ row-further l i
+
+-- ---- a list for each row
+
+-- a row cut off behind its numbers
+row_alone : (l : List ℕ) → row_at (take 5 l) 0 ≡ row_at l 0
+row_alone l =
+    λ i. record {
+      number = one 0 (omega arith) i;
+      line = record { a = at (one 1 (omega arith) i) (one 2 (omega arith) i); b = at (one 3 (omega arith) i) (one 4 (omega arith) i) };
+    }
+  where
+    one : (j : ℕ) → j < 5 → get_or (take 5 l) j 0 ≡ get_or l j 0
+    one j h = get_or-take 5 l j 0 h
+
+-- the first of n rows
+pub held_are : (k n : ℕ) (l : List ℕ) → k ≤ n → rows_held (take k (first_chunks 5 n l)) ≡ rows_in_lem k l
+unfolding rows_in_lem
+held_are zero n l h = refl
+held_are (suc k) zero l h = absurd (omega arith)
+held_are (suc k) (suc n) l h = ap₂ {C = List Row} (λ r t. r ∷ t) (row_alone l) (held_are k n (drop 5 l) (omega arith))

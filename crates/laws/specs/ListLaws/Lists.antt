@@ -1,11 +1,12 @@
 -- Lists: what holds of every element (`All`), and how filters, maps and scans go through one another. Assumes nothing.
-use Prim.Native.Nat.{ℕ, zero, suc, ◌+◌, ◌<◌}
+use Prim.Native.Nat.{ℕ, zero, suc, ◌+◌, ◌≤◌, ◌<◌}
 use Rattle.std.proofs.Common.{arith, add-zero, zero-add, ◌∙◌}
 use Rattle.std.specs.Prelude.{◌≡◌, Bool, get_or}
 use Rattle.std.proofs.Math.Path.{refl, sym, ap, ap₂}
 use Rattle.std.proofs.Math.Bool.{true, false, ◌&&◌, ◌||◌, cond, or_assoc}
 use mathlib.Core.List.{List, [], ◌∷◌, ◌++◌, map}
-use Rattle.std.proofs.Math.ListN.{length}
+use Rattle.std.proofs.Math.ListN.{length, take}
+use Rattle.std.proofs.Math.Seq.{length-take-le}
 use Rattle.definitions.specs.Scan.{any, all, filter, gather, any_below_lem, run, bit}
 
 pub data All {A : Type 0} (P : A → Type 0) : List A → Type 0 where
@@ -145,3 +146,7 @@ run_last n zero = ap {B = List ℕ} (λ x. x ∷ []) (sym (add-zero n))
 run_last n (suc k) =
     let e : suc n + k ≡ n + suc k = omega arith in
     ap {B = List ℕ} (λ r. n ∷ r) (run_last (suc n) k ∙ ap {B = List ℕ} (λ x. run (suc n) k ++ (x ∷ [])) e)
+
+-- a place among the first n is one of n places
+pub place_in-front : {A : Type 0} (l : List A) (n : ℕ) {i : ℕ} → n ≤ length l → i < length (take n l) → i < n
+place_in-front l n few h = omega (arith, h, length-take-le n l few)

@@ -3,6 +3,7 @@ use Rattle.std.specs.Prelude.{◌≡◌, refl, Bool, true, false, cond, option_m
 use Rattle.std.proofs.Math.Path.{ap}
 use Rattle.std.proofs.Common.{◌∙◌}
 use mathlib.Core.List.{[], map}
+use Rattle.std.specs.Bool.{then_some}
 use Rattle.definitions.specs.Scan.{filter, to_list, only_if}
 use Rattle.laws.specs.ListLaws.Lists.{All, done, more, filter_in, filter-out}
 
@@ -26,6 +27,11 @@ module _ {A : Type 0} {P : A → Type 0} where
   pub on_map_lem : {Q : A → Type 0} {o : Option A} → ((x : A) → P x → Q x) → OnO P o → OnO Q o
   on_map_lem f absent = absent
   on_map_lem f (present {x = x} h) = present (f x h)
+
+-- the library's word for it
+pub only_then : {A : Type 0} (b : Bool) (x : A) → then_some b x ≡ only_if b x
+only_then true x = refl
+only_then false x = refl
 
 module _ {A B : Type 0} (e : A → B) where
   pub only_map : (b : Bool) (x : A) → only_if b (e x) ≡ option_map e (only_if b x)

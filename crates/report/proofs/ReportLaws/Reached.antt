@@ -2,7 +2,7 @@
 -- is at most 256 times the runs, the squared lengths 2^35 times; of each pass boundaries in are kept and removed together; accepted and refused runs are all runs. So no sum wraps.
 -- Assumes nothing.
 use Prim.Native.Nat.{ℕ, zero, suc, ◌+◌, ◌*◌, ◌-◌, ◌≤◌, ◌<◌, ◌^◌}
-use Rattle.std.proofs.Common.{arith, mod-eq_of_lt, sym, ap₂, ◌∙◌, ltb-true}
+use Rattle.std.proofs.Common.{arith, mod-eq_of_lt, sym, ◌∙◌, ltb-true}
 use Rattle.std.specs.Prelude.{◌≡◌, Bool, length, replicate}
 use Rattle.std.proofs.Math.Path.{refl, ap, subst}
 use Rattle.std.proofs.Math.Bool.{true, false, cond}
@@ -10,8 +10,8 @@ use mathlib.Core.List.{List, [], ◌∷◌}
 use Rattle.std.proofs.Math.Dec.{ltb}
 use Rattle.definitions.specs.Limits.{max_entries}
 use Rattle.laws.specs.ListLaws.Lists.{All, done, more, all_map}
-use Rattle.report.specs.Runs.{Figures, Run, refused_run, accepted_run}
-use Rattle.report.specs.Report.{Report, max_runs, pass_count, refusal_numbers, no_figures, empty_report, sum64, count_at, with_figures, figures_at, added_by, add_run_by, add_runs_by, add_run, add_runs, exact_runs}
+use Rattle.report.specs.Runs.{Figures, Run}
+use Rattle.report.specs.Report.{Report, max_runs, pass_count, refusal_numbers, no_figures, empty_report, sum64, count_at, with_figures, figures_at, added_by, add_run_by, add_runs_by, add_runs, exact_runs}
 use Rattle.report.specs.ReportLaws.Possible.{max_squares, OneRun, Possible, refusing, accepting, Made, made_possible}
 
 -- ---- counted runs

@@ -5,7 +5,7 @@ use native.Mathlib.Omega.{arith}
 use Rattle.std.specs.Prelude.{◌≡◌, Bool, not, ◌&&◌, List, length, ltb}
 use Rattle.std.proofs.Math.Path.{refl, ap, ap₂}
 use Rattle.std.proofs.Common.{sym, ◌∙◌, ltb-true, ltb-false, eq-eqb, ne_eqb}
-use Rattle.std.proofs.Math.Bool.{true, false, ◌||◌, or-false}
+use Rattle.std.proofs.Math.Bool.{true, false, ◌||◌, or-false, not-not}
 use Rattle.std.proofs.Math.Dec.{eqb}
 use Rattle.definitions.specs.Scan.{any, count_below, collect, to_list, only_if, member}
 use Rattle.definitions.specs.Sort.{list_lt}
@@ -14,7 +14,7 @@ use Rattle.definitions.specs.Rows.{Row, row_key, rows_from, removed_of, rows_of}
 use Rattle.laws.specs.ListLaws.Below.{count_ext}
 use Rattle.laws.specs.ListLaws.Lists.{any_append}
 use Rattle.laws.specs.ListLaws.SortedMembers.{any-sort}
-use Rattle.report.specs.Runs.{Figures, figures_from, figures_of}
+use Rattle.report.specs.Runs.{figures_from, figures_of}
 
 -- a row has this number
 unfoldable pub named : List Row → ℕ → Bool
@@ -71,10 +71,6 @@ module _ (keep : ℕ → Bool) (row : ℕ → Row) (own : (i : ℕ) → (row i).
           let same : n ≡ i = omega arith in
           ap₂ ◌||◌ (none_above n i l) (ap (λ b. keep n && b) (eq-eqb n i same) ∙ and_yes (keep n)) ∙ ap keep same
 
-not-not : (b : Bool) → b ≡ not (not b)
-not-not true = refl
-not-not false = refl
-
 pub removed-unnamed : (pass : ℕ) (M : Map) → (figures_of pass M).removed ≡ unnamed_below (length M.boundaries) (rows_of pass M)
 unfolding figures_of figures_from unnamed_below named rows_of rows_from
 removed-unnamed pass M =
@@ -83,5 +79,5 @@ removed-unnamed pass M =
     let kept : List Row = collect (length M.boundaries) (λ i. only_if (not (gone i)) (row i)) in
     count_ext (length M.boundaries) gone (λ i. not (named (rows_of pass M) i))
     (λ i l.
-    not-not (gone i)
+    sym (not-not (gone i))
     ∙ ap not (sym (any-sort (λ r s. list_lt (row_key r) (row_key s)) (λ r. eqb r.number i) kept ∙ named-picked (λ i. not (gone i)) row (λ i. refl) (length M.boundaries) i l)))

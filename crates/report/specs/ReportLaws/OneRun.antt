@@ -2,13 +2,12 @@
 -- removed or gives one row; a row's line lies on the map, whose sides are at most 8,192 pixels, and sorting alters no sum. Assumes nothing.
 use Prim.Native.Nat.{ℕ, zero, suc, ◌+◌, ◌*◌, ◌-◌, ◌≤◌}
 use native.Mathlib.Omega.{arith}
-use Rattle.std.proofs.Common.{mul-le-mul, ap, ◌∙◌}
-use Rattle.std.specs.Prelude.{◌≡◌, Bool, not, cond, leb, Option, None, Some}
+use Rattle.std.proofs.Common.{mul-le-mul, ◌∙◌}
+use Rattle.std.specs.Prelude.{◌≡◌, Bool, not, cond, leb}
 use Rattle.std.proofs.Math.Path.{refl, ap₂}
 use Rattle.std.proofs.Math.Bool.{true, false}
 use mathlib.Core.List.{List, [], ◌∷◌, ◌++◌}
 use Rattle.std.proofs.Math.ListN.{length, length-append}
-use Rattle.definitions.specs.Limits.{max_entries}
 use Rattle.definitions.specs.Scan.{bit, count_below, collect, to_list, only_if, member}
 use Rattle.definitions.specs.Sort.{insert, sort_onto, sort, list_lt}
 use Rattle.definitions.specs.Grid.{Map, Segment, canonical, boundary_of}
@@ -17,7 +16,7 @@ use Rattle.definitions.specs.Rows.{Row, row_key, rows_from, removed_of, rows_of}
 use Rattle.laws.specs.ListLaws.SortedMembers.{length-sort}
 use Rattle.laws.specs.FloatLaws.Pixels.{max_pixel, PixelSegment, canonical-pixel}
 use Rattle.laws.specs.FloatLaws.MapPixels.{OnMap, map-pixel}
-use Rattle.report.specs.Runs.{Figures, square_apart, squared_length, squared_lengths, figures_from, figures_of}
+use Rattle.report.specs.Runs.{square_apart, squared_length, squared_lengths, figures_from, figures_of}
 
 -- ---- "and equals their sum"
 

@@ -2,7 +2,7 @@
 -- 256 and those kept and removed together, and its squared lengths are at most 2^35. The argument: no check of the table and no reader refuses with a number above 14. Assumes
 -- nothing.
 use Rattle.std.specs.Prelude.{ℕ, zero, suc, ◌+◌, ◌*◌, ◌/◌, ◌%◌, ◌≤◌, ◌<◌, ◌≡◌, refl, Bool, true, false, not, ◌&&◌, cond, List, [], ◌∷◌, length, leb, eqb, ltb, Option, None, Some}
-use Rattle.std.proofs.Common.{arith, mul-le-mul_right, sym, ap, subst, ◌∙◌, leb-true}
+use Rattle.std.proofs.Common.{arith, mul-le-mul_right, leb-true}
 use Rattle.definitions.specs.Limits.{is_side, max_entries, numbers_per_span, numbers_per_boundary, numbers_per_anchor}
 use Rattle.definitions.specs.Scan.{only_if}
 use Rattle.definitions.specs.Grid.{segment_at}
@@ -10,7 +10,7 @@ use Rattle.definitions.specs.Refusals.{Refusal, or_else, first_below_lem, unless
 use Rattle.definitions.specs.Rows.{rows_of}
 use Rattle.definitions.specs.Verdict.{Lent, map_in, refusal, first_refusal, records_fault, pairs_fault, partition_has_room, verdict}
 use Rattle.definitions.specs.SheetNumber.{Read, found, failed, with_group, continued, ill_formed, groups, number}
-use Rattle.definitions.specs.Sheet.{Reader, give, check, and_then, times, judged, is_map_kind, kind, cell, area, entries, has_spans, spans_held, end, Sheet, Reading, well_formed, refused, reading, sheet, read_sheet, room_for, read_verdict, plain_cell_limit, keptlist_cell_limit}
+use Rattle.definitions.specs.Sheet.{Reader, check, and_then, times, judged, is_map_kind, kind, cell, area, entries, has_spans, spans_held, end, Sheet, well_formed, refused, reading, sheet, read_sheet, room_for, read_verdict, plain_cell_limit, keptlist_cell_limit}
 use Rattle.definitions.specs.Printed.{max_sheet_bytes, lent_for}
 use Rattle.laws.specs.ListLaws.Lists.{All, done, more}
 use Rattle.laws.specs.ListLaws.Tests.{both}

@@ -1,6 +1,7 @@
 -- `result_reader::turns_breach` meets its contract: by how far the labels are in turn. Assumes nothing.
+use Rattle.laws.specs.ListLaws.Options.{only_then}
 use Rattle.std.proofs.Common.{sym, ◌∙◌}
-use Rattle.result_reader.proofs.Lists.{only_then, turns_behind, turns-broken}
+use Rattle.result_reader.proofs.Lists.{turns_behind, turns-broken}
 use Rattle.result_reader.proofs.turns_breach.Goals as goal
 
 pub returns-in-Ok : goal.returns-in-Ok

@@ -1,5 +1,5 @@
 -- `result_writer::ascends` meets its contract: the keys are compared as lists. Assumes nothing.
-use Rattle.std.proofs.Common.{arith, ◌-◌, ◌<◌, [], List, ℕ, length, get_or, ap, ap₂, ◌∙◌, ◌≡◌}
+use Rattle.std.proofs.Common.{arith, ◌<◌, [], List, ℕ, length, get_or, ap, ap₂, ◌∙◌, ◌≡◌}
 use Rattle.std.proofs.lemmas.List.{get_or_default}
 use Rattle.definitions.specs.Sort.{list_lt}
 use Rattle.result_writer.specs.Contract.{key_in}

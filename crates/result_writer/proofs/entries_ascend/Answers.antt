@@ -1,5 +1,5 @@
 -- `result_writer::entries_ascend` meets its contract. The loop's invariant is `Ascending`: the entries from i on say what all do. Assumes nothing.
-use Rattle.std.proofs.Common.{arith, ℕ, ◌≡◌, ◌-◌, ◌/◌, ◌<◌, [], Bool, true, false, length, get_or, sym, ap, ap₂, ◌∙◌}
+use Rattle.std.proofs.Common.{arith, ℕ, ◌≡◌, ◌-◌, ◌/◌, ◌<◌, length, sym, ap, ap₂, ◌∙◌}
 use Rattle.definitions.specs.Sort.{list_lt}
 use Rattle.result_writer.specs.Contract.{key_in}
 use Rattle.result_writer.proofs.Ascending.{ascending_starts, ascending_goes_on, ascending_stops, ascending_ends, entry_back, is_above, entry-read}

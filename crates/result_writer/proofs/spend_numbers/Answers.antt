@@ -1,5 +1,5 @@
 -- `result_writer::spend_numbers` meets its contract. The loop's invariant is `Spending`. Assumes nothing.
-use Rattle.std.proofs.Common.{ap, ◌∙◌, ◌≡◌, length, get_or, map}
+use Rattle.std.proofs.Common.{ap, ◌∙◌, length}
 use Rattle.std.specs.Prelude.{Some}
 use Rattle.results.specs.Shortest.{shortest}
 use Rattle.result_writer.specs.Contract.{spent}

@@ -1,12 +1,12 @@
 -- `boundary_blocks::blocks::keep_blocks` meets its contract. The loop's invariant: the blocks that are left of the first k stand at the front, and all else is as it was. Assumes nothing.
-use Prim.Native.Nat.{ℕ, ◌+◌, ◌*◌, ◌≤◌, ◌<◌}
+use Prim.Native.Nat.{◌+◌, ◌*◌, ◌≤◌}
 use native.Mathlib.Omega.{arith}
 use native.Mathlib.Nat.{add-zero}
 use mathlib.Core.Path.{refl, sym, ap, ap₂, subst, ◌∙◌}
-use mathlib.Core.Bool.{Bool, false, not}
-use mathlib.Core.List.{List}
-use lib.ListN.{length, take}
-use lib.Seq.{sets, length-take-le}
+use mathlib.Core.Bool.{false, not}
+use lib.ListN.{length}
+use lib.Seq.{sets}
+use Rattle.laws.specs.ListLaws.Lists.{place_in-front}
 use Rattle.std.proofs.Common.{get_or-take}
 use Rattle.definitions.specs.Scan.{bit, gather, count_below}
 use Rattle.definitions.specs.Lists.{overwrite}
@@ -15,10 +15,6 @@ use Rattle.boundary_blocks.proofs.Copying.{part_within}
 use Rattle.boundary_blocks.proofs.Keeping.{within, block-gone, block-stays, left-few, left-room, left_next, count_next}
 use Rattle.boundary_blocks.proofs.blocks.keep_blocks.Goals as goal
 use Rattle.boundary_blocks.proofs.blocks.keep_blocks.Goals.{then-not-gone, else-not-gone}
-
--- a mark among the first `count` is one of that many
-below : (removed : List Bool) (count : ℕ) {i : ℕ} → count ≤ length removed → i < length (take count removed) → i < count
-below removed count whole h = omega (arith, h, length-take-le count removed whole)
 
 pub loop-k-init : goal.loop-k-init
 unfolding left_blocks gather left_count count_below
@@ -32,7 +28,7 @@ loop-k-preserved c =
     let l = given.list.now in
     let size = given.size in
     let k = turn.k in
-    let inside = below removed given.count {i = k} (omega (arith, c.told-removed, c.requires.0)) c.loop-k-test.true in
+    let inside = place_in-front removed given.count {i = k} (omega (arith, c.told-removed, c.requires.0)) c.loop-k-test.true in
     let mark = sym (get_or-take given.count removed k false inside) in
     let front = overwrite (left_blocks removed size l k) l in
     let counted = count_next removed size l given.count c.requires.1 k in
@@ -66,7 +62,7 @@ overflow_mul-size c =
     let turn = c.loop-k in
     let given = c.args in
     let l = given.list.now in
-    let inside = below given.removed.now given.count {i = turn.k} (omega (arith, c.told-removed, c.requires.0)) c.loop-k-test.true in
+    let inside = place_in-front given.removed.now given.count {i = turn.k} (omega (arith, c.told-removed, c.requires.0)) c.loop-k-test.true in
     let end = within given.size turn.k given.count {n = length l} inside c.requires.1 in
     let front = subst (λ n. given.size * n ≤ given.size * turn.k) (sym turn.invariant.3) (left-room given.removed.now given.size l given.count c.requires.1 turn.k) in
     record { fits = omega (arith, front, end) }
@@ -76,7 +72,7 @@ copy_within-requires-clause-dest_in_bounds c =
     let turn = c.loop-k in
     let given = c.args in
     let l = given.list.now in
-    let inside = below given.removed.now given.count {i = turn.k} (omega (arith, c.told-removed, c.requires.0)) c.loop-k-test.true in
+    let inside = place_in-front given.removed.now given.count {i = turn.k} (omega (arith, c.told-removed, c.requires.0)) c.loop-k-test.true in
     let end = within given.size turn.k given.count {n = length l} inside c.requires.1 in
     let room = subst (λ n. given.size * n ≤ given.size * turn.k) (sym turn.invariant.3) (left-room given.removed.now given.size l given.count c.requires.1 turn.k) in
     omega (arith, room, end, turn.invariant.1)

@@ -6,7 +6,8 @@ use mathlib.Core.List.{[], ◌∷◌}
 use lib.ListN.{get_or, set, length-set, take}
 use Rattle.definitions.specs.Scan.{concat_map}
 use Rattle.definitions.specs.Lists.{overwrite}
-use Rattle.boundary_blocks.specs.Start.{rows_held, numbers_of}
+use Rattle.laws.specs.ListLaws.FlatRows.{rows_held}
+use Rattle.boundary_blocks.specs.Start.{numbers_of}
 use Rattle.boundary_blocks.proofs.Placing.{row_more}
 use Rattle.boundary_blocks.proofs.start.put_numbers.Goals as goal
 

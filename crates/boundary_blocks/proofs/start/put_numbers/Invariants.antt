@@ -2,7 +2,8 @@
 use mathlib.Core.Path.{◌≡◌}
 use lib.ListN.{length, take}
 use Rattle.definitions.specs.Lists.{overwrite}
-use Rattle.boundary_blocks.specs.Start.{rows_held, numbers_of}
+use Rattle.laws.specs.ListLaws.FlatRows.{rows_held}
+use Rattle.boundary_blocks.specs.Start.{numbers_of}
 use Rattle.boundary_blocks.proofs.start.put_numbers.Given as goal
 
 abbrev pub invariant-loop-k : goal.invariant-loop-k

@@ -2,7 +2,8 @@
 use mathlib.Core.Path.{◌≡◌}
 use lib.ListN.{length, take}
 use Rattle.definitions.specs.Lists.{overwrite}
-use Rattle.boundary_blocks.specs.Start.{rows_held, ends_of_lem}
+use Rattle.laws.specs.ListLaws.FlatRows.{rows_held}
+use Rattle.boundary_blocks.specs.Start.{ends_of_lem}
 use Rattle.boundary_blocks.proofs.start.put_spans.Given as goal
 
 abbrev pub invariant-loop-k : goal.invariant-loop-k

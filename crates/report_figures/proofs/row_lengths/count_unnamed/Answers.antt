@@ -3,7 +3,7 @@ use Rattle.std.proofs.Common.{not, ◌∙◌, arith, rules}
 use Rattle.std.proofs.lemmas.Iterator.{YieldsList-from_range}
 use Rattle.std.proofs.lemmas.Iterator.Consumers.{YieldsList-from_filter, count_from_yields_List}
 use Rattle.report.specs.ReportLaws.Named.{named}
-use Rattle.report_figures.specs.Forms.{rows_held}
+use Rattle.laws.specs.ListLaws.FlatRows.{rows_held}
 use Rattle.report_figures.proofs.Counting.{unnamed_range}
 use Rattle.report_figures.proofs.row_lengths.count_unnamed.Goals as goal
 
