@@ -8,7 +8,7 @@ use Rattle.definitions.specs.Rows.{rows_of, flat_rows}
 use Rattle.definitions.specs.Refusals.{Refusal, or_else}
 use Rattle.definitions.specs.Verdict.{Answer, map_in}
 use Rattle.definitions.specs.AtExit.{call_exit}
-use Rattle.desks.specs.Desks.{Shared, Desk, alone, terrain, shared_refusal, desk_refusal, answer_from, desk_answer, output_from, desk_output, shared_exit, Served, LeftShared, RanBoth}
+use Rattle.desks.specs.Desks.{Shared, Desk, alone, terrain, shared_refusal, desk_refusal, answer_from, desk_answer, output_from, desk_output, Served, LeftShared, RanBoth}
 use Rattle.desks.proofs.SameGround.{SameGround, same_ground, served_same}
 use Rattle.desks.proofs.SharedCalls.{shared-success}
 

@@ -1,6 +1,6 @@
 -- The shared refusal is that of the call with no boundaries, no anchors and no output, and so are the shared lists at exit; the number of a refusal is never 0. Assumes
 -- nothing.
-use Rattle.std.specs.Prelude.{ℕ, zero, suc, ◌*◌, ◌/◌, ◌≡◌, refl, Bool, ◌&&◌, List, [], ◌∷◌, length, Option, None, Some}
+use Rattle.std.specs.Prelude.{ℕ, suc, ◌/◌, ◌≡◌, refl, ◌&&◌, List, [], ◌∷◌, length, Option, None, Some}
 use Rattle.std.proofs.Common.{arith, ◌∙◌, true≢false}
 use Rattle.std.proofs.Math.Path.{sym, ap}
 use Rattle.std.proofs.Math.Bool.{true, and-true}
@@ -9,11 +9,10 @@ use Rattle.definitions.specs.Rows.{rows_of}
 use Rattle.definitions.specs.Refusals.{Refusal, or_else, unless, first_below_lem, sides_fault, cells_fault, is_whole, pass_fault, spans_refusal, boundaries_fault, anchors_fault, elevations_fault, output_room}
 use Rattle.definitions.specs.Verdict.{Answer, map_in, refusal, first_refusal, records_fault, pairs_fault, partition_has_room, verdict}
 use Rattle.definitions.specs.AtExit.{call_exit}
-use Rattle.laws.specs.ListLaws.Tests.{both}
 use Rattle.laws.specs.ListLaws.NoFault.{found}
 use Rattle.laws.specs.TableLaws.AcceptedCalls.{Accepted, accepted}
 use Rattle.laws.specs.TableLaws.KeptRows.{rows_few, boundary_count_lem}
-use Rattle.desks.specs.Desks.{Shared, Desk, nobody, terrain, shared_refusal, desk_fault, own_refusal, desk_refusal, first_of, answer_from, desk_answer, shared_exit}
+use Rattle.desks.specs.Desks.{Shared, Desk, terrain, shared_refusal, desk_fault, own_refusal, desk_refusal, answer_from, desk_answer, shared_exit}
 
 -- ---- a list of checks as one refusal
 

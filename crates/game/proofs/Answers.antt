@@ -1,10 +1,10 @@
 -- Who goes by the search's regions wins: the runner within the fewest moves, the guard in every play. The runner's moves each leave one move less; the guard's keep the place
 -- among those where the search finds no win. Assumes nothing.
-use Prim.Native.Nat.{ℕ, zero, suc, ◌≤◌, ◌<◌, ◌+◌, ◌-◌}
+use Prim.Native.Nat.{ℕ, zero, suc, ◌≤◌, ◌-◌}
 use native.Mathlib.Omega.{arith}
-use Rattle.std.specs.Prelude.{◌≡◌, ◌↔◌, ◌⊎◌, Bool, not, ◌&&◌, List, length, leb}
+use Rattle.std.specs.Prelude.{◌≡◌, Bool, not, ◌&&◌, List, leb}
 use Rattle.std.proofs.Math.Path.{refl, sym, ap, subst}
-use Rattle.std.proofs.Common.{ap₂, ◌∙◌, inl, inr}
+use Rattle.std.proofs.Common.{◌∙◌}
 use Rattle.std.proofs.Math.Bool.{true, false, cond}
 use Rattle.std.proofs.lemmas.Bool.{false≢true}
 use borrow.Author.Tests.{not-true}
@@ -12,11 +12,11 @@ use Rattle.definitions.specs.Scan.{any_below_lem}
 use Rattle.laws.specs.ListLaws.Tests.{both}
 use Rattle.laws.specs.ListLaws.Below.{below_at}
 use Rattle.game.specs.Game.{Game, Place, mover, move_to, is_move, runner_has_won, is_over, Inside}
-use Rattle.game.specs.Play.{Play, before, Next, moved, rests, PlayFrom, guard_wins, Strategy, Follows, RunnerForces, GuardForces}
+use Rattle.game.specs.Play.{Play, Next, moved, rests, PlayFrom, guard_wins, Strategy, Follows, RunnerForces, GuardForces}
 use Rattle.game.specs.Search.{least_below, some_move, sweep, wins_within, sweeps, runner_wins, fewest, serves, region_for}
-use Rattle.game.proofs.Sweeps.{Least, least_is, least_le, unfinished, over_captured, move_in, moved_in, stays, sweep-runner, sweep-guard, some_at, every_at, some_fails}
+use Rattle.game.proofs.Sweeps.{Least, least_is, least_le, unfinished, over_captured, move_in, stays, sweep-runner, sweep-guard, some_at, every_at, some_fails}
 use Rattle.game.proofs.Settled.{wins-le, won-wins, over-wins, settled, found_by_then}
-use Rattle.game.proofs.Versus.{stays_in, length_before, versus, versus_play, versus-runner, versus-guard, not_both_lem}
+use Rattle.game.proofs.Versus.{stays_in}
 
 one_back : (n : ℕ) → n ≡ suc n - 1
 one_back n = omega arith

@@ -1,21 +1,19 @@
 -- No strategy of the runner does better than the search: against any of them a guard who delays keeps a place that is not won within n sweeps so, with one sweep less after
 -- each move. Assumes nothing.
-use Prim.Native.Nat.{ℕ, zero, suc, ◌≤◌, ◌<◌, ◌+◌, ◌-◌}
-use Rattle.std.proofs.Common.{arith, ap₂, ◌∙◌, subst, inl, inr}
-use Rattle.std.specs.Prelude.{◌≡◌, ◌↔◌, ◌⊎◌, Bool, true, false, ◌&&◌, cond, List, length, leb}
+use Prim.Native.Nat.{ℕ, zero, suc, ◌+◌, ◌-◌}
+use Rattle.std.proofs.Common.{arith, ap₂, ◌∙◌}
+use Rattle.std.specs.Prelude.{◌≡◌, Bool, true, false, ◌&&◌, length}
 use Rattle.std.proofs.Math.Path.{refl, sym, ap}
 use Rattle.std.proofs.Math.Bool.{not}
 use Rattle.std.proofs.lemmas.Bool.{false≢true}
 use borrow.Author.Tests.{not-true}
-use Rattle.definitions.specs.Scan.{any_below_lem}
 use Rattle.laws.specs.ListLaws.Tests.{both}
-use Rattle.laws.specs.ListLaws.Below.{below_at}
-use Rattle.game.specs.Game.{Game, Place, mover, move_to, is_move, runner_has_won, is_over, Inside}
-use Rattle.game.specs.Play.{Play, before, Next, moved, rests, PlayFrom, guard_wins, Strategy, Follows, RunnerForces, GuardForces}
-use Rattle.game.specs.Search.{least_below, some_move, sweep, wins_within, sweeps, runner_wins, fewest, serves, region_for}
-use Rattle.game.proofs.Sweeps.{Least, least_is, least_le, unfinished, over_captured, move_in, moved_in, stays, sweep-runner, sweep-guard, some_at, every_at, some_fails}
-use Rattle.game.proofs.Settled.{wins-le, won-wins, over-wins, settled, found_by_then}
-use Rattle.game.proofs.Versus.{stays_in, length_before, versus, versus_play, versus-runner, versus-guard, not_both_lem}
+use Rattle.game.specs.Game.{Game, Place, move_to, is_move, is_over, Inside}
+use Rattle.game.specs.Play.{Play, before, Next, moved, rests, PlayFrom, Strategy, Follows, RunnerForces}
+use Rattle.game.specs.Search.{least_below, sweep, wins_within}
+use Rattle.game.proofs.Sweeps.{least_is, move_in, sweep-runner, sweep-guard, some_at, some_fails}
+use Rattle.game.proofs.Settled.{over-wins}
+use Rattle.game.proofs.Versus.{stays_in, length_before, versus, versus_play, versus-runner, versus-guard}
 use Rattle.game.proofs.Answers.{or_stay, or_stay_is, by_choice}
 
 module _ (G : Game) where

@@ -2,7 +2,7 @@
 use Prim.Native.Nat.{ℕ, zero, suc, ◌+◌, ◌-◌, ◌*◌, ◌/◌, ◌%◌, ◌≤◌, ◌<◌}
 use Rattle.std.proofs.Common.{suc-mul, mul-le-mul_right, sym, ◌∙◌, subst}
 use native.Mathlib.Omega.{arith}
-use Rattle.std.specs.Prelude.{◌≡◌, Bool, ◌&&◌, cond, List, [], ◌∷◌, ◌++◌, length, drop, eqb, leb}
+use Rattle.std.specs.Prelude.{◌≡◌, Bool, cond, List, [], ◌∷◌, ◌++◌, length, drop, eqb, leb}
 use Rattle.std.proofs.Math.Path.{refl, ap}
 use Rattle.std.proofs.Math.Bool.{true, false}
 use Rattle.std.proofs.Math.ListN.{get_or, length-append, get_or-append}
@@ -17,7 +17,7 @@ use Rattle.game.specs.Game.{Game, Place, is_region, Inside}
 use Rattle.game.specs.Play.{Verdict, Judged}
 use Rattle.game.specs.Search.{verdict_of}
 use Rattle.game.proofs.Verdicts.{judged}
-use Rattle.game.specs.Graph.{graph_of, place_count, numbers_per_verdict, place_at, numbers_of, verdict_numbers, verdicts_at_exit, Solves}
+use Rattle.game.specs.Graph.{graph_of, place_count, place_at, numbers_of, verdict_numbers, verdicts_at_exit, Solves}
 use Rattle.game.specs.EntryLaws.{number_of, Entry}
 
 -- ---- lists

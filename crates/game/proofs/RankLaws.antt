@@ -14,10 +14,9 @@ use Rattle.definitions.specs.Scan.{run, bit}
 use Rattle.laws.specs.ListLaws.Tests.{same_test}
 use Rattle.laws.specs.ListLaws.Below.{below_ext}
 use Rattle.game.specs.Game.{Game, Place, move_to, is_move, runner_has_won, is_over, Inside}
-use Rattle.game.specs.Play.{Verdict}
 use Rattle.game.specs.Search.{least_below, sweep, wins_within, sweeps, runner_wins, fewest, serves, region_for, verdict_of}
 use Rattle.game.proofs.Sweeps.{moved_in}
-use Rattle.game.specs.Places.{size, code, place_of}
+use Rattle.game.specs.Places.{code, place_of}
 use Rattle.game.proofs.Settled.{code-back, code_below, sweep-le, wins_more, found_by_then, wins-le}
 use Rattle.game.proofs.Answers.{fewest-wins, fewest-le, fewest-found, fewest_some}
 use Rattle.game.specs.Ranks.{is_found, serves_by, verdict_by, places, rank_in, rank_next, ranks, solved}

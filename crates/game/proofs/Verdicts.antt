@@ -1,11 +1,11 @@
 -- The theorems of request 14 over a graph: the search's verdict is the one over all ways of play (`judged`), and no other is (`judged_one`); who goes by its regions wins.
 -- Assumes nothing.
-use Rattle.std.specs.Prelude.{ℕ, suc, ◌≤◌, ◌<◌, ◌-◌, ◌≡◌, refl, ◌↔◌, ◌⊎◌, Bool, not, ◌&&◌, ltb}
-use Rattle.std.proofs.Common.{le_antisymm, arith, sym, ◌∙◌, inl, inr, ltb-true, ltb-false}
+use Rattle.std.specs.Prelude.{ℕ, ◌≤◌, ◌<◌, ◌-◌, ◌≡◌, refl, ◌↔◌, ◌⊎◌, Bool, not, ◌&&◌, ltb}
+use Rattle.std.proofs.Common.{le_antisymm, sym, ◌∙◌, inl, inr, ltb-true, ltb-false}
 use Rattle.std.proofs.Math.Path.{ap, subst}
 use Rattle.std.proofs.Math.Bool.{true, false, cond, beq}
 use Rattle.std.proofs.lemmas.Bool.{false≢true}
-use Rattle.game.specs.Game.{Game, Place, move_to, is_move, runner_has_won, is_over, Inside}
+use Rattle.game.specs.Game.{Game, Place, move_to, runner_has_won, is_over, Inside}
 use Rattle.game.specs.Play.{Play, PlayFrom, guard_wins, Follows, RunnerForces, GuardForces, Verdict, LeastOf, RunnerServed, GuardServed, Judged}
 use Rattle.game.specs.Search.{wins_within, runner_wins, fewest, region_for, verdict_of}
 use Rattle.game.proofs.Sweeps.{moved_in}

@@ -1,22 +1,10 @@
 -- The number of a place in the list of verdicts, and what the three numbers there are of a verdict. (What is true of them: proofs/EntryLaws.antt.)
-use Prim.Native.Nat.{ℕ, zero, suc, ◌+◌, ◌-◌, ◌*◌, ◌/◌, ◌%◌, ◌≤◌, ◌<◌}
-use Rattle.std.proofs.Common.{suc-mul, mul-le-mul_right, sym, ◌∙◌, subst}
-use native.Mathlib.Omega.{arith}
-use Rattle.std.specs.Prelude.{◌≡◌, Bool, ◌&&◌, cond, List, [], ◌∷◌, ◌++◌, length, drop, eqb, leb}
-use Rattle.std.proofs.Math.Path.{refl, ap}
-use Rattle.std.proofs.Math.Bool.{true, false}
-use Rattle.std.proofs.Math.ListN.{get_or, length-append, get_or-append}
-use Rattle.std.proofs.Math.Arith.{digits_div, digits_mod}
-use Rattle.std.proofs.Math.Dec.{ltb}
-use borrow.Author.Tests.{eq-eqb, leb-true, ltb-true, ltb-false}
-use Rattle.definitions.specs.Scan.{gather}
-use Rattle.definitions.specs.Lists.{overwrite}
-use Rattle.definitions.specs.Verdict.{Answer}
-use Rattle.laws.specs.ListLaws.Tests.{both}
-use Rattle.game.specs.Game.{Game, Place, is_region, Inside}
-use Rattle.game.specs.Play.{Verdict, Judged}
-use Rattle.game.specs.Search.{verdict_of}
-use Rattle.game.specs.Graph.{graph_of, place_count, numbers_per_verdict, place_at, numbers_of, verdict_numbers, verdicts_at_exit, Solves}
+use Prim.Native.Nat.{ℕ, ◌+◌, ◌-◌, ◌*◌}
+use Rattle.std.specs.Prelude.{◌≡◌, cond, List}
+use Rattle.std.proofs.Math.ListN.{get_or}
+use Rattle.game.specs.Game.{Game, Place}
+use Rattle.game.specs.Play.{Verdict}
+use Rattle.game.specs.Graph.{numbers_per_verdict}
 
 module _ (G : Game) where
   -- ---- the number of a place

@@ -1,6 +1,6 @@
 -- What follows of a call that met its contract (`Played`) and was accepted: its regions are those of the kept graph, its rows the pass's (`played-regions`,
 -- `played-rows`), and each entry of the lent verdicts is the one over all ways of play (`played-entries`). Nothing is assumed of the lists that the call fills.
-use Rattle.std.specs.Prelude.{ℕ, ◌/◌, ◌≡◌, ◌&&◌, List, [], ◌∷◌, ◌++◌, leb, Option, None}
+use Rattle.std.specs.Prelude.{ℕ, ◌/◌, ◌≡◌, ◌&&◌, List, [], ◌∷◌, ◌++◌, leb, Option}
 use Rattle.std.proofs.Common.{arith, sym, ◌∙◌}
 use Rattle.std.proofs.Math.Path.{ap}
 use Rattle.std.proofs.Math.ListN.{length, drop}
@@ -9,7 +9,7 @@ use Rattle.definitions.specs.Partition.{region_count}
 use Rattle.definitions.specs.RegionRecord.{Region}
 use Rattle.definitions.specs.Rows.{rows_of, flat_rows}
 use Rattle.definitions.specs.Refusals.{Refusal, unless, sides_fault, cells_fault, is_whole, pass_fault, spans_refusal, boundaries_fault, anchors_fault, elevations_fault, output_room}
-use Rattle.definitions.specs.Verdict.{Lent, map_in, refusal, first_refusal, records_fault, pairs_fault, partition_has_room}
+use Rattle.definitions.specs.Verdict.{Lent, map_in, refusal, records_fault, pairs_fault, partition_has_room}
 use Rattle.laws.specs.ListLaws.Lists.{All, done, more}
 use Rattle.laws.specs.ListLaws.FlatRows.{rows_in_lem, rows_of-flat}
 use Rattle.rest_definitions.specs.RestVerdict.{lists_fault}

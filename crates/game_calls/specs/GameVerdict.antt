@@ -1,6 +1,6 @@
 -- The answer of the call that plays on the kept graph, to every input (document 02, request 14; document 01's table). 16 is that of running to rest (RestVerdict of
 -- rest_definitions). 11 and 12 come of the first partition alone (SecondPartition). Definitions only; assumes nothing.
-use Rattle.std.specs.Prelude.{ℕ, ◌*◌, ◌/◌, ◌&&◌, cond, [], ◌∷◌, length, eqb, leb}
+use Rattle.std.specs.Prelude.{ℕ, ◌/◌, ◌&&◌, cond, [], ◌∷◌, length, eqb, leb}
 use Rattle.definitions.specs.Limits.{numbers_per_span, numbers_per_boundary, numbers_per_anchor}
 use Rattle.definitions.specs.Partition.{region_count}
 use Rattle.definitions.specs.Rows.{rows_of}

@@ -1,13 +1,13 @@
 -- Of a map whose spans and boundaries are one list: the second partition has no more spans, pairs and regions than the first (`second-fewer`), so that 11 and 12
 -- cannot come of it (`second-records`, `second-pairs`). The argument: its boundaries are those that a pass of a run to rest leaves (`numbers-passed`), of which
 -- this is known (FewerPairs of `rest`). Assumes that no check of a pass refuses the call, and that 16 does not.
-use Rattle.std.specs.Prelude.{ℕ, ◌*◌, ◌/◌, ◌≤◌, ◌<◌, max, ◌≡◌, refl, Bool, true, false, not, ◌&&◌, get_or, ltb, leb, None}
+use Rattle.std.specs.Prelude.{ℕ, ◌*◌, ◌/◌, ◌≤◌, ◌<◌, ◌≡◌, refl, Bool, true, false, not, ◌&&◌, get_or, ltb, leb, None}
 use Rattle.std.proofs.Common.{arith, ◌∙◌}
 use Rattle.std.proofs.Math.Path.{sym, ap, ap₂, subst}
-use mathlib.Core.List.{List, map, map-map}
+use mathlib.Core.List.{map, map-map}
 use Rattle.std.proofs.Math.ListN.{length}
 use borrow.Author.Tests.{ltb-true, ltb-false, leb-true, le-leb}
-use Rattle.definitions.specs.Limits.{numbers_per_span, numbers_per_boundary}
+use Rattle.definitions.specs.Limits.{numbers_per_span}
 use Rattle.definitions.specs.Scan.{collect, only_if, member, run}
 use Rattle.definitions.specs.Grid.{Map, no_boundary, segment_at, boundary_at, boundary_of, map_of}
 use Rattle.definitions.specs.Partition.{region_count}
@@ -26,7 +26,7 @@ use Rattle.rest_definitions.specs.Rest.{kept_map, passed}
 use Rattle.rest_definitions.specs.RestVerdict.{lists_fault}
 use Rattle.rest.specs.Runs.{all-entries}
 use Rattle.rest.specs.FewerPairs.{Fewer, passed-fewer}
-use Rattle.rest.specs.InnerCalls.{RestChecked, lent-count, lent-boundary, agrees, agree, spans-enough, lent-span}
+use Rattle.rest.specs.InnerCalls.{RestChecked, lent-count, lent-boundary, agree, spans-enough, lent-span}
 use Rattle.game_calls.specs.KeptGraph.{kept_numbers, graph_map}
 
 module _ (L : Lent) (A : Accepted L) (E : lists_fault L.spans L.boundaries ≡ None) where

@@ -10,7 +10,7 @@ use lib.ListN.{get_or}
 use lib.Arith.{digits_lt}
 use lib.Dec.{eqb}
 use borrow.Author.Tests.{le-leb, lt-ltb}
-use Rattle.definitions.specs.Grid.{Map, Position, at, is_walkable, walkable, is_step}
+use Rattle.definitions.specs.Grid.{Map, Position, at, walkable, is_step}
 use Rattle.grid_steps.specs.Walk.{grid_of}
 use Rattle.grid_steps.specs.Inner.{Nearby, Inside}
 use Rattle.grid_steps.proofs.Square.{Four, four, walkable_in}

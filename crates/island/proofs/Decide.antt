@@ -1,7 +1,7 @@
 -- A test that computes, and the theorem that two maps and an island that pass it meet the premises of demand 3 (`Alike`). It is a tool to exhibit examples; the
 -- island theorem does not use it. The premises ask of every number, and the test within bounds: a step goes from a cell of the grid to one of nine places, what
 -- cuts a step has a number below the count of spans, and beyond the list of boundaries stands one of kind 0, which has no ramp. Assumes nothing.
-use Rattle.std.specs.Prelude.{ℕ, ◌<◌, ◌≡◌, Bool, ◌&&◌, ◌||◌}
+use Rattle.std.specs.Prelude.{ℕ, ◌<◌, ◌≡◌, Bool, ◌&&◌}
 use Rattle.std.proofs.Common.{arith, sym, ◌∙◌, true≢false}
 use Rattle.std.proofs.Math.Path.{refl, ap, ap₂}
 use Rattle.std.proofs.Math.Bool.{true, false, not}
@@ -12,7 +12,7 @@ use Rattle.std.proofs.Math.ListN.{length, get_or-eq_default}
 use Rattle.std.proofs.Math.Dec.{eqb, ltb}
 use borrow.Author.Tests.{ltb-true, ltb-false, leb-true, eqb-true, not-true}
 use Rattle.definitions.specs.Scan.{all_below}
-use Rattle.definitions.specs.Grid.{Map, Position, at, Segment, Boundary, no_boundary, index, cell_count, cell_at, walkable, toward, is_step, span_count, span_of, boundary_of}
+use Rattle.definitions.specs.Grid.{Map, Position, at, Segment, Boundary, no_boundary, index, cell_count, cell_at, walkable, toward, is_step, span_count, boundary_of}
 use Rattle.laws.specs.ListLaws.Tests.{both, beq_same}
 use Rattle.laws.specs.ListLaws.Below.{all_below_at}
 use Rattle.laws.specs.RegionLaws.Steps.{step-parts}

@@ -1,19 +1,12 @@
 -- The premises of demand 3 are met by maps that differ and of which a pass removes a boundary of the island: for each pass two inputs, computed.
 -- Outside the island they differ in cells, anchors and boundaries, so that its boundaries have other numbers and its regions other labels. Assumes nothing.
-use Rattle.std.specs.Prelude.{ℕ, ◌*◌, ◌/◌, ◌%◌, ◌≡◌, refl, Bool, true, false, not, List, [], ◌∷◌, ◌++◌, length, get_or, take, drop, replicate, eqb, ltb, leb}
-use Rattle.std.proofs.Common.{ap, ◌∙◌}
-use Rattle.std.specs.Bool.{beq}
-use Rattle.definitions.specs.Limits.{numbers_per_boundary, numbers_per_span}
-use Rattle.definitions.specs.Scan.{any_below_lem, collect, only_if, gather, filter, member}
-use Rattle.definitions.specs.Grid.{Map, cell_count, boundary_of}
-use Rattle.definitions.specs.Partition.{labels}
-use Rattle.definitions.specs.RegionRecord.{empty_region}
-use Rattle.definitions.specs.Rows.{Row, removed_of, is_kept, rows_from, rows_of}
-use Rattle.definitions.specs.Verdict.{Lent, map_in, verdict}
+use Rattle.std.specs.Prelude.{refl, [], ◌∷◌}
+use Rattle.std.proofs.Common.{ap}
+use Rattle.definitions.specs.Scan.{any_below_lem, filter, member}
+use Rattle.definitions.specs.Rows.{rows_from}
+use Rattle.definitions.specs.Verdict.{map_in, verdict}
 use Rattle.definitions.specs.CaseJ.{row}
-use Rattle.definitions.specs.Cases.{width8}
-use Rattle.definitions.specs.SheetExamples.{sheet_j}
-use Rattle.island.specs.Premises.{cuts_island, has_anchor, rank_of, Alike, island_only, island_rows}
+use Rattle.island.specs.Premises.{cuts_island, rank_of, island_only}
 use Rattle.island.specs.Decide.{is_same_list, is_alike}
 use Rattle.island.proofs.Decide.{alike}
 use Rattle.island.specs.Example.{island_labels, Shown, removed_from, rows-without, mouth, mouth', behind_four, mouth-removes, mouth'-removes, interior, interior', interior-removes, interior'-removes, junction, junction', first_four, junction-removes, junction'-removes}

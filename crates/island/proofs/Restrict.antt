@@ -4,23 +4,22 @@
 use Rattle.std.specs.Prelude.{ℕ, ◌<◌, ◌≡◌, Bool, ◌&&◌, cond, get_or}
 use Rattle.std.proofs.Math.Path.{refl, sym, ap, ap₂, fun_ext}
 use Rattle.std.proofs.Common.{◌∙◌, true≢false}
-use Rattle.std.proofs.Math.Bool.{true, false, not, ◌||◌, and-true, and-false}
+use Rattle.std.proofs.Math.Bool.{true, false, not, ◌||◌}
 use mathlib.Core.List.{List, [], ◌∷◌, ◌++◌, map, map-id}
 use Rattle.std.proofs.Math.Arith.{digits_lt}
 use Rattle.std.proofs.Math.Dec.{eqb, ltb}
 use borrow.Author.Tests.{ltb-true, lt-ltb, eqb-true}
-use Rattle.definitions.specs.Scan.{run, any, filter, concat_map, any_below_lem}
-use Rattle.definitions.specs.Grid.{Map, Position, Segment, Pair, pair_eq, no_segment, canonical, index, cell_count, cell_at, is_walkable, position_of, toward, walkable, is_step, directions, neighbors, onward, edge, span_count, span_of, boundary_of}
+use Rattle.definitions.specs.Scan.{any, filter, concat_map, any_below_lem}
+use Rattle.definitions.specs.Grid.{Map, Position, Segment, Pair, pair_eq, no_segment, canonical, index, cell_count, cell_at, is_walkable, position_of, toward, walkable, is_step, directions, neighbors, onward, edge, span_count, span_of}
 use Rattle.definitions.specs.Spans.{cuts, candidate_positions, cut_steps}
 use Rattle.definitions.specs.Partition.{all_steps, cut_all_lem, uncut, roots}
-use Rattle.laws.specs.ListLaws.Lists.{All, done, more, all_split, all_map, all_both, any-gather, get_d_tab}
+use Rattle.laws.specs.ListLaws.Lists.{All, done, more, all_split, all_map, all_both, any-gather}
 use Rattle.laws.specs.OrderLaws.Ranks.{rank, any-rank}
-use Rattle.laws.specs.ListLaws.Scans.{picked, picked-length, picked_at, filter-gather, filter-swap}
-use Rattle.laws.specs.ListLaws.Tests.{both}
+use Rattle.laws.specs.ListLaws.Scans.{picked_at, filter-gather, filter-swap}
 use Rattle.laws.specs.ListLaws.Members.{any-failed}
 use Rattle.laws.specs.RegionLaws.MergingInside.{Keeps, Agree, Sided, merging_inside}
 use Rattle.laws.specs.RegionLaws.Steps.{step_is, uncut-all, cut_all}
-use Rattle.island.specs.Premises.{cuts_island, cuts_remainder, has_anchor, Island}
+use Rattle.island.specs.Premises.{cuts_island, cuts_remainder, Island}
 use Rattle.island.specs.Steps.{steps_in}
 use Rattle.island.specs.Restrict.{restrict, walkable_at_lem, count_in, cuts_lt}
 

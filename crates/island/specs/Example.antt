@@ -4,17 +4,16 @@ use Rattle.std.specs.Prelude.{ℕ, ◌*◌, ◌/◌, ◌%◌, ◌≡◌, refl, B
 use Rattle.std.proofs.Common.{ap, ◌∙◌}
 use Rattle.std.specs.Bool.{beq}
 use Rattle.definitions.specs.Limits.{numbers_per_boundary, numbers_per_span}
-use Rattle.definitions.specs.Scan.{any_below_lem, collect, only_if, gather, filter, member}
+use Rattle.definitions.specs.Scan.{any_below_lem, collect, only_if, gather, member}
 use Rattle.definitions.specs.Grid.{Map, cell_count, boundary_of}
 use Rattle.definitions.specs.Partition.{labels}
 use Rattle.definitions.specs.RegionRecord.{empty_region}
 use Rattle.definitions.specs.Rows.{Row, removed_of, is_kept, rows_from, rows_of}
 use Rattle.definitions.specs.Verdict.{Lent, map_in, verdict}
-use Rattle.definitions.specs.CaseJ.{row}
 use Rattle.definitions.specs.Cases.{width8}
 use Rattle.definitions.specs.SheetExamples.{sheet_j}
-use Rattle.island.specs.Premises.{cuts_island, has_anchor, rank_of, Alike, island_only, island_rows}
-use Rattle.island.specs.Decide.{is_same_list, is_alike}
+use Rattle.island.specs.Premises.{cuts_island, has_anchor, rank_of, Alike, island_rows}
+use Rattle.island.specs.Decide.{is_same_list}
 
 -- ---- what is shown
 

@@ -1,27 +1,20 @@
 -- A map restricted to an island: its cut steps are those of the spans that cut the island, its uncut steps are the island's, and so an island cell has the root
 -- that it has in the map. The argument: no step leaves the island, so that each cut step lies whole on one side; a span with a step in the island has none outside
 -- by the premise, and one with none in the island has all outside. Assumes the premises of an island (`Island`).
-use Rattle.std.specs.Prelude.{ℕ, ◌<◌, ◌≡◌, Bool, ◌&&◌, cond, get_or}
-use Rattle.std.proofs.Math.Path.{refl, sym, ap, ap₂, fun_ext}
-use Rattle.std.proofs.Common.{◌∙◌, true≢false}
-use Rattle.std.proofs.Math.Bool.{true, false, not, ◌||◌, and-true, and-false}
-use mathlib.Core.List.{List, [], ◌∷◌, ◌++◌, map, map-id}
-use Rattle.std.proofs.Math.Arith.{digits_lt}
-use Rattle.std.proofs.Math.Dec.{eqb, ltb}
-use borrow.Author.Tests.{ltb-true, lt-ltb, eqb-true}
-use Rattle.definitions.specs.Scan.{run, any, filter, concat_map, any_below_lem}
-use Rattle.definitions.specs.Grid.{Map, Position, Segment, Pair, pair_eq, no_segment, canonical, index, cell_count, cell_at, is_walkable, position_of, toward, walkable, is_step, directions, neighbors, onward, edge, span_count, span_of, boundary_of}
-use Rattle.definitions.specs.Spans.{cuts, candidate_positions, cut_steps}
-use Rattle.definitions.specs.Partition.{all_steps, cut_all_lem, uncut, roots}
-use Rattle.laws.specs.ListLaws.Lists.{All, done, more, all_split, all_map, all_both, any-gather, get_d_tab}
-use Rattle.laws.specs.OrderLaws.Ranks.{rank, any-rank}
-use Rattle.laws.specs.ListLaws.Scans.{picked, picked-length, picked_at, filter-gather, filter-swap}
+use Rattle.std.specs.Prelude.{ℕ, ◌<◌, ◌≡◌, Bool, ◌&&◌, cond}
+use Rattle.std.proofs.Math.Path.{sym, ap}
+use Rattle.std.proofs.Common.{◌∙◌}
+use Rattle.std.proofs.Math.Bool.{true, false, and-true, and-false}
+use mathlib.Core.List.{map}
+use Rattle.std.proofs.Math.Dec.{ltb}
+use borrow.Author.Tests.{ltb-true}
+use Rattle.definitions.specs.Scan.{run}
+use Rattle.definitions.specs.Grid.{Map, cell_count, cell_at, is_walkable, span_count, span_of, boundary_of}
+use Rattle.laws.specs.ListLaws.Lists.{get_d_tab}
+use Rattle.laws.specs.OrderLaws.Ranks.{rank}
+use Rattle.laws.specs.ListLaws.Scans.{picked, picked-length}
 use Rattle.laws.specs.ListLaws.Tests.{both}
-use Rattle.laws.specs.ListLaws.Members.{any-failed}
-use Rattle.laws.specs.RegionLaws.MergingInside.{Keeps, Agree, Sided, merging_inside}
-use Rattle.laws.specs.RegionLaws.Steps.{step_is, uncut-all, cut_all}
-use Rattle.island.specs.Premises.{cuts_island, cuts_remainder, has_anchor, Island}
-use Rattle.island.specs.Steps.{steps_in}
+use Rattle.island.specs.Premises.{cuts_island, has_anchor}
 
 module _ (M : Map) (isl : ℕ → Bool) where
   -- The same sides; every cell outside the island 0; the boundaries that cut the island, and their spans; the island cells with an anchor, each once, ascending.

@@ -1,20 +1,13 @@
 -- The premises of the theorem on two calls are met, with rows to compare: for each pass two calls on the two maps of crates/island/specs/Example.antt, the second with other lists to
 -- fill than the first. Their outputs hold other rows, under other numbers; those of the island are alike. Computed; assumes nothing.
-use Rattle.std.specs.Prelude.{ℕ, ◌≡◌, refl, Bool, List, [], ◌∷◌, replicate}
-use Rattle.std.proofs.Common.{sym, ap, ◌∙◌}
-use Rattle.definitions.specs.Scan.{member}
-use Rattle.definitions.specs.Rows.{Row, rows_from, rows_of}
+use Rattle.std.specs.Prelude.{ℕ, ◌≡◌, refl, Bool, List, replicate}
+use Rattle.definitions.specs.Rows.{Row}
 use Rattle.definitions.specs.Verdict.{Lent, map_in, verdict}
 use Rattle.definitions.specs.AtExit.{call_exit}
-use Rattle.definitions.specs.CaseJ.{row}
 use Rattle.definitions.specs.Cases.{region_of_counts}
-use Rattle.island.specs.Premises.{cuts_island, rank_of, Alike, island_only}
-use Rattle.island.specs.Example as maps
-use Rattle.island.proofs.Example as met_maps
+use Rattle.island.specs.Premises.{Alike, island_only}
 use Rattle.call_partition.specs.Contract.{Ran}
 use Rattle.island_calls.specs.Outputs.{rows_held}
-use Rattle.island_calls.specs.RowsAtExit.{rows_held_lem}
-use Rattle.island_calls.specs.Theorem.{island_outputs}
 
 -- all that was lent, as it is at exit of a call that met the contract
 abbrev pub exit : Lent → Lent

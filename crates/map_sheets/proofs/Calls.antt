@@ -1,7 +1,7 @@
 -- Request 12 over calls. What is assumed, whole: a call of the writer, or of the converter, met its contract (`Writes`, `Converts`) and answered 0; the writer's lists hold
 -- numbers of 64 bits and bytes, as their element types have it. Then the bytes that it wrote read as the map that the writer was given, or as the sheet that was converted,
 -- for any limit of cells.
-use Rattle.std.specs.Prelude.{ℕ, ◌*◌, ◌/◌, ◌%◌, ◌^◌, ◌<◌, ◌≤◌, ◌≡◌, refl, Bool, true, false, not, ◌&&◌, cond, List, [], ◌∷◌, leb, eqb, length, take, drop, Option, None, Some}
+use Rattle.std.specs.Prelude.{ℕ, ◌*◌, ◌/◌, ◌%◌, ◌^◌, ◌<◌, ◌≤◌, ◌≡◌, refl, Bool, true, false, ◌&&◌, cond, List, [], ◌∷◌, leb, eqb, length, take, drop, Option, None, Some}
 use Rattle.std.proofs.Common.{arith, sym, ap, ◌∙◌, leb-true, eqb-true, le-leb, mul-le-mul}
 use Rattle.std.proofs.Math.Seq.{take-append_seam}
 use Rattle.definitions.specs.Limits.{is_side, max_entries, numbers_per_boundary, numbers_per_anchor}

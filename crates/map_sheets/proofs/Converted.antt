@@ -1,6 +1,6 @@
 -- "Old kind 1 sheets with equal lists convert to kind 3 and give equal rows" (document 02, request 12), over the definitions: the conversion states the same pass, sides
 -- and lists, for any limit of cells, so that every answer to it is the same. Assumes nothing.
-use Rattle.std.specs.Prelude.{ℕ, zero, suc, ◌*◌, ◌^◌, ◌<◌, ◌≤◌, ◌≡◌, refl, true, false, ◌&&◌, List, [], ◌∷◌, leb, eqb, length}
+use Rattle.std.specs.Prelude.{ℕ, zero, suc, ◌*◌, ◌^◌, ◌<◌, ◌≤◌, ◌≡◌, refl, true, ◌&&◌, List, [], ◌∷◌, leb, eqb, length}
 use Rattle.std.proofs.Common.{arith, ap, subst, ◌∙◌, leb-true, eqb-true}
 use Rattle.std.proofs.lemmas.Bool.{false≢true}
 use Rattle.definitions.specs.Limits.{is_side, max_entries, numbers_per_boundary, numbers_per_anchor}

@@ -1,6 +1,6 @@
 -- What the request says of the ranked list, over any call that met its contract and answered 0: the list holds exactly the proposals that reach the ranking, in rank
 -- order; the taken ones keep apart, and pass 3 removes just theirs; a refused one names the earliest taken one that conflicts with it. Assumes nothing.
-use Rattle.std.specs.Prelude.{ℕ, zero, suc, ◌+◌, ◌<◌, ◌≡◌, Bool, ◌&&◌, length, get_or, drop, eqb, Option, None, Some}
+use Rattle.std.specs.Prelude.{ℕ, zero, suc, ◌<◌, ◌≡◌, Bool, ◌&&◌, length, get_or, drop, eqb, Option, None, Some}
 use Rattle.std.proofs.Common.{arith, sym, ◌∙◌}
 use Rattle.std.proofs.Math.Path.{refl, ap, subst}
 use Rattle.std.proofs.Math.Bool.{true, false, cond}

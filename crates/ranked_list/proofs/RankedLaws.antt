@@ -1,6 +1,6 @@
 -- What request 11 says of the ranked list, proved of its definition: the taken ones are the selection of pass 3; of two taken ones neither conflicts with the other;
 -- a refused one names an earlier taken one that conflicts with it, and none before that does. Assumes nothing.
-use Prim.Native.Nat.{ℕ, zero, suc, ◌+◌, ◌<◌}
+use Prim.Native.Nat.{ℕ, zero, suc, ◌<◌}
 use Rattle.std.proofs.Common.{arith, sym, ◌∙◌, get_or-take}
 use Rattle.std.specs.Prelude.{◌≡◌, Bool, not, ◌&&◌, ◌||◌, length, get_or, take}
 use Rattle.std.proofs.Math.Path.{refl, ap, subst}

@@ -1,5 +1,5 @@
 -- The ranked junction list, computed: who is taken and who is named, and the one proposal of case J. Assumes nothing.
-use Rattle.std.specs.Prelude.{ℕ, ◌≡◌, refl, Bool, true, false, ◌||◌, List, [], ◌∷◌, eqb}
+use Rattle.std.specs.Prelude.{ℕ, ◌≡◌, refl, Bool, true, false, ◌||◌, [], ◌∷◌, eqb}
 use Rattle.definitions.specs.CaseJ.{map_j}
 use Rattle.ranked_list.specs.RankedList.{Listed, judged_after, ranked_of, flat_ranked}
 

@@ -1,6 +1,6 @@
 -- Counts by label: what passes a test and has a label from 1 to r is, label by label, what passes it and has that label. By induction on r: the cells of label r + 1 are those up
 -- to r + 1 that are not up to r. Assumes nothing.
-use Rattle.std.specs.Prelude.{ℕ, zero, suc, ◌+◌, ◌<◌, ◌≡◌, refl, Bool, true, false, ◌&&◌, eqb, leb}
+use Rattle.std.specs.Prelude.{ℕ, zero, suc, ◌+◌, ◌≡◌, refl, Bool, true, false, ◌&&◌, eqb, leb}
 use Rattle.std.proofs.Common.{arith, sym, ap, ap₂, ◌∙◌, le-leb, leb-true, leb-false, eqb-true, ne_eqb}
 use Rattle.std.proofs.lemmas.Bool.{false≢true, lt-leb, eqb-false}
 use Rattle.std.proofs.Math.Arith.{lt_of_le-ne}

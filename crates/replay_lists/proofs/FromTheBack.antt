@@ -1,5 +1,5 @@
 -- What a search over the numbers below n finds that begins at the last of them. Assumes nothing.
-use Rattle.std.proofs.Common.{ℕ, arith, ◌+◌, ◌-◌, ◌<◌, ◌≡◌, ◌∙◌, ap, sym, subst, Bool, true, false}
+use Rattle.std.proofs.Common.{ℕ, arith, ◌+◌, ◌-◌, ◌<◌, ◌≡◌, ◌∙◌, ap, subst, Bool, true, false}
 use Rattle.std.specs.Prelude.{Option, None, Some, MatchOption, IsSomeAnd, IfSome, ◌≤◌}
 use Rattle.std.specs.Bool.{IsTrue}
 use Rattle.std.specs.Fn.{CalledAt}

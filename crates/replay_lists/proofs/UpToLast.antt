@@ -1,5 +1,5 @@
 -- How many entries have changed, from the last that has. Assumes nothing.
-use Rattle.std.proofs.Common.{ℕ, arith, subst, ap, ◌+◌, ◌<◌, ◌≡◌, List, length, true, false}
+use Rattle.std.proofs.Common.{ℕ, arith, subst, ◌+◌, ◌<◌, ◌≡◌, List, length, true, false}
 use Rattle.std.specs.Prelude.{Option, None, Some, MatchOption}
 use Rattle.replay_lists.specs.Contract.{IsOther, Changed}
 

@@ -1,14 +1,10 @@
 -- The premises of the island of a run to rest are met by maps that differ and that need different numbers of rounds, computed. Assumes nothing.
-use Rattle.std.specs.Prelude.{ℕ, ◌≡◌, refl, Bool, [], ◌∷◌, ◌++◌, leb}
+use Rattle.std.specs.Prelude.{◌≡◌, [], ◌∷◌}
 use Rattle.std.proofs.Common.{sym, ◌∙◌}
-use Rattle.definitions.specs.Scan.{filter}
-use Rattle.definitions.specs.Verdict.{Lent, map_in}
+use Rattle.definitions.specs.Verdict.{map_in}
 use Rattle.definitions.specs.CaseJ.{row}
-use Rattle.island.specs.Premises.{cuts_island, rank_of, Alike, island_only}
-use Rattle.island.specs.Decide.{is_alike}
-use Rattle.island.proofs.Decide.{alike}
-use Rattle.rest_definitions.specs.Rest.{rounds_of, rest_rows}
-use Rattle.rest_definitions.specs.RestExamples.{plain, ramp, input_of}
+use Rattle.island.specs.Premises.{island_only}
+use Rattle.rest_definitions.specs.Rest.{rest_rows}
 use Rattle.rest.proofs.LentIsland.{rest-island-lent}
 use Rattle.rest.specs.Example.{longer, shorter, behind_five, premises-hold, longer-island}
 

@@ -1,29 +1,22 @@
 -- One pass after another over the kept boundaries of two maps that are alike on an island: the kept boundaries that cut the island have the same ranks among
 -- the starting ones in both, before each pass and after it. The kept boundaries of both maps meet the premises again (`kept-alike`), so that both restrict to
 -- one map, and what the pass keeps of the island is what it keeps there. Assumes `Alike` of the starting maps.
-use Prim.Native.Nat.{ℕ, zero, suc, ◌<◌}
-use Rattle.std.specs.Prelude.{◌≡◌, refl, true, length, Option, Some}
+use Prim.Native.Nat.{ℕ, zero, suc}
+use Rattle.std.specs.Prelude.{length, Some}
 use Rattle.std.proofs.Math.Path.{sym, ap, ap₂}
 use Rattle.std.proofs.Common.{◌∙◌}
 use Rattle.std.proofs.Math.Bool.{Bool, not}
-use mathlib.Core.List.{List, map}
+use mathlib.Core.List.{List}
 use Rattle.std.proofs.Math.ListN.{get_or}
-use Rattle.definitions.specs.Scan.{filter, collect, only_if, member, run, count_below}
-use Rattle.definitions.specs.Grid.{Map, no_boundary, cell_count, span_count, boundary_of}
+use Rattle.definitions.specs.Scan.{collect, only_if, member, run}
+use Rattle.definitions.specs.Grid.{Map, span_count}
 use Rattle.definitions.specs.Context.{context_of}
-use Rattle.definitions.specs.Rows.{removed_by, removed_of, is_kept}
-use Rattle.laws.specs.ListLaws.Lists.{All}
-use Rattle.laws.specs.ListLaws.Scans.{picked, picked-length, picked_at, picked-map, collect_ext}
-use Rattle.laws.specs.ListLaws.Options.{on_only, only_map, option_in, option_out}
-use Rattle.laws.specs.OrderLaws.Ranks.{rank, collect-rank}
-use Rattle.island.specs.Premises.{cuts_island, has_anchor, cutting, rank_of, Island, Alike}
-use Rattle.island.specs.Restrict.{restrict, cuts_lt}
+use Rattle.definitions.specs.Rows.{removed_by}
+use Rattle.island.specs.Premises.{Alike}
 use Rattle.island.proofs.Same.{restrict_same}
-use Rattle.island.proofs.Theorem.{kept_restricted}
 use Rattle.rest_definitions.specs.Rest.{kept_map, passed, round}
 use Rattle.rest.specs.Rounds.{iterate}
-use Rattle.rest.specs.Picking.{filter-picked, picked_same, picked_all, ranks-all, all_below_lem}
-use Rattle.rest.specs.KeptMaps.{kept-boundary, kept-count, kept-cuts, kept_lt, kept-island}
+use Rattle.rest.specs.Picking.{all_below_lem}
 use Rattle.rest.specs.IslandPasses.{cutting-length, ranks-start, passed-within, passed-ranks, Together, kept-alike}
 
 module _ (N N' : Map) (isl : ℕ → Bool) (A : Alike N N' isl) where

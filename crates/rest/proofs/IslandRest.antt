@@ -8,7 +8,7 @@ use Rattle.std.proofs.Math.Path.{sym, ap₂}
 use Rattle.std.proofs.Math.Bool.{true}
 use mathlib.Core.List.{List, [], ◌∷◌, map, map-map}
 use Rattle.definitions.specs.Scan.{any, filter, member, run}
-use Rattle.definitions.specs.Grid.{Map, no_boundary, span_count, boundary_of}
+use Rattle.definitions.specs.Grid.{Map, no_boundary, span_count}
 use Rattle.definitions.specs.Rows.{Row}
 use Rattle.laws.specs.ListLaws.Lists.{all_map, filter-ren}
 use Rattle.laws.specs.ListLaws.Members.{filter_passes}

@@ -1,26 +1,22 @@
 -- Which boundaries of the island have a printed row: one exactly when its counterpart has. With the premises of the starting maps, counterparts have the same
 -- rank in row order (`rest-kept`); with those of the maps as lent, the same rank in the lists as lent (`rest-kept-lent`). Assumes `Alike`.
-use Rattle.std.specs.Prelude.{ℕ, ◌<◌, ◌≡◌, refl, Bool, true, false, ◌||◌, cond, List, [], ◌∷◌, length}
-use Rattle.std.proofs.Common.{arith, ap, ◌∙◌, true≢false, eqb-true, eq-eqb, ne_eqb}
+use Rattle.std.specs.Prelude.{ℕ, ◌≡◌, refl, Bool, true, false, ◌||◌, cond, List, [], ◌∷◌}
+use Rattle.std.proofs.Common.{arith, ap, ◌∙◌, true≢false, eqb-true}
 use Rattle.std.proofs.Math.Path.{sym}
-use Rattle.std.proofs.Math.ListN.{get_or}
 use Rattle.std.proofs.Math.Dec.{eqb}
-use Rattle.std.proofs.lemmas.Bool.{eqb-false}
-use Rattle.definitions.specs.Scan.{any, filter, member}
+use Rattle.definitions.specs.Scan.{any, filter}
 use Rattle.definitions.specs.Grid.{Map}
 use Rattle.definitions.specs.Rows.{Row}
-use Rattle.laws.specs.ListLaws.Lists.{All, all_map, any-ren}
+use Rattle.laws.specs.ListLaws.Lists.{any-ren}
 use Rattle.laws.specs.ListLaws.Members.{filter_passes}
 use Rattle.laws.specs.OrderLaws.Ranks.{rank-eqb}
 use Rattle.island.specs.Premises.{cuts_island, rank_of, Alike, ranked, island_only}
 use Rattle.island.specs.Restrict.{cuts_lt}
-use Rattle.rest_definitions.specs.RowOrder.{start_rows, no_row, start_map}
-use Rattle.rest_definitions.specs.Rest.{rested, rest_rows}
-use Rattle.rest.specs.StartMaps.{start-boundaries, start-count}
-use Rattle.rest.specs.Runs.{rested-reached, reached-ascends}
+use Rattle.rest_definitions.specs.RowOrder.{start_map}
+use Rattle.rest_definitions.specs.Rest.{rest_rows}
+use Rattle.rest.specs.StartMaps.{start-count}
 use Rattle.rest.proofs.IslandRest.{final-kept}
 use Rattle.rest.proofs.LentIsland.{rest-island-lent}
-use Rattle.rest.specs.PrintedIsland.{numbers-once}
 use Rattle.rest.specs.KeptAlike.{has_row, number_at, place_kept}
 
 -- with the premises of the starting maps, taken in row order with canonical endpoints

@@ -1,36 +1,21 @@
 -- The contract of the call that runs to rest (`RestRan`), and what follows of calls that met it. Of one: its output holds the printed rows
 -- (`rest_rows-held`), and its rounds are those of the request, at most 257 (`rest-rounds`). Of two: the island's rows are alike (`rest-island_calls`,
 -- `rest-island-lent_calls`). Nothing is assumed of the lists that the calls fill.
-use Rattle.std.specs.Prelude.{ℕ, ◌%◌, ◌/◌, ◌≤◌, ◌≡◌, Bool, true, ◌&&◌, List, ◌++◌, map, eqb, leb}
-use Rattle.std.proofs.Common.{arith, sym, ◌∙◌, leb-true}
-use Rattle.std.proofs.Math.Path.{ap, subst}
-use Rattle.std.proofs.Math.ListN.{length, drop}
-use Rattle.definitions.specs.Limits.{numbers_per_span, numbers_per_boundary, numbers_per_anchor}
-use Rattle.definitions.specs.Scan.{run}
+use Rattle.std.specs.Prelude.{ℕ, ◌≡◌, Bool, List}
+use Rattle.std.proofs.Common.{sym}
+use Rattle.std.proofs.Math.Path.{subst}
 use Rattle.definitions.specs.Grid.{Map}
 use Rattle.definitions.specs.RegionRecord.{Region}
-use Rattle.definitions.specs.Rows.{Row, flat_rows}
-use Rattle.definitions.specs.Refusals.{is_whole}
+use Rattle.definitions.specs.Rows.{Row}
 use Rattle.definitions.specs.Verdict.{Lent, map_in}
-use Rattle.definitions.specs.AtExit.{stage_of}
-use Rattle.laws.specs.ListLaws.FlatRows.{rows_in_lem, rows_of-flat}
-use Rattle.laws.specs.ListLaws.Tests.{both}
-use Rattle.laws.specs.TableLaws.KeptRows.{boundary_count_lem}
-use Rattle.island.specs.Premises.{cuts_island, rank_of, Alike, island_only}
+use Rattle.laws.specs.ListLaws.FlatRows.{rows_in_lem}
+use Rattle.island.specs.Premises.{Alike}
 use Rattle.rest_definitions.specs.RowOrder.{start_map}
-use Rattle.rest_definitions.specs.Rest.{rested, rest_rows, rounds_of}
-use Rattle.rest_definitions.specs.RestVerdict.{RestAnswer, rest_verdict}
-use Rattle.rest_definitions.specs.RestExit.{rest_exit}
-use Rattle.rest.specs.Rounds.{Rests, rested-rests, rounds_257}
-use Rattle.rest.specs.StartMaps.{start-boundaries}
-use Rattle.rest.specs.Runs.{numbered, printed}
-use Rattle.rest.specs.IslandRest.{final_rows}
+use Rattle.rest_definitions.specs.Rest.{rest_rows}
+use Rattle.rest_definitions.specs.RestVerdict.{RestAnswer}
 use Rattle.rest.proofs.LentIsland.{rest-island-lent}
-use Rattle.rest.specs.PrintedIsland.{printed_island}
 use Rattle.rest.proofs.PrintedIsland.{rest-island-printed}
-use Rattle.rest.specs.KeptAlike.{has_row, number_at}
 use Rattle.rest.proofs.KeptAlike.{rest-kept, rest-kept-lent}
-use Rattle.rest.specs.AcceptedRuns.{rest-accepted, accepted-answer}
 use Rattle.rest.specs.RestCalls.{RestRan, rest_rows-held, SameAtRest, SameAsLent}
 
 module _

@@ -1,6 +1,5 @@
 -- The premises of the island of a run to rest are met by maps that differ and that need different numbers of rounds, computed. Assumes nothing.
 use Rattle.std.specs.Prelude.{ℕ, ◌≡◌, refl, Bool, [], ◌∷◌, ◌++◌, leb}
-use Rattle.std.proofs.Common.{sym, ◌∙◌}
 use Rattle.definitions.specs.Scan.{filter}
 use Rattle.definitions.specs.Verdict.{Lent, map_in}
 use Rattle.definitions.specs.CaseJ.{row}

@@ -1,7 +1,7 @@
 -- One pass after another over the kept boundaries of two maps that are alike on an island: the kept boundaries that cut the island have the same ranks among
 -- the starting ones in both, before each pass and after it. The kept boundaries of both maps meet the premises again (`kept-alike`), so that both restrict to
 -- one map, and what the pass keeps of the island is what it keeps there. Assumes `Alike` of the starting maps.
-use Prim.Native.Nat.{ℕ, zero, suc, ◌<◌}
+use Prim.Native.Nat.{ℕ, ◌<◌}
 use Rattle.std.specs.Prelude.{◌≡◌, refl, true, length, Option, Some}
 use Rattle.std.proofs.Math.Path.{sym, ap, ap₂}
 use Rattle.std.proofs.Common.{◌∙◌}
@@ -18,11 +18,9 @@ use Rattle.laws.specs.ListLaws.Options.{on_only, only_map, option_in, option_out
 use Rattle.laws.specs.OrderLaws.Ranks.{rank, collect-rank}
 use Rattle.island.specs.Premises.{cuts_island, has_anchor, cutting, rank_of, Island, Alike}
 use Rattle.island.specs.Restrict.{restrict, cuts_lt}
-use Rattle.island.proofs.Same.{restrict_same}
 use Rattle.island.proofs.Theorem.{kept_restricted}
-use Rattle.rest_definitions.specs.Rest.{kept_map, passed, round}
-use Rattle.rest.specs.Rounds.{iterate}
-use Rattle.rest.specs.Picking.{filter-picked, picked_same, picked_all, ranks-all, all_below_lem}
+use Rattle.rest_definitions.specs.Rest.{kept_map, passed}
+use Rattle.rest.specs.Picking.{filter-picked, picked_same, picked_all, ranks-all}
 use Rattle.rest.specs.KeptMaps.{kept-boundary, kept-count, kept-cuts, kept_lt, kept-island}
 
 -- the ranks of those of these places that cut the island, among all that do

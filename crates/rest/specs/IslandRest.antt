@@ -2,24 +2,11 @@
 -- demand 3, and in the same order, under the mission's premises for the starting map, taken in row order with canonical endpoints". The two runs may need
 -- different numbers of rounds; rounds beyond the last change nothing, so that both are what a number of rounds that is enough for both leaves
 -- (`rested-iterate`), and after equally many passes what is kept of the island is the same (`IslandPasses`). Assumes `Alike` of the starting maps.
-use Rattle.std.specs.Prelude.{ℕ, ◌+◌, ◌≤◌, ◌≡◌, refl, Bool, false, ◌||◌, cond, get_or, eqb}
-use Rattle.std.proofs.Common.{arith, ap, subst, ◌∙◌, true≢false, eqb-true}
-use Rattle.std.proofs.Math.Path.{sym, ap₂}
-use Rattle.std.proofs.Math.Bool.{true}
-use mathlib.Core.List.{List, [], ◌∷◌, map, map-map}
-use Rattle.definitions.specs.Scan.{any, filter, member, run}
-use Rattle.definitions.specs.Grid.{Map, no_boundary, span_count, boundary_of}
+use Rattle.std.specs.Prelude.{ℕ}
+use mathlib.Core.List.{List, map}
+use Rattle.definitions.specs.Grid.{Map, boundary_of}
 use Rattle.definitions.specs.Rows.{Row}
-use Rattle.laws.specs.ListLaws.Lists.{all_map, filter-ren}
-use Rattle.laws.specs.ListLaws.Members.{filter_passes}
-use Rattle.laws.specs.ListLaws.NumberLists.{member-ren}
-use Rattle.laws.specs.ListLaws.Scans.{all_every, map_ext}
-use Rattle.laws.specs.OrderLaws.Ranks.{rank-eqb}
-use Rattle.island.specs.Premises.{cuts_island, cutting, rank_of, Island, Alike, ranked, island_only}
-use Rattle.rest_definitions.specs.RowOrder.{start_map}
 use Rattle.rest_definitions.specs.Rest.{rested}
-use Rattle.rest.specs.Rounds.{iterate, rested-iterate}
-use Rattle.rest.specs.IslandPasses.{ranks, cutting_at, Together}
 
 -- the row at a place of a map in row order: the place for its number, and its endpoints, which are canonical
 abbrev pub row_at : Map → ℕ → Row

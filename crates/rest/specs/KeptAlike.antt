@@ -1,22 +1,18 @@
 -- Which boundaries of the island have a printed row: one exactly when its counterpart has. With the premises of the starting maps, counterparts have the same
 -- rank in row order (`rest-kept`); with those of the maps as lent, the same rank in the lists as lent (`rest-kept-lent`). Assumes `Alike`.
-use Rattle.std.specs.Prelude.{ℕ, ◌<◌, ◌≡◌, refl, Bool, true, false, ◌||◌, cond, List, [], ◌∷◌, length}
-use Rattle.std.proofs.Common.{arith, ap, ◌∙◌, true≢false, eqb-true, eq-eqb, ne_eqb}
+use Rattle.std.specs.Prelude.{ℕ, ◌<◌, ◌≡◌, refl, Bool, true, false, List, length}
+use Rattle.std.proofs.Common.{arith, ap, eqb-true, eq-eqb, ne_eqb}
 use Rattle.std.proofs.Math.Path.{sym}
 use Rattle.std.proofs.Math.ListN.{get_or}
 use Rattle.std.proofs.Math.Dec.{eqb}
 use Rattle.std.proofs.lemmas.Bool.{eqb-false}
-use Rattle.definitions.specs.Scan.{any, filter, member}
+use Rattle.definitions.specs.Scan.{any, member}
 use Rattle.definitions.specs.Grid.{Map}
 use Rattle.definitions.specs.Rows.{Row}
-use Rattle.laws.specs.ListLaws.Lists.{All, all_map, any-ren}
-use Rattle.laws.specs.ListLaws.Members.{filter_passes}
-use Rattle.laws.specs.OrderLaws.Ranks.{rank-eqb}
-use Rattle.island.specs.Premises.{cuts_island, rank_of, Alike, ranked, island_only}
-use Rattle.island.specs.Restrict.{cuts_lt}
+use Rattle.laws.specs.ListLaws.Lists.{all_map, any-ren}
 use Rattle.rest_definitions.specs.RowOrder.{start_rows, no_row, start_map}
 use Rattle.rest_definitions.specs.Rest.{rested, rest_rows}
-use Rattle.rest.specs.StartMaps.{start-boundaries, start-count}
+use Rattle.rest.specs.StartMaps.{start-boundaries}
 use Rattle.rest.specs.Runs.{rested-reached, reached-ascends}
 use Rattle.rest.specs.PrintedIsland.{numbers-once}
 

@@ -23,7 +23,7 @@ use Rattle.laws.specs.ListLaws.SortedMembers.{length-sort}
 use Rattle.laws.specs.OrderLaws.StableSort.{filter-sort}
 use Rattle.laws.specs.OrderLaws.ListOrder.{Three, less, same, over, three, by_key}
 use Rattle.laws.specs.OrderLaws.Ranks.{rank_lt}
-use Rattle.island.specs.Premises.{cuts_island, rank_of, Alike, ranked, island_only}
+use Rattle.island.specs.Premises.{cuts_island, rank_of, ranked, island_only}
 use Rattle.rest_definitions.specs.RowOrder.{start_rows, no_row, turned, start_map}
 use Rattle.rest_definitions.specs.Rest.{rested, rest_rows}
 use Rattle.rest.specs.Picking.{filter-picked, first_none}

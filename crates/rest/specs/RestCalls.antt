@@ -16,7 +16,7 @@ use Rattle.definitions.specs.AtExit.{stage_of}
 use Rattle.laws.specs.ListLaws.FlatRows.{rows_in_lem, rows_of-flat}
 use Rattle.laws.specs.ListLaws.Tests.{both}
 use Rattle.laws.specs.TableLaws.KeptRows.{boundary_count_lem}
-use Rattle.island.specs.Premises.{cuts_island, rank_of, Alike, island_only}
+use Rattle.island.specs.Premises.{cuts_island, rank_of, island_only}
 use Rattle.rest_definitions.specs.RowOrder.{start_map}
 use Rattle.rest_definitions.specs.Rest.{rested, rest_rows, rounds_of}
 use Rattle.rest_definitions.specs.RestVerdict.{RestAnswer, rest_verdict}

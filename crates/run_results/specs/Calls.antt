@@ -1,32 +1,21 @@
 -- What a call that runs a pass left can always be stored. What is assumed, whole: the call met its contract (`Ran`, which every call meets for every input) and answered 0.
 -- Then what it left, over the cells, the spans, the pairs found and the rows kept, is the run's result, so that it keeps the rules; and a call of the writer that
 -- is lent it whole answers with its bytes, or 10 where they do not fit, and nothing else.
-use Rattle.std.specs.Prelude.{ℕ, ◌*◌, ◌≤◌, ◌≡◌, refl, Bool, true, List, [], ◌∷◌, leb, length, drop, Option, None}
-use Rattle.std.proofs.Common.{arith, ◌∙◌, le-leb}
+use Rattle.std.specs.Prelude.{ℕ, ◌*◌, ◌≡◌, refl, Bool, true, List, [], ◌∷◌, leb, length, drop, Option, None}
+use Rattle.std.proofs.Common.{◌∙◌}
 use Rattle.std.proofs.Math.Path.{sym, ap}
 use Rattle.std.proofs.Math.ListN.{take}
 use Rattle.std.proofs.Math.Seq.{take-append_seam}
 use Rattle.definitions.specs.Limits.{tallies_per_span, numbers_per_row}
 use Rattle.definitions.specs.Lists.{overwrite}
 use Rattle.definitions.specs.Grid.{cell_count, span_count}
-use Rattle.definitions.specs.Partition.{labels, region_count}
-use Rattle.definitions.specs.RegionRecord.{Region}
+use Rattle.definitions.specs.Partition.{region_count}
 use Rattle.definitions.specs.Context.{context_of}
-use Rattle.definitions.specs.Rows.{rows_of, flat_rows}
 use Rattle.definitions.specs.Refusals.{unless}
 use Rattle.definitions.specs.Verdict.{Lent, Answer, map_in, refusal, first_refusal, pair_rows_of}
-use Rattle.definitions.specs.AtExit.{tallies_of, call_exit, exit_with, stage_of}
-use Rattle.laws.specs.ListLaws.Lists.{All}
-use Rattle.laws.specs.ListLaws.FlatRows.{flat-length}
-use Rattle.laws.specs.TableLaws.AcceptedCalls.{accepted-count}
-use Rattle.laws.specs.RegionLaws.Regions.{labels_length}
-use Rattle.laws.specs.RegionLaws.Tallies.{tallies-length}
-use Rattle.call_partition.specs.Contract.{Ran}
 use Rattle.results.specs.Result.{Result, rules_fault}
-use Rattle.results.specs.ResultAnswers.{well_formed, read_result, result_bytes, placed, is_finished, write_verdict, written_at_exit, Writes}
-use Rattle.results.proofs.Calls.{InMemory, written-call}
-use Rattle.run_results.specs.Held.{greatest, pairs_held, regions-greatest, pairs_held_lem}
-use Rattle.run_results.specs.RunResult.{run_result, run-keeps_rules, run-finished}
+use Rattle.results.specs.ResultAnswers.{result_bytes, placed, is_finished, write_verdict}
+use Rattle.run_results.specs.Held.{greatest, pairs_held}
 
 -- the rows that an output holds: of five numbers each, as many as the answer counts
 abbrev pub rows_left_lem : Answer → List ℕ → List ℕ

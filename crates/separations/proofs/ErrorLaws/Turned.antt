@@ -1,7 +1,7 @@
 -- A separation does not depend on which of the two boundaries comes first (`separation-turned`): it is 0.0 for both orders, or the least of the same four
 -- doubles, and the least of doubles whose signs are clear has the least of their bits, in whatever order they are compared. Assumes coordinates up to 8,192.
 use Rattle.std.specs.Prelude.{◌≡◌, refl, Bool, true, false, cond, ℕ, min, ◌≤◌, ◌<◌, T, ltb, Float}
-use Rattle.std.proofs.Common.{sym, ap, ◌∙◌, subst, le_of_lt, arith, ltb-true, ltb-false}
+use Rattle.std.proofs.Common.{sym, ap, ◌∙◌, subst, arith, ltb-true, ltb-false}
 use Rattle.std.proofs.lemmas.Bool.{false≢true}
 use Rattle.std.specs.Float.{binary64}
 use Rattle.std.specs.Float.Ieee.{fits, of_bits, to_bits, lt}

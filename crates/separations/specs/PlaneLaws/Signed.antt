@@ -5,7 +5,6 @@ use Rattle.std.proofs.Common.{sym, ap, ◌∙◌, subst, inl, inr, le_trans, le_
 use Rattle.definitions.specs.Grid.{Position, Segment}
 use Rattle.definitions.specs.Spans.{distance_between}
 use Rattle.laws.specs.NumberLaws.Comparisons.{le_or_lt}
-use Rattle.laws.specs.OrderLaws.ListOrder.{same}
 use Rattle.separations.specs.Distance.{Weights, total, along_x, along_y, squares, SharePoint}
 use Rattle.separations.specs.PlaneLaws.Sliding.{PointNear, Reached, meets, first_start, first_end, second_start, second_end, Slide, slide, apart_at}
 

@@ -1,7 +1,7 @@
 -- `sheet::spans_held` meets its contract: where the sheet holds no spans, an empty part stands for them. Assumes nothing.
 use mathlib.Core.Path.{sym, subst}
 use Rattle.definitions.specs.Sheet.{has_spans, spans_held}
-use Rattle.sheet.specs.Parts.{kind_number, PartHeld, PartTold}
+use Rattle.sheet.specs.Parts.{kind_number, PartHeld}
 use Rattle.sheet.proofs.PartsFound.{spans_none}
 use Rattle.sheet.proofs.spans_held.Goals as goal
 
