@@ -150,7 +150,8 @@ fn assess_span(
 }
 
 // Assesses every span by the labels of the partition and the masks of cut steps: two tallies a span, and the rows of pairs as far as there is room. Gives how
-// many rows there are, or none where they are more than the list has room for. Never put into its caller, as `mark_spans` of cut_steps.
+// many rows there are, or none where they are more than the list has room for. Never put into its caller, for the reason
+// that stands at `mark_spans` of cut_steps.
 #[inline(never)]
 pub fn assess_spans(
     grid: TerrainGrid,

@@ -6,7 +6,7 @@ use Rattle.definitions.specs.Geometry.{float, Point, distance}
 use Rattle.definitions.specs.RampMouths.{max_approach_radius}
 use Rattle.definitions.specs.Junctions.{within_distance}
 
-pub radius_is : of_bits binary64 0x4080000000000000 ≡ max_approach_radius
+radius_is : of_bits binary64 0x4080000000000000 ≡ max_approach_radius
 unfolding max_approach_radius float of_int of_bits
 radius_is = refl
 

@@ -92,7 +92,8 @@ pub trait StepVisitor {
     ghost laws: { VisitLaws ready visited };
 }
 
-// Visits the cut steps of one cell. Most cells have none.
+// Visits the cut steps of one cell. Most cells have none. The span is lent here and in the two functions that lead here, and not copied for each cell: maps of
+// short spans (`mouths` and `hub` of bench/) take up to 5 percent fewer instructions.
 fn walk_cell<V: StepVisitor>(walk: &SpanWalk, visitor: &mut V, cell: WalkPosition)
     requires asked { CellIn walk.now cell }
     requires is_ready { V.ready (walk_map walk.now) (cell_steps walk.now cell) 1 visitor.old }
@@ -120,8 +121,8 @@ fn walk_column<V: StepVisitor>(walk: &SpanWalk, visitor: &mut V, k: usize)
 }
 
 // The place two before `beyond`, where there is one and it is below the limit.
-// Kept: both tests, of which the compiler makes one, and not `beyond.checked_sub(2).filter(|&m| m < limit)`, with which the partition of `comb` (bench/) takes a
-// fifth more instructions.
+// Kept: both tests, of which the compiler makes one branch, and not `beyond.checked_sub(2).filter(|&m| m < limit)`, with which the partition of `comb`
+// (bench/) takes a fifth more instructions.
 fn place_before(beyond: usize, limit: usize) -> Option<usize>
     ensures { result ≡ cond (leb 2 beyond && ltb (beyond - 2) limit) (Some (beyond - 2)) None }
 {

@@ -1,4 +1,4 @@
-// The definitions, in specs/, that all contracts speak of, and the limits, which code reads too.
+// The definitions, in specs/, of which the contracts speak, and the limits, which code reads too.
 
 #![tactic(auto)]
 

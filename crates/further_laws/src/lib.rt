@@ -1,3 +1,3 @@
-// Laws of specs/ that no proof cites any more. There is no code.
+// Laws of lists and numbers, in specs/, that no proof cites since the code that used them is gone. There is no code.
 
 #![tactic(auto)]

@@ -1,3 +1,3 @@
-// The game on a map over the definitions: the kept graph, the lists at exit, and theorems of them. There is no code.
+// The game on a map over the definitions: the kept graph, the answer of the call and the lists at exit, and theorems on them. There is no code.
 
 #![tactic(auto)]

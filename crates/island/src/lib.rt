@@ -1,3 +1,3 @@
-// Demand 3 over the definitions: the islands of two maps and that what is kept on them is alike. There is no code.
+// That a pass keeps the same of an island in two maps that are alike on it, over the definitions. There is no code.
 
 #![tactic(auto)]

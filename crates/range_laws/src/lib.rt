@@ -1,3 +1,3 @@
-// What counts and chains over ranges and lists give, as scans of the definitions, in specs/. There is no code.
+// What counts and chains over ranges give, as scans of the definitions, in specs/. There is no code.
 
 #![tactic(auto)]

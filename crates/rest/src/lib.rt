@@ -1,3 +1,4 @@
-// Running the passes to rest over the definitions: that a run ends, and that islands are left alone at rest. There is no code.
+// Running the passes to rest over the definitions: that a run ends, after how many rounds at most, and that what it keeps of an island does not depend on the
+// rest of the map. There is no code.
 
 #![tactic(auto)]

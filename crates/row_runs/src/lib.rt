@@ -22,7 +22,7 @@ use numbering::number;
 use parents::alone;
 
 // Labels every region and returns how many there are. The queue is left with the stretches of each row, each of one label. The masks may be any: what is
-// promised is of the maps whose cut steps they hold. Never put into its caller, as `mark_spans` of cut_steps.
+// promised is of the maps whose cut steps they hold. Never put into its caller, for the reason that stands at `mark_spans` of cut_steps.
 #[inline(never)]
 pub fn label_cells(grid: TerrainGrid, masks: &[u16], labels: &mut [u32], queue: &mut [u32]) -> usize
     requires { Room grid.width grid.height grid.cells.now masks.now labels.old queue.old }

@@ -1,4 +1,4 @@
--- `topology::records::clear_records` meets its contract: of the records so many are empty, and those behind them are as they were. Assumes nothing.
+-- `topology::records::clear_records` meets its contract: the first `needed` records are empty, and those behind them are as they were. Assumes nothing.
 use Rattle.std.proofs.Common.{rules, ◌≡◌, length, take}
 use lib.ListN.{replicate}
 use Rattle.topology.proofs.Emptying.{emptied}
