@@ -2,47 +2,13 @@
 ghost use Rattle.std.specs.Prelude.{◌≡◌, ◌*◌, ◌≤◌, length};
 ghost use Rattle.definitions.specs.Limits.{numbers_per_pair};
 ghost use Rattle.game.specs.Graph.{graph_of, edges_in, verdicts_room, verdicts_at_exit};
-ghost use Rattle.game_lists.specs.Forms.{answer_in, game_answer_of, late_answer};
+ghost use Rattle.call_answers.specs.Game.{game_answer_of};
+ghost use Rattle.game_lists.specs.Forms.{late_answer};
 
+use call_answers::game::GameKept;
 use definitions::limits::NUMBERS_PER_PAIR;
 use game_solver::{check_graph, solve_rows};
 use refusals::Refusal;
-
-// How many rows are kept, and the regions of the kept graph.
-#[derive(Clone, Copy)]
-pub struct GameKept {
-    pub kept: usize,
-    pub regions: usize,
-}
-
-// As C is given it: number 0 with both, or a refusal's number and place, and 0.
-#[repr(C)]
-#[derive(Clone, Copy)]
-pub struct GameAnswer {
-    pub number: u64,
-    pub value: u64,
-    pub regions: u64,
-}
-
-// Kept: not the `Answer` of `refusals`, since C's struct of this call has a third number, how many regions the kept graph has.
-impl From<Result<GameKept, Refusal>> for GameAnswer {
-    ghost from_gives = { λ given answer. answer_in answer ≡ game_answer_of given };
-
-    fn from(given: Result<GameKept, Refusal>) -> GameAnswer {
-        match given {
-            Ok(game) => GameAnswer {
-                number: 0,
-                value: game.kept as u64,
-                regions: game.regions as u64,
-            },
-            Err(refusal) => GameAnswer {
-                number: refusal.cause.number(),
-                value: refusal.place as u64,
-                regions: 0,
-            },
-        }
-    }
-}
 
 // Plays on the graph of `count` rows of pairs.
 // Kept: `kept` is handed on so that one clause tells the call's whole answer; without it the caller would put the answer together, and prove it. The count is

@@ -1,6 +1,7 @@
 // What `topology` exports to C.
 
-ghost use Rattle.game_lists.specs.Forms.{answer_in as game_answer};
+ghost use Rattle.call_answers.specs.Game.{game_answer};
+ghost use Rattle.call_answers.specs.Rest.{rest_answer};
 ghost use Rattle.topology.specs.Games.{PlayedOver};
 ghost use Rattle.refusals.specs.Answers.{answer_in};
 ghost use Rattle.topology.specs.Contract.{RanOver};
@@ -8,20 +9,20 @@ ghost use Rattle.ranked_finish.specs.Ends.{ranked_form};
 ghost use Rattle.topology.specs.Ranked.{RankedOver};
 ghost use Rattle.report_figures.specs.Forms.{report_form};
 ghost use Rattle.topology.specs.Reports.{ReportedOver};
-ghost use Rattle.topology.specs.Rest.{rest_answer, RestRanOver};
+ghost use Rattle.topology.specs.Rest.{RestRanOver};
 ghost use Rattle.topology.specs.Desks.{desk_of, RanBothOver};
 ghost use Rattle.jenwyllt_c.specs.Lending.{lends, leaves};
 
 use areas::lists::PartitionLists;
+use call_answers::desks::DesksAnswer;
+use call_answers::game::GameAnswer;
+use call_answers::rest::RestAnswer;
 use call_partition::asked::Asked;
 use context::Region;
 use desk_checks::own::Desk;
-use game_lists::play::GameAnswer;
 use ranked_finish::RankedAnswer;
 use refusals::answers::Answer;
 use report_figures::{Report, Reported};
-use topology::to_rest::RestAnswer;
-use topology::two_desks::DesksAnswer;
 
 // A pass, the partition by what it keeps, and the game on the kept graph.
 // Kept: C lends its lists one by one, here and below. A function that put them into `Asked` and `PartitionLists` would be lent the same nine lists.

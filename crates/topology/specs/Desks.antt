@@ -1,6 +1,6 @@
 -- The contract of the call for two desks, over the lent records as they are declared, and the words of the contracts of its parts. Definitions only; assumes
 -- nothing.
-use Rattle.std.specs.Prelude.{ℕ, ◌*◌, ◌≡◌, cond, eqb, List, [], map, length, drop}
+use Rattle.std.specs.Prelude.{ℕ, ◌*◌, ◌≡◌, List, [], map, length, drop}
 use Rattle.definitions.specs.Grid.{map_of}
 use Rattle.definitions.specs.Lists.{zeroed}
 use Rattle.definitions.specs.Partition.{region_count}
@@ -10,14 +10,11 @@ use Rattle.call_partition.specs.Prepared.{ReadyAs}
 use Rattle.desks.specs.Desks.{Shared, Desk, shared_refusal, answer_from, Served, RanBoth}
 use Rattle.desk_checks.specs.Shared.{lent_both}
 use Rattle.topology.specs.Filled.{Filled}
-use Rattle.refusals.specs.Answers.{answer_in, answer_of}
+use Rattle.refusals.specs.Answers.{answer_in}
 use Rattle.definitions.specs.Verdict as verdict
 use Rattle.topology.specs.Contract.{written}
-use Rattle.topology.specs.declared.two_desks.DesksKept.{DesksKept}
-use Rattle.topology.specs.declared.two_desks.DesksAnswer.{DesksAnswer}
+use Rattle.call_answers.specs.declared.desks.DesksAnswer.{DesksAnswer}
 use Rattle.topology.specs.declared.two_desks.SharedTerrain.{SharedTerrain}
-use Rattle.topology.specs.declared.two_desks.DeskOrder.{DeskOrder}
-use Rattle.topology.specs.declared.two_desks.DeskOrder.TheVariants.{RouteFirst, CoachingFirst}
 use Rattle.desk_checks.specs.declared.own.Desk as lent
 
 abbrev pub desk_of : ℕ → List ℕ → List ℕ → List ℕ → Desk
@@ -26,18 +23,6 @@ desk_of pass boundaries anchors output = record { pass = pass; boundaries = boun
 -- the same of a desk as a function takes it, with its output
 abbrev pub desk_in : lent.Desk → List ℕ → Desk
 desk_in d output = desk_of d.pass d.boundaries.now d.anchors.now output
-
--- which desk goes first, as C tells it
-abbrev pub order_of : ℕ → DeskOrder
-order_of n = cond (eqb n 0) RouteFirst CoachingFirst
-
--- what C is given of both results
-abbrev pub desks_answer : DesksKept → DesksAnswer
-desks_answer r =
-    record {
-      route = record { number = (answer_of r.route).number; value = (answer_of r.route).value };
-      coaching = record { number = (answer_of r.coaching).number; value = (answer_of r.coaching).value };
-    }
 
 -- ---- what was lent before the partition: the cells, and the lists that both desks share
 

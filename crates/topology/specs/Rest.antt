@@ -1,6 +1,6 @@
 -- The contract of the call that runs the passes to rest, over the lent records as they are declared, and the words of its parts' contracts. Definitions only;
 -- assumes nothing.
-use Rattle.std.specs.Prelude.{ℕ, zero, suc, ◌≡◌, List, map, length, drop, replicate, Result, Ok, Err}
+use Rattle.std.specs.Prelude.{ℕ, zero, suc, ◌≡◌, List, map, length, drop, replicate}
 use Rattle.definitions.specs.Lists.{overwrite}
 use Rattle.definitions.specs.Partition.{region_count}
 use Rattle.definitions.specs.RegionRecord.{empty_region}
@@ -14,19 +14,8 @@ use Rattle.rest_definitions.specs.RestVerdict as def
 use Rattle.rest.specs.RestCalls.{RestRan}
 use Rattle.rest_lists.specs.declared.kept.Standing.{Standing}
 use Rattle.rest_lists.specs.Kept.{Origin, map_lent, kept_of, KeptLists}
-use Rattle.refusals.specs.declared.Refusal.{Refusal}
-use Rattle.refusals.specs.Refusals.{number_of}
-use Rattle.topology.specs.declared.to_rest.RestKept.{RestKept}
-use Rattle.topology.specs.declared.to_rest.RestAnswer.{RestAnswer}
+use Rattle.call_answers.specs.declared.rest.RestKept.{RestKept}
 use Rattle.topology.specs.Lent.{LentLists, LeftLists, lent_map, lent_call}
-
--- what C's answer says, and what a result does
-abbrev pub rest_answer : RestAnswer → def.RestAnswer
-rest_answer a = record { number = a.number; value = a.value; rounds = a.rounds }
-
-abbrev pub rest_answer_of : Result RestKept Refusal → def.RestAnswer
-rest_answer_of (Ok x) = record { number = 0; value = x.kept; rounds = x.rounds }
-rest_answer_of (Err r) = record { number = number_of r.cause; value = r.place; rounds = 0 }
 
 -- how many records a run that answers with this number writes, whose first partition has n regions
 abbrev pub rest_written : ℕ → ℕ → ℕ

@@ -1,6 +1,6 @@
 // The call that plays on the kept graph of a map: a pass, the partition by what it keeps, and the game.
 ghost use Rattle.checks.specs.Passes.{pass_number};
-ghost use Rattle.game_lists.specs.Forms.{game_answer_of};
+ghost use Rattle.call_answers.specs.Game.{game_answer_of};
 ghost use Rattle.areas.specs.Lists.{of_lists, SameLists};
 ghost use Rattle.call_partition.specs.Asking.{of_asked};
 ghost use Rattle.topology.specs.Lent.{lends, leaves};
@@ -9,6 +9,7 @@ ghost use Rattle.topology.specs.Games.{Begun, RunsKept, RanKept, PlayedOver};
 use crate::marks::mark_asked;
 use crate::records::{fill, renew};
 use areas::lists::PartitionLists;
+use call_answers::game::GameKept;
 use call_partition::Ready;
 use call_partition::asked::Asked;
 use checks::passes::Pass;
@@ -16,7 +17,7 @@ use context::Region;
 use definitions::limits::NUMBERS_PER_BOUNDARY;
 use game_lists::checked::prepare_game;
 use game_lists::kept::divide_kept;
-use game_lists::play::{GameKept, play};
+use game_lists::play::play;
 use pass_lists::finish;
 use refusals::Refusal;
 use rest_lists::kept::Standing;

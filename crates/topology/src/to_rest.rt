@@ -12,11 +12,13 @@ ghost use Rattle.rest_lists.specs.Kept.{Origin, map_lent, all_places};
 ghost use Rattle.areas.specs.Lists.{of_lists, SameLists};
 ghost use Rattle.call_partition.specs.Asking.{of_asked};
 ghost use Rattle.topology.specs.Lent.{lends, leaves};
-ghost use Rattle.topology.specs.Rest.{rest_answer, rest_answer_of, run-lists, RestRanOver, Stands, RanToRest};
+ghost use Rattle.call_answers.specs.Rest.{rest_answer_of};
+ghost use Rattle.topology.specs.Rest.{run-lists, RestRanOver, Stands, RanToRest};
 
 use crate::marks::mark_asked;
 use crate::records::{fill, renew};
 use areas::lists::PartitionLists;
+use call_answers::rest::RestKept;
 use call_partition::Ready;
 use call_partition::asked::Asked;
 use checks::passes::Pass;
@@ -27,42 +29,6 @@ use refusals::Refusal;
 use rest_lists::begin::begin_rest;
 use rest_lists::kept::{KeptLists, Standing, divide_again, finish_rest};
 use rest_lists::turns::first_turn;
-
-// How many rows are kept, and how many rounds were run.
-#[derive(Clone, Copy)]
-pub struct RestKept {
-    pub kept: usize,
-    pub rounds: u64,
-}
-
-// As C is given it: number 0 with both, or a refusal's number and place, and 0.
-#[repr(C)]
-#[derive(Clone, Copy)]
-pub struct RestAnswer {
-    pub number: u64,
-    pub value: u64,
-    pub rounds: u64,
-}
-
-// Kept: not the `Answer` of `refusals`, since C's struct of this call has a third number, how many rounds there were.
-impl From<Result<RestKept, Refusal>> for RestAnswer {
-    ghost from_gives = { λ given answer. rest_answer answer ≡ rest_answer_of given };
-
-    fn from(given: Result<RestKept, Refusal>) -> RestAnswer {
-        match given {
-            Ok(rest) => RestAnswer {
-                number: 0,
-                value: rest.kept as u64,
-                rounds: rest.rounds,
-            },
-            Err(refusal) => RestAnswer {
-                number: refusal.cause.number(),
-                value: refusal.place as u64,
-                rounds: 0,
-            },
-        }
-    }
-}
 
 // Marks which of the kept boundaries the pass removes. The lists are the partition of what is kept.
 fn mark_kept<'x>(

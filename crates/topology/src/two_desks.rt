@@ -4,12 +4,14 @@ ghost use Rattle.std.specs.Prelude.{◌≡◌};
 ghost use Rattle.refusals.specs.Answers.{answer_of};
 ghost use Rattle.areas.specs.Lists.{of_lists, SameLists};
 ghost use Rattle.topology.specs.Marks.{SameFilled};
-ghost use Rattle.topology.specs.Desks.{desk_in, order_of, desks_answer, Ground, TerrainIn, DeskRan, DesksRan, lends_both, leaves-both, RanBothOver};
+ghost use Rattle.call_answers.specs.Desks.{desks_answer};
+ghost use Rattle.topology.specs.Desks.{desk_in, Ground, TerrainIn, DeskRan, DesksRan, lends_both, leaves-both, RanBothOver};
 
 use crate::marks::mark_asked;
 use crate::records::fill;
 use areas::lists::PartitionLists;
 use areas::scratch::clear_scratch;
+use call_answers::desks::{DeskOrder, DesksKept};
 use call_partition::Ready;
 use call_partition::asked::Asked;
 use context::Region;
@@ -18,33 +20,6 @@ use desk_checks::own::{Desk, check_desk};
 use desk_checks::shared::prepare_shared;
 use pass_lists::finish;
 use refusals::Refusal;
-use refusals::answers::Answer;
-
-// How many rows of each desk are kept, or its refusal.
-#[derive(Clone, Copy)]
-pub struct DesksKept {
-    pub route: Result<usize, Refusal>,
-    pub coaching: Result<usize, Refusal>,
-}
-
-// As C is given it: the answer to each desk.
-#[repr(C)]
-#[derive(Clone, Copy)]
-pub struct DesksAnswer {
-    pub route: Answer,
-    pub coaching: Answer,
-}
-
-impl From<DesksKept> for DesksAnswer {
-    ghost from_gives = { λ kept answer. answer ≡ desks_answer kept };
-
-    fn from(kept: DesksKept) -> DesksAnswer {
-        DesksAnswer {
-            route: Answer::from(kept.route),
-            coaching: Answer::from(kept.coaching),
-        }
-    }
-}
 
 // The terrain of both desks, as a call with no boundaries and no anchors is asked, whose partition is ready.
 #[derive(Clone, Copy)]
@@ -95,25 +70,6 @@ pub fn run_desk(
         output,
     );
     Ok(kept)
-}
-
-// Which desk goes first.
-#[derive(Clone, Copy)]
-pub enum DeskOrder {
-    RouteFirst,
-    CoachingFirst,
-}
-
-// As C tells it: 0, or any other number.
-impl From<u64> for DeskOrder {
-    ghost from_gives = { λ number order. order ≡ order_of number };
-
-    fn from(number: u64) -> DeskOrder {
-        match number {
-            0 => DeskOrder::RouteFirst,
-            _ => DeskOrder::CoachingFirst,
-        }
-    }
 }
 
 // Both desks, in the order told.
