@@ -1,7 +1,7 @@
 -- What the proofs of several functions use, here and, where public, in the crates above.
 pub mod ApproachLaws
 mod CandidateLaws
-mod CandidateRoom
+pub mod CandidateRoom
 pub mod Distinct
 pub mod Fitting
 mod FoundMouths

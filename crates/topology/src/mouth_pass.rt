@@ -13,6 +13,7 @@ ghost use Rattle.topology.specs.Mouths.{PassLocates, PassEntryAsked, PassNearAsk
 
 use context::{PartitionContext, Region};
 use definitions::limits::MAX_ENTRIES;
+use geometry::boundaries::has_ramp;
 use mouth_proposals::candidates::{Candidate, MouthProposal, push_ramp};
 use mouth_proposals::regions::RegionMarks;
 use mouth_regions::inner::{inner_region, places};
@@ -117,6 +118,10 @@ fn best_of_ramp(
         BestOf C chosen a result }
     ensures left { stale_in context.entry taken.now result ≡ false }
 {
+    // Most boundaries of a map have no ramp, and so no candidates: for them no list is made.
+    if !has_ramp(context.boundaries, a) {
+        return None;
+    }
     let mut entries = [Candidate::blank(); MAX_ENTRIES];
     let regions = RegionMarks {
         counts,
