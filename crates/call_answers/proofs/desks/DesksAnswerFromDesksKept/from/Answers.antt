@@ -1,4 +1,4 @@
--- `call_answers::desks::DesksAnswerFromDesksKept::from` meets its contract: the search finds why. The answer is written so that a wrong body is refused sooner. Assumes nothing.
+-- `call_answers::desks::DesksAnswerFromDesksKept::from` meets its contract, by the search; written so that a wrong body is refused sooner. Assumes nothing.
 use Rattle.std.proofs.Common.{rules}
 use Rattle.call_answers.proofs.desks.DesksAnswerFromDesksKept.from.Goals as goal
 

@@ -1,0 +1,6 @@
+-- `context::region_marks::is_anchored` meets its contract, by the search; written so that a wrong body is refused sooner. Assumes nothing.
+use Rattle.std.proofs.Common.{rules}
+use Rattle.context.proofs.region_marks.is_anchored.Goals as goal
+
+pub returns : goal.returns
+returns c = search rules

@@ -1,0 +1,6 @@
+-- `mouth_proposals::mouths::MouthKind::is_triangular` meets its contract, by the search; written so that a wrong body is refused sooner. Assumes nothing.
+use Rattle.std.proofs.Common.{rules}
+use Rattle.mouth_proposals.proofs.mouths.MouthKind.is_triangular.Goals as goal
+
+pub returns : goal.returns
+returns c = search rules

@@ -1,0 +1,6 @@
+-- `refusals::answers::AnswerFromRefusal::from` meets its contract, by the search; written so that a wrong body is refused sooner. Assumes nothing.
+use Rattle.std.proofs.Common.{rules}
+use Rattle.refusals.proofs.answers.AnswerFromRefusal.from.Goals as goal
+
+pub returns : goal.returns
+returns c = search rules

@@ -1,0 +1,6 @@
+-- `region_pairs::Pair::contains` meets its contract, by the search; written so that a wrong body is refused sooner. Assumes nothing.
+use Rattle.std.proofs.Common.{rules}
+use Rattle.region_pairs.proofs.Pair.contains.Goals as goal
+
+pub returns : goal.returns
+returns c = search rules

@@ -1,0 +1,6 @@
+-- `report_figures::mean_of` meets its contract, by the search; written so that a wrong body is refused sooner. Assumes nothing.
+use Rattle.std.proofs.Common.{rules}
+use Rattle.report_figures.proofs.mean_of.Goals as goal
+
+pub returns : goal.returns
+returns c = search rules

@@ -1,0 +1,6 @@
+-- `report_reading::read_limited` meets its contract, by the search; written so that a wrong body is refused sooner. Assumes nothing.
+use Rattle.std.proofs.Common.{rules}
+use Rattle.report_reading.proofs.read_limited.Goals as goal
+
+pub returns : goal.returns
+returns c = search rules

@@ -1,0 +1,6 @@
+-- `result_writer::key` meets its contract, by the search; written so that a wrong body is refused sooner. Assumes nothing.
+use Rattle.std.proofs.Common.{rules}
+use Rattle.result_writer.proofs.key.Goals as goal
+
+pub returns : goal.returns
+returns c = search rules

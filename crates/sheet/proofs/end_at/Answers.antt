@@ -1,0 +1,6 @@
+-- `sheet::end_at` meets its contract, by the search; written so that a wrong body is refused sooner. Assumes nothing.
+use Rattle.std.proofs.Common.{rules}
+use Rattle.sheet.proofs.end_at.Goals as goal
+
+pub returns : goal.returns
+returns c = search rules
