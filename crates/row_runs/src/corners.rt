@@ -3,7 +3,8 @@ ghost use Rattle.std.specs.Prelude.{◌≡◌, true, ℕ, ◌+◌, ◌≤◌, �
 ghost use Rattle.parents.specs.Forest.{Forest};
 ghost use Rattle.row_runs.specs.Names.{EastLevel};
 ghost use Rattle.row_runs.specs.South.{SouthLevel};
-ghost use Rattle.row_runs.specs.Corners.{is_square, StepAsked, StepJoined, CornersAsked, CornersJoined, SquaresAsked, SquaresJoined, DiagonalsAsked, DiagonalsJoined};
+ghost use Rattle.row_runs.specs.Corners.{is_square, StepAsked, StepJoined, CornersAsked, CornersJoined};
+ghost use Rattle.row_runs.specs.Corners.{SquaresAsked, SquaresJoined, DiagonalsAsked, DiagonalsJoined};
 
 use crate::grid::CutGrid;
 use crate::row::has_marks;
