@@ -6,17 +6,17 @@ use mathlib.Core.Path.{◌≡◌, refl, sym, ap, ap₂, ◌∙◌, subst}
 use mathlib.Core.Bool.{Bool, true, false, ◌&&◌, true≢false}
 use mathlib.Core.List.{List}
 use lib.ListN.{get_or}
-use lib.Dec.{eqb}
-use borrow.Author.Tests.{eqb-true, eqb-false}
+use lib.Dec.{eqb, ltb}
+use borrow.Author.Tests.{ltb-true, ltb-false}
 use Rattle.laws.specs.ListLaws.Tests.{both}
 use Rattle.laws.specs.RegionLaws.Merging.{merged, merged_one}
 use Rattle.laws.specs.ListLaws.Beyond.{beyond_same, beyond-then}
 use Rattle.grid_steps.specs.Masks.{cut_bit}
 use Rattle.parents.specs.Forest.{Forest, joined_name, Left}
-use Rattle.row_runs.specs.Stretch.{walks}
+use Rattle.row_runs.specs.Stretch.{walks, Clear}
 use Rattle.row_runs.specs.Names.{EastLevel}
 use Rattle.row_runs.specs.South.{SouthLevel, Coarser, Kept}
-use Rattle.row_runs.specs.Corners.{is_square, CornerLevel, StepAsked, StepJoined, stays, links, CornersAsked, CornersJoined, DiagonalsAsked, CornersLevel, DiagonalsJoined}
+use Rattle.row_runs.specs.Corners.{is_square, CornerLevel, StepAsked, StepJoined, stays, links, CornersAsked, CornersJoined, SquaresAsked, SquaresJoined, DiagonalsAsked, DiagonalsJoined}
 use Rattle.row_runs.proofs.Stretches.{clear-bit}
 use Rattle.row_runs.proofs.SouthNames.{merged-test}
 
@@ -113,73 +113,121 @@ module _ {w : ℕ} {cells masks was : List ℕ} {c : ℕ} where
       T : Stepped masks n S.after (c + 1) 6 (c + w) l p
       T = stepped S.left.forest (omega arith) (omega arith) (second n S.after S.left.forest (omega arith) (omega arith))
 
--- ---- the loop
-
-record CornerNames (w : ℕ) (cells masks : List ℕ) (up n : ℕ) (name : ℕ → ℕ) (was p : List ℕ) (c : ℕ) : Type 0 where
-  after : ℕ → ℕ
-  left : Left n after was p
-  coarser : Coarser name after
-  joins : (d : ℕ) → up ≤ d → d < c → CornerLevel w cells masks after d
-  sound : (g : ℕ → Bool) → ((d : ℕ) → up ≤ d → d < c → CornerLevel w cells masks g d) → Kept n name g → Kept n after g
+-- ---- squares one behind another
 
 pub corner-coarser : {w : ℕ} {cells masks : List ℕ} {name after : ℕ → ℕ} {d : ℕ} → Coarser name after → CornerLevel w cells masks name d → CornerLevel w cells masks after d
 corner-coarser {w} {d = d} k l = record { south_east_lem = λ s f. k (d + w + 1) d (l.south_east_lem s f); south_west_lem = λ s f. k (d + w) (d + 1) (l.south_west_lem s f) }
 
-pub record Cornering (w : ℕ) (cells masks : List ℕ) (up : ℕ) (was p : List ℕ) (c : ℕ) : Type 0 where
-  pub low : up ≤ c
-  pub ends : up < c → c < up + w
-  all : (n : ℕ) (name : ℕ → ℕ) → Forest n name was → up + w + w ≤ n → EastLevel cells masks up (up + w) name → SouthLevel w cells masks up (up + w) name → CornerNames w cells masks up n name was p c
+module _ {w : ℕ} {cells masks : List ℕ} where
+  still : {n : ℕ} {name : ℕ → ℕ} {from to : ℕ} {was : List ℕ} → Forest n name was → ((c : ℕ) → from ≤ c → c + 1 < to → (get_or masks c 0 ≡ 0) × (get_or masks (c + 1) 0 ≡ 0)) → SquaresJoined w cells masks n name from to was was
+  still {n} {name} {was = was} F none =
+      record {
+        after = name;
+        left = record { forest = F; beyond = beyond_same n was };
+        coarser = λ x y s. s;
+        joins = λ d i j h. let e = none d i j in h e.0 e.1;
+        sound = λ g _ K. K;
+      }
 
-pub cornering_starts : (w : ℕ) (cells masks : List ℕ) (up : ℕ) (was : List ℕ) → Cornering w cells masks up was was up
-cornering_starts w cells masks up was =
+  -- squares without marks need nothing
+  pub squares-clear : {n : ℕ} {name : ℕ → ℕ} {from to : ℕ} {was : List ℕ} → Forest n name was → Clear masks from to → SquaresJoined w cells masks n name from to was was
+  squares-clear F clear = still F (λ d i j. (clear d i (omega arith), clear (d + 1) (omega arith) j))
+
+  -- nor does a single cell, which has none
+  squares-none : {n : ℕ} {name : ℕ → ℕ} {from to : ℕ} {was : List ℕ} → Forest n name was → to ≤ from + 1 → SquaresJoined w cells masks n name from to was was
+  squares-none F h = still F (λ d i j. absurd (omega arith))
+
+  one_square : {n : ℕ} {name : ℕ → ℕ} {c : ℕ} {was p : List ℕ} → CornersJoined w cells masks n name c was p → SquaresJoined w cells masks n name c (c + 1 + 1) was p
+  one_square {n} {name} {c} {was} {p} J =
+      record {
+        after = J.after;
+        left = J.left;
+        coarser = J.coarser;
+        joins = λ d i j. subst Joins (the c d (omega arith)) J.joins;
+        sound = λ g level. J.sound g (level c (omega arith) (omega arith));
+      }
+    where
+      the : (c d : ℕ) → c ≡ d → c ≡ d
+      the c d e = e
+
+      Joins : ℕ → Type 0
+      Joins d = (get_or masks d 0 ≡ 0 → get_or masks (d + 1) 0 ≡ 0 → CornerLevel w cells masks name d) → CornerLevel w cells masks J.after d
+
+  -- Two parts of a row have one cell in common.
+  squares_then : {n : ℕ} {name : ℕ → ℕ} {from mid to : ℕ} {was l p : List ℕ} → from ≤ mid → (from < mid → mid < to) → (S : SquaresJoined w cells masks n name from (mid + 1) was l) → SquaresJoined w cells masks n S.after mid to l p → SquaresJoined w cells masks n name from to was p
+  squares_then {n} {name} {from} {mid} {to} low ends S T =
+      record {
+        after = T.after;
+        left = record { forest = T.left.forest; beyond = beyond-then S.left.beyond T.left.beyond };
+        coarser = λ x y s. T.coarser x y (S.coarser x y s);
+        joins = λ d i j. go d i j (ltb d mid) refl;
+        sound = λ g level K. T.sound g (λ d i j. level d (omega arith) j) (S.sound g (λ d i j. level d i (omega (arith, ends (omega arith)))) K);
+      }
+    where
+      go : (d : ℕ) → from ≤ d → d + 1 < to → (b : Bool) → ltb d mid ≡ b → (get_or masks d 0 ≡ 0 → get_or masks (d + 1) 0 ≡ 0 → CornerLevel w cells masks name d) → CornerLevel w cells masks T.after d
+      go d i j true e h = corner-coarser T.coarser (S.joins d i (omega (arith, ltb-true d mid e)) h)
+      go d i j false e h = T.joins d (ltb-false d mid e) j (λ a b. corner-coarser S.coarser (h a b))
+
+-- what `join_corners` and `join_squares` promise
+abbrev pub Square : ℕ → List ℕ → List ℕ → ℕ → List ℕ → List ℕ → Type 0
+Square w cells masks c was p =
+    (n : ℕ) (name : ℕ → ℕ) → Forest n name was → c + w + 1 < n → CornersJoined w cells masks n name c was p
+
+abbrev pub Squares : ℕ → List ℕ → List ℕ → ℕ → ℕ → List ℕ → List ℕ → Type 0
+Squares w cells masks from to was p =
+    (n : ℕ) (name : ℕ → ℕ) → Forest n name was → to + w ≤ n → SquaresJoined w cells masks n name from to was p
+
+-- Of the cells from `from` up to `to` the squares before c are done.
+pub record Cornering (w : ℕ) (cells masks : List ℕ) (from to : ℕ) (was p : List ℕ) (c : ℕ) : Type 0 where
+  pub low : from ≤ c
+  pub ends : from < c → c < to
+  all : (n : ℕ) (name : ℕ → ℕ) → Forest n name was → to + w ≤ n → SquaresJoined w cells masks n name from (c + 1) was p
+
+pub cornering_starts : (w : ℕ) (cells masks : List ℕ) (from to : ℕ) (was : List ℕ) → Cornering w cells masks from to was was from
+cornering_starts w cells masks from to was =
     record {
       low = omega arith;
       ends = λ h. absurd (omega arith);
-      all = λ n name F _ _ _.
-          record { after = name; left = record { forest = F; beyond = beyond_same n was }; coarser = λ x y s. s; joins = λ d i j. absurd (omega arith); sound = λ g _ K. K };
+      all = λ n name F _. squares-none F (omega arith);
     }
 
-module _ {w : ℕ} {cells masks : List ℕ} {up : ℕ} {was p : List ℕ} {c : ℕ} (I : Cornering w cells masks up was p c) where
-  pub cornering_goes_on : {p' : List ℕ} → c + 1 < up + w → ((n : ℕ) (name : ℕ → ℕ) → Forest n name p → c + w + 1 < n → CornersJoined w cells masks n name c p p') → Cornering w cells masks up was p' (c + 1)
-  cornering_goes_on {p'} h J = record { low = omega (arith, I.low); ends = λ _. h; all = on }
-    where
-      on : (n : ℕ) (name : ℕ → ℕ) → Forest n name was → up + w + w ≤ n → EastLevel cells masks up (up + w) name → SouthLevel w cells masks up (up + w) name → CornerNames w cells masks up n name was p' (c + 1)
-      on n name F k east south =
-          record {
-            after = C.after;
-            left = record { forest = C.left.forest; beyond = beyond-then N.left.beyond C.left.beyond };
-            coarser = λ x y s. C.coarser x y (N.coarser x y s);
-            joins = λ d i j. go d i j (eqb d c) refl;
-            sound = λ g level K. C.sound g (level c I.low (omega arith)) (N.sound g (λ d i j. level d i (omega arith)) K);
-          }
-        where
-          N : CornerNames w cells masks up n name was p c
-          N = I.all n name F k east south
+module _ {w : ℕ} {cells masks : List ℕ} {from to : ℕ} {was p : List ℕ} {c : ℕ} (I : Cornering w cells masks from to was p c) where
+  -- the squares before d are done too
+  goes_on : {p' : List ℕ} (d m : ℕ) → m ≡ d + 1 → c < d → d < to → Squares w cells masks c m p p' → Cornering w cells masks from to was p' d
+  goes_on {p'} d m e h k S =
+      record {
+        low = omega (arith, I.low);
+        ends = λ _. k;
+        all = λ n name F room.
+            let N = I.all n name F room in
+            squares_then I.low (λ _. omega arith) N (subst (λ x. SquaresJoined w cells masks n N.after c x p p') e (S n N.after N.left.forest (omega (arith, e))));
+      }
 
-          C : CornersJoined w cells masks n N.after c p p'
-          C = J n N.after N.left.forest (omega arith)
+  pub cornering_goes_on : {p' : List ℕ} {d : ℕ} → d ≡ c + 1 → d < to → Square w cells masks c p p' → Cornering w cells masks from to was p' d
+  cornering_goes_on {d = d} e h C = goes_on d (c + 1 + 1) (omega (arith, e)) (omega (arith, e)) h (λ n name F room. one_square (C n name F (omega arith)))
 
-          go : (d : ℕ) → up ≤ d → d < c + 1 → (b : Bool) → eqb d c ≡ b → CornerLevel w cells masks C.after d
-          go d i j true e =
-              subst (CornerLevel w cells masks C.after) (sym (eqb-true d c e))
-              (C.joins
-              (clear-corner w cells masks N.after up c I.low h (λ x l m a b s. N.coarser (x + 1) x (east x l m a b s))
-              (λ x l m a b s. N.coarser (x + w) x (south x l m a b s))))
-          go d i j false e = corner-coarser C.coarser (N.joins d i (omega (arith, eqb-false d c e)))
+  pub cornering_goes_on_block : {p' : List ℕ} → c + 32 < to → Squares w cells masks c (c + 32 + 1) p p' → Cornering w cells masks from to was p' (c + 32)
+  cornering_goes_on_block h S = goes_on (c + 32) (c + 32 + 1) refl (omega arith) h S
 
-  pub cornering_ends : up + w ≤ c + 1 → (n : ℕ) (name : ℕ → ℕ) → Forest n name was → up + w + w ≤ n → EastLevel cells masks up (up + w) name → SouthLevel w cells masks up (up + w) name → DiagonalsJoined w cells masks n name up was p
-  cornering_ends h n name F k east south =
-      let N = I.all n name F k east south in
+  pub cornering_ends_by : {p' : List ℕ} → Squares w cells masks c to p p' → Squares w cells masks from to was p'
+  cornering_ends_by S n name F room =
+      let N = I.all n name F room in squares_then I.low I.ends N (S n N.after N.left.forest room)
+
+  pub cornering_ends : to ≤ c + 1 → Squares w cells masks from to was p
+  cornering_ends h = cornering_ends_by (λ n name F room. squares-none F h)
+
+-- the squares of a row, where straight steps are done
+module _ {w : ℕ} {cells masks : List ℕ} {up : ℕ} {was p : List ℕ} where
+  pub all-squares : Squares w cells masks up (up + w) was p → (n : ℕ) (name : ℕ → ℕ) → Forest n name was → up + w + w ≤ n → EastLevel cells masks up (up + w) name → SouthLevel w cells masks up (up + w) name → DiagonalsJoined w cells masks n name up was p
+  all-squares S n name F m east south =
+      let N = S n name F m in
       record {
         after = N.after;
         left = N.left;
         coarser = N.coarser;
-        joins = λ d i j. N.joins d i (omega arith);
-        sound = λ g level. N.sound g (λ d i j. part g level d i j);
+        joins = λ d i j. N.joins d i j (clear-corner w cells masks name up d i j east south);
+        sound = N.sound;
       }
-    where
-      part : (g : ℕ → Bool) → CornersLevel w cells masks up (up + w) g → (d : ℕ) → up ≤ d → d < c → CornerLevel w cells masks g d
-      part g level d i j = level d i (omega (arith, I.ends (omega arith)))
 
 -- ---- the ways through `join_step`
 
@@ -207,10 +255,10 @@ module _ {w : ℕ} {cells masks was : List ℕ} {c : ℕ} (A : CornersAsked w ce
       }
 
 -- what a turn of the loop over squares asks
-module _ {w : ℕ} {cells masks was : List ℕ} {up : ℕ} {p : List ℕ} {c : ℕ} where
-  pub corners-asked : DiagonalsAsked w cells masks was up → Cornering w cells masks up was p c → c + 1 < up + w → CornersAsked w cells masks p c
+module _ {w : ℕ} {cells masks was : List ℕ} {from to : ℕ} {p : List ℕ} {c : ℕ} where
+  pub corners-asked : SquaresAsked w cells masks was to → Cornering w cells masks from to was p c → c + 1 < to → CornersAsked w cells masks p c
   corners-asked A I h =
-      let N = I.all A.n A.name A.forest A.ends A.east A.south in
+      let N = I.all A.n A.name A.forest A.ends in
       record {
         cells_long = omega (arith, A.cells_long);
         masks_long = omega (arith, A.masks_long);
@@ -218,4 +266,18 @@ module _ {w : ℕ} {cells masks was : List ℕ} {up : ℕ} {p : List ℕ} {c : �
         name = N.after;
         forest = N.left.forest;
         inside = omega (arith, A.ends);
+      }
+
+-- what a part of a row asks, up to cell m
+module _ {w : ℕ} {cells masks was : List ℕ} {up : ℕ} {p : List ℕ} {c : ℕ} where
+  pub squares-asked : DiagonalsAsked w cells masks was up → Cornering w cells masks up (up + w) was p c → (m : ℕ) → m ≤ up + w → SquaresAsked w cells masks p m
+  squares-asked A I m h =
+      let N = I.all A.n A.name A.forest A.ends in
+      record {
+        cells_long = omega (arith, A.cells_long);
+        masks_long = omega (arith, A.masks_long);
+        n = A.n;
+        name = N.after;
+        forest = N.left.forest;
+        ends = omega (arith, A.ends);
       }

@@ -48,6 +48,27 @@ pub record CornersJoined (w : ℕ) (cells masks : List ℕ) (n : ℕ) (name : �
   pub joins : (get_or masks c 0 ≡ 0 → get_or masks (c + 1) 0 ≡ 0 → CornerLevel w cells masks name c) → CornerLevel w cells masks after c
   pub sound : (g : ℕ → Bool) → CornerLevel w cells masks g c → Kept n name g → Kept n after g
 
+-- ---- squares of a row
+
+abbrev pub CornersLevel : {X : Type 0} → ℕ → List ℕ → List ℕ → ℕ → ℕ → (ℕ → X) → Type 0
+CornersLevel w cells masks from to g = (c : ℕ) → from ≤ c → c + 1 < to → CornerLevel w cells masks g c
+
+pub record SquaresAsked (w : ℕ) (cells masks p : List ℕ) (to : ℕ) : Type 0 where
+  pub cells_long : to + w ≤ length cells
+  pub masks_long : to ≤ length masks
+  pub n : ℕ
+  pub name : ℕ → ℕ
+  pub forest : Forest n name p
+  pub ends : to + w ≤ n
+
+-- Names with the uncut diagonals of all squares below the cells from `from` up to `to` done, where those of squares without marks were.
+pub record SquaresJoined (w : ℕ) (cells masks : List ℕ) (n : ℕ) (name : ℕ → ℕ) (from to : ℕ) (was p : List ℕ) : Type 0 where
+  pub after : ℕ → ℕ
+  pub left : Left n after was p
+  pub coarser : Coarser name after
+  pub joins : (c : ℕ) → from ≤ c → c + 1 < to → (get_or masks c 0 ≡ 0 → get_or masks (c + 1) 0 ≡ 0 → CornerLevel w cells masks name c) → CornerLevel w cells masks after c
+  pub sound : (g : ℕ → Bool) → CornersLevel w cells masks from to g → Kept n name g → Kept n after g
+
 -- ---- two rows
 
 pub record DiagonalsAsked (w : ℕ) (cells masks p : List ℕ) (up : ℕ) : Type 0 where
@@ -59,9 +80,6 @@ pub record DiagonalsAsked (w : ℕ) (cells masks p : List ℕ) (up : ℕ) : Type
   pub ends : up + w + w ≤ n
   pub east : EastLevel cells masks up (up + w) name
   pub south : SouthLevel w cells masks up (up + w) name
-
-abbrev pub CornersLevel : {X : Type 0} → ℕ → List ℕ → List ℕ → ℕ → ℕ → (ℕ → X) → Type 0
-CornersLevel w cells masks from to g = (c : ℕ) → from ≤ c → c + 1 < to → CornerLevel w cells masks g c
 
 pub record DiagonalsJoined (w : ℕ) (cells masks : List ℕ) (n : ℕ) (name : ℕ → ℕ) (up : ℕ) (was p : List ℕ) : Type 0 where
   pub after : ℕ → ℕ

@@ -3,9 +3,11 @@ ghost use Rattle.std.specs.Prelude.{◌≡◌, true, ℕ, ◌+◌, ◌≤◌, �
 ghost use Rattle.parents.specs.Forest.{Forest};
 ghost use Rattle.row_runs.specs.Names.{EastLevel};
 ghost use Rattle.row_runs.specs.South.{SouthLevel};
-ghost use Rattle.row_runs.specs.Corners.{is_square, StepAsked, StepJoined, CornersAsked, CornersJoined, DiagonalsAsked, DiagonalsJoined};
+ghost use Rattle.row_runs.specs.Corners.{is_square, StepAsked, StepJoined, CornersAsked, CornersJoined};
+ghost use Rattle.row_runs.specs.Corners.{SquaresAsked, SquaresJoined, DiagonalsAsked, DiagonalsJoined};
 
 use crate::grid::CutGrid;
+use crate::row::has_marks;
 use grid_steps::grid::{SOUTH_EAST_BIT, SOUTH_WEST_BIT, TerrainGrid};
 use grid_steps::{is_cut, is_walkable};
 use parents::join;
@@ -64,7 +66,38 @@ fn join_corners(grid: CutGrid, parents: &mut [u32], c: usize)
     join_step(grid.masks, parents, c + 1, SOUTH_WEST_BIT, below);
 }
 
-// All squares of the rows from `up` and from `up` + `width` on.
+// The diagonal steps of all squares whose upper cells are among those from `from` up to `to`.
+fn join_squares(grid: CutGrid, parents: &mut [u32], from: usize, to: usize)
+    requires { SquaresAsked grid.terrain.width grid.terrain.cells.now grid.masks.now parents.old to }
+    ensures { (n : ℕ) (name : ℕ → ℕ) →
+        Forest n name parents.old →
+        to + grid.entry.terrain.width ≤ n →
+        SquaresJoined grid.entry.terrain.width grid.entry.terrain.cells.now grid.entry.masks.now n name from to parents.old parents.new }
+{
+    for c in from..to.saturating_sub(1) {
+        join_corners(grid, parents, c);
+    }
+}
+
+// How many squares are asked at once. Of most, no cell has a mark; where many have one, so many squares are seldom without, and the test is foreseen.
+const BLOCK: usize = 32;
+
+// Those of a block of squares, whose upper cells are those from c on and one more.
+fn join_block(grid: CutGrid, parents: &mut [u32], c: usize)
+    requires { SquaresAsked grid.terrain.width grid.terrain.cells.now grid.masks.now parents.old (c + 32 + 1) }
+    ensures { (n : ℕ) (name : ℕ → ℕ) →
+        Forest n name parents.old →
+        c + 32 + 1 + grid.entry.terrain.width ≤ n →
+        SquaresJoined grid.entry.terrain.width grid.entry.terrain.cells.now grid.entry.masks.now n name c (c + 32 + 1) parents.old parents.new }
+{
+    let to = c + BLOCK + 1;
+    if !has_marks(grid.masks, c, to) {
+        return;
+    }
+    join_squares(grid, parents, c, to);
+}
+
+// All squares of the rows from `up` and from `up` + `width` on, block by block, and what is left one by one.
 pub fn join_diagonals(grid: CutGrid, parents: &mut [u32], up: usize)
     requires { DiagonalsAsked grid.terrain.width grid.terrain.cells.now grid.masks.now parents.old up }
     ensures { (n : ℕ) (name : ℕ → ℕ) →
@@ -74,7 +107,11 @@ pub fn join_diagonals(grid: CutGrid, parents: &mut [u32], up: usize)
         SouthLevel grid.entry.terrain.width grid.entry.terrain.cells.now grid.entry.masks.now up (up + grid.entry.terrain.width) name →
         DiagonalsJoined grid.entry.terrain.width grid.entry.terrain.cells.now grid.entry.masks.now n name up parents.old parents.new }
 {
-    for c in up..(up + grid.terrain.width).saturating_sub(1) {
-        join_corners(grid, parents, c);
+    let end = up + grid.terrain.width;
+    let mut c = up;
+    while c + BLOCK < end {
+        join_block(grid, parents, c);
+        c += BLOCK;
     }
+    join_squares(grid, parents, c, end);
 }
