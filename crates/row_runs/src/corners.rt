@@ -109,6 +109,7 @@ pub fn join_diagonals(grid: CutGrid, parents: &mut [u32], up: usize)
 {
     let end = up + grid.terrain.width;
     let mut c = up;
+    // Kept: a range with `step_by` gives the blocks, but not where the last one ends, from which the rest goes on.
     while c + BLOCK < end {
         join_block(grid, parents, c);
         c += BLOCK;

@@ -39,6 +39,7 @@ pub fn put_alike(list: &mut [u32], from: usize, end: usize, value: u32)
         return;
     }
     let mut c = from;
+    // Kept: `chunks_exact_mut` would give the eights, but no place from which the last eight entries are counted back.
     while c + 8 <= end {
         put_part(list, c, c + 8, value);
         c += 8;
