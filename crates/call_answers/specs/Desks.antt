@@ -1,10 +1,10 @@
 -- What C's answer to a call of two desks is made of, and which desk goes first, as C tells it. Definitions only; assumes nothing.
 use Rattle.std.specs.Prelude.{ℕ, cond, eqb}
 use Rattle.refusals.specs.Answers.{answer_of}
-use Rattle.call_answers.specs.declared.desks.DesksKept.{DesksKept}
-use Rattle.call_answers.specs.declared.desks.DesksAnswer.{DesksAnswer}
-use Rattle.call_answers.specs.declared.desks.DeskOrder.{DeskOrder}
-use Rattle.call_answers.specs.declared.desks.DeskOrder.TheVariants.{RouteFirst, CoachingFirst}
+use Rattle.call_answers.specs.declared.desk_answers.DesksKept.{DesksKept}
+use Rattle.call_answers.specs.declared.desk_answers.DesksAnswer.{DesksAnswer}
+use Rattle.call_answers.specs.declared.desk_answers.DeskOrder.{DeskOrder}
+use Rattle.call_answers.specs.declared.desk_answers.DeskOrder.TheVariants.{RouteFirst, CoachingFirst}
 
 abbrev pub order_of : ℕ → DeskOrder
 order_of n = cond (eqb n 0) RouteFirst CoachingFirst

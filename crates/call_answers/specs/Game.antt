@@ -3,8 +3,8 @@ use Rattle.std.specs.Prelude.{Result, Ok, Err}
 use Rattle.game_calls.specs.GameVerdict as verdict
 use Rattle.refusals.specs.declared.Refusal.{Refusal}
 use Rattle.refusals.specs.Refusals.{number_of}
-use Rattle.call_answers.specs.declared.game.GameKept.{GameKept}
-use Rattle.call_answers.specs.declared.game.GameAnswer.{GameAnswer}
+use Rattle.call_answers.specs.declared.game_answers.GameKept.{GameKept}
+use Rattle.call_answers.specs.declared.game_answers.GameAnswer.{GameAnswer}
 
 abbrev pub game_answer : GameAnswer → verdict.GameAnswer
 game_answer a = record { number = a.number; value = a.value; regions = a.regions }

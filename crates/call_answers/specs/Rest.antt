@@ -3,8 +3,8 @@ use Rattle.std.specs.Prelude.{Result, Ok, Err}
 use Rattle.rest_definitions.specs.RestVerdict as def
 use Rattle.refusals.specs.declared.Refusal.{Refusal}
 use Rattle.refusals.specs.Refusals.{number_of}
-use Rattle.call_answers.specs.declared.rest.RestKept.{RestKept}
-use Rattle.call_answers.specs.declared.rest.RestAnswer.{RestAnswer}
+use Rattle.call_answers.specs.declared.rest_answers.RestKept.{RestKept}
+use Rattle.call_answers.specs.declared.rest_answers.RestAnswer.{RestAnswer}
 
 abbrev pub rest_answer : RestAnswer → def.RestAnswer
 rest_answer a = record { number = a.number; value = a.value; rounds = a.rounds }

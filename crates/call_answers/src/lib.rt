@@ -3,6 +3,6 @@
 
 #![tactic(auto)]
 
-pub mod desks;
-pub mod game;
-pub mod rest;
+pub mod desk_answers;
+pub mod game_answers;
+pub mod rest_answers;

@@ -5,7 +5,7 @@ ghost use Rattle.game.specs.Graph.{graph_of, edges_in, verdicts_room, verdicts_a
 ghost use Rattle.call_answers.specs.Game.{game_answer_of};
 ghost use Rattle.game_lists.specs.Forms.{late_answer};
 
-use call_answers::game::GameKept;
+use call_answers::game_answers::GameKept;
 use definitions::limits::NUMBERS_PER_PAIR;
 use game_solver::{check_graph, solve_rows};
 use refusals::Refusal;

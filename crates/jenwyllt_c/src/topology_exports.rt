@@ -14,9 +14,9 @@ ghost use Rattle.topology.specs.Desks.{desk_of, RanBothOver};
 ghost use Rattle.jenwyllt_c.specs.Lending.{lends, leaves};
 
 use areas::lists::PartitionLists;
-use call_answers::desks::DesksAnswer;
-use call_answers::game::GameAnswer;
-use call_answers::rest::RestAnswer;
+use call_answers::desk_answers::DesksAnswer;
+use call_answers::game_answers::GameAnswer;
+use call_answers::rest_answers::RestAnswer;
 use call_partition::asked::Asked;
 use context::Region;
 use desk_checks::own::Desk;

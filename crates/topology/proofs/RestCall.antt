@@ -34,7 +34,7 @@ use Rattle.rest_lists.specs.Begun.{Begun, BegunAs}
 use Rattle.boundary_blocks.specs.Start.{rows_at}
 use Rattle.rest_lists.proofs.Between.{flat-kept, kept-starts}
 use Rattle.rest_lists.proofs.Ending.{output-fits, masks-fit, queue-fit, rest-ran}
-use Rattle.call_answers.specs.declared.rest.RestKept.{RestKept}
+use Rattle.call_answers.specs.declared.rest_answers.RestKept.{RestKept}
 use Rattle.topology.specs.Filled.{Fills, Filled}
 use Rattle.call_answers.specs.Rest.{rest_answer_of}
 use Rattle.topology.specs.Rest.{RestRanOver, Stands, RanToRest, RunLists, run-lists}

@@ -21,7 +21,7 @@ use Rattle.rest_lists.specs.declared.turns.Turn.{Turn}
 use Rattle.rest_lists.specs.Kept.{Origin, map_lent, all_places}
 use Rattle.rest_lists.specs.Turns.{turn_of, turn_after, quiet_after}
 use Rattle.rest_lists.proofs.Turned.{TurnsAt, turns-start, turns_next}
-use Rattle.call_answers.specs.declared.rest.RestKept.{RestKept}
+use Rattle.call_answers.specs.declared.rest_answers.RestKept.{RestKept}
 use Rattle.topology.specs.Rest.{Stands, RanToRest, run-lists}
 use Rattle.topology.proofs.Resting.{kept-few}
 

@@ -45,7 +45,7 @@ use Rattle.rest_lists.proofs.Inner.{zeroed-length}
 use Rattle.topology.specs.Contract.{written}
 use Rattle.topology.specs.Desks.{desk_of, Ground, shared_of, Partitioned, Terrain, DeskRan, DesksRan, lends_both, leaves-both, RanBothOver}
 use Rattle.refusals.specs.Answers.{answer_in, answer_of}
-use Rattle.call_answers.specs.declared.desks.DesksAnswer.{DesksAnswer}
+use Rattle.call_answers.specs.declared.desk_answers.DesksAnswer.{DesksAnswer}
 use Rattle.topology.proofs.Calling.{ready-lent, ran_over, needed-few}
 
 -- a desk with this refusal before all others

@@ -13,7 +13,7 @@ use Rattle.topology.specs.Filled.{Filled}
 use Rattle.refusals.specs.Answers.{answer_in}
 use Rattle.definitions.specs.Verdict as verdict
 use Rattle.topology.specs.Contract.{written}
-use Rattle.call_answers.specs.declared.desks.DesksAnswer.{DesksAnswer}
+use Rattle.call_answers.specs.declared.desk_answers.DesksAnswer.{DesksAnswer}
 use Rattle.topology.specs.declared.two_desks.SharedTerrain.{SharedTerrain}
 use Rattle.desk_checks.specs.declared.own.Desk as lent
 

@@ -14,7 +14,7 @@ use Rattle.rest_definitions.specs.RestVerdict as def
 use Rattle.rest.specs.RestCalls.{RestRan}
 use Rattle.rest_lists.specs.declared.kept.Standing.{Standing}
 use Rattle.rest_lists.specs.Kept.{Origin, map_lent, kept_of, KeptLists}
-use Rattle.call_answers.specs.declared.rest.RestKept.{RestKept}
+use Rattle.call_answers.specs.declared.rest_answers.RestKept.{RestKept}
 use Rattle.topology.specs.Lent.{LentLists, LeftLists, lent_map, lent_call}
 
 -- how many records a run that answers with this number writes, whose first partition has n regions

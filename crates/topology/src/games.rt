@@ -9,7 +9,7 @@ ghost use Rattle.topology.specs.Games.{Begun, RunsKept, RanKept, PlayedOver};
 use crate::marks::mark_asked;
 use crate::records::{fill, renew};
 use areas::lists::PartitionLists;
-use call_answers::game::GameKept;
+use call_answers::game_answers::GameKept;
 use call_partition::Ready;
 use call_partition::asked::Asked;
 use checks::passes::Pass;

@@ -18,7 +18,7 @@ ghost use Rattle.topology.specs.Rest.{run-lists, RestRanOver, Stands, RanToRest}
 use crate::marks::mark_asked;
 use crate::records::{fill, renew};
 use areas::lists::PartitionLists;
-use call_answers::rest::RestKept;
+use call_answers::rest_answers::RestKept;
 use call_partition::Ready;
 use call_partition::asked::Asked;
 use checks::passes::Pass;

@@ -11,7 +11,7 @@ use crate::marks::mark_asked;
 use crate::records::fill;
 use areas::lists::PartitionLists;
 use areas::scratch::clear_scratch;
-use call_answers::desks::{DeskOrder, DesksKept};
+use call_answers::desk_answers::{DeskOrder, DesksKept};
 use call_partition::Ready;
 use call_partition::asked::Asked;
 use context::Region;

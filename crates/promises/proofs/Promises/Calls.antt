@@ -31,7 +31,7 @@ use Rattle.ranked_list.proofs.RankedCalls as ranks
 use Rattle.topology.specs.Lent.{LentLists, LeftLists, lent_map, lent_call}
 use Rattle.topology.specs.Contract.{RanOver}
 use Rattle.topology.specs.Desks.{LentBoth, LeftBoth, shared_lent, RanBothOver}
-use Rattle.call_answers.specs.declared.desks.DesksAnswer.{DesksAnswer}
+use Rattle.call_answers.specs.declared.desk_answers.DesksAnswer.{DesksAnswer}
 use Rattle.topology.specs.Rest.{RestRanOver}
 use Rattle.topology.specs.Games.{PlayedOver}
 use Rattle.rest_definitions.specs.RowOrder.{start_map}

@@ -1,9 +1,0 @@
--- `call_answers::game::GameAnswerFromResultGameKeptRefusal::from` meets its contract, by the search; written so that wrong bodies are refused sooner.
-use Rattle.std.proofs.Common.{rules}
-use Rattle.call_answers.proofs.game.GameAnswerFromResultGameKeptRefusal.from.Goals as goal
-
-pub returns-in-Err : goal.returns-in-Err
-returns-in-Err c = search rules
-
-pub returns-in-Ok : goal.returns-in-Ok
-returns-in-Ok c = search rules
