@@ -27,8 +27,9 @@ impl Writer<'_> {
         requires { HasRoom self.old (length bytes.now) }
         ensures { Appends self.old bytes.now self.new }
     {
-        let end = self.at + bytes.len();
-        self.out[self.at..end].copy_from_slice(bytes);
-        self.at = end;
+        // Kept: byte by byte. `copy_from_slice` of as many bytes as are lent is a call of `memmove`, a name that whoever links the archive would have to bring.
+        for &byte in bytes {
+            self.put_byte(byte);
+        }
     }
 }
