@@ -1,3 +1,4 @@
+pub mod RankLaws
 pub mod Insertion
 pub mod Sorting
 pub mod Conflicts
