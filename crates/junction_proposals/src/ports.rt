@@ -5,7 +5,7 @@ ghost use Rattle.definitions.specs.Grid.{contains};
 ghost use Rattle.definitions.specs.Context.{holds};
 ghost use Rattle.definitions.specs.Junctions.{fits_union};
 ghost use Rattle.context.specs.Rows.{pair_form, full_pair_of};
-ghost use Rattle.junction_proposals.specs.Ports.{Listed, incidents_of, names, is_unfit, region_fits, walk_fits};
+ghost use Rattle.junction_proposals.specs.Ports.{Listed, incidents_of, walk_fits};
 
 use crate::lists::JunctionLists;
 use context::pairs::Pair;
@@ -53,46 +53,9 @@ pub fn find_incidents(
     n
 }
 
-// Whether the full pair of boundary j names region r.
-fn names_at(full: &[Option<Pair>; MAX_ENTRIES], r: u32, j: u8) -> bool
-    ensures { result ≡ names full.now r j }
-{
-    names_region(full[j as usize], r)
-}
-
-// Whether the full pair of boundary j names region r of the union without that exactly one of its sides lies in it. Boundary `index`, the union's own, is left
-// out.
-fn is_unfit(full: &[Option<Pair>; MAX_ENTRIES], index: usize, union: Pair, r: u32, j: u8) -> bool
-    ensures { result ≡ is_unfit full.now index (pair_form union) r j }
-{
-    names_at(full, r, j) & ((j as usize != index) & !fits_union(union, full[j as usize]))
-}
-
-// Whether every incident of region r of the union, other than its own boundary, is a full pair with one side in the union. Looks at the boundaries whose full
-// pair names a region of the union; an incident that is no full pair is not met here: it shows in the region's count.
-fn region_fits(lists: &JunctionLists, divider: &Divider, r: u32) -> bool
-    requires r_named { (1 ≤ r) × (r ≤ length lists.now.counts.now) }
-    requires r_of_union { contains r (pair_form divider.now.union) ≡ true }
-    requires incidents { divider.now.incidents.now ≡ incidents_of lists.now.full.now lists.now.count (pair_form divider.now.union) }
-    ensures { result ≡ region_fits lists.now.full.now lists.now.counts.now lists.now.count divider.now.index
-        (pair_form divider.now.union) r }
-{
-    let unfit = divider.incidents.iter().any(|&j| is_unfit(
-        lists.full,
-        divider.index,
-        divider.union,
-        r,
-        j,
-    ));
-    let met = divider
-        .incidents
-        .iter()
-        .filter(|&&j| names_at(lists.full, r, j))
-        .count();
-    !unfit & (met == lists.counts[r as usize - 1] as usize)
-}
-
-// Whether that is so of both regions.
+// Whether every incident of the two regions of the union, other than its own boundary, is a full pair with one side in the union. Walks over the boundaries whose
+// full pair names one of the two, once for each region, and is left at the first that doesn't fit; an incident that is no full pair is not met here: it shows in the
+// region's count.
 pub fn ports_fit(lists: &JunctionLists, divider: &Divider) -> bool
     requires lo_named { (1 ≤ divider.now.union.lo) × (divider.now.union.lo ≤ length lists.now.counts.now) }
     requires hi_named { (1 ≤ divider.now.union.hi) × (divider.now.union.hi ≤ length lists.now.counts.now) }
@@ -100,5 +63,23 @@ pub fn ports_fit(lists: &JunctionLists, divider: &Divider) -> bool
     ensures { result ≡ walk_fits lists.now.full.now lists.now.counts.now lists.now.count divider.now.index
         (pair_form divider.now.union) }
 {
-    region_fits(lists, divider, divider.union.lo) && region_fits(lists, divider, divider.union.hi)
+    let mut fit = true;
+    'regions: for r in [divider.union.lo, divider.union.hi] {
+        let mut met = 0;
+        for &j in divider.incidents {
+            let pair = lists.full[j as usize];
+            if names_region(pair, r) {
+                if (j as usize != divider.index) & !fits_union(divider.union, pair) {
+                    fit = false;
+                    break 'regions;
+                }
+                met += 1;
+            }
+        }
+        if met != lists.counts[r as usize - 1] as usize {
+            fit = false;
+            break 'regions;
+        }
+    }
+    fit
 }
