@@ -78,3 +78,8 @@ module _ (boundaries : List ℕ) (full : List (Option declared.Pair)) (count i :
   shape_at counts marks =
       no_ramp_at boundaries i && ltb (marks_of marks p) 2 && walk_fits full counts count i p && leb 3 (count_below count (leads_anew full i p))
       && ports_pass (eqb (marks_of marks p) 1)
+
+-- of a boundary that may be no full pair
+unfoldable pub is_union_at : List ℕ → List (Option declared.Pair) → List ℕ → List ℕ → ℕ → ℕ → Bool
+unfolding shape_at
+is_union_at boundaries full counts marks count i = holds (pair_of full i) (λ p. shape_at boundaries full count i p counts marks)

@@ -7,4 +7,4 @@ mod distances;
 pub mod lists;
 pub mod ports;
 pub mod proposals;
-mod unions;
+pub mod unions;

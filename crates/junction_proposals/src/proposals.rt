@@ -52,7 +52,7 @@ fn union_row(lists: &JunctionLists, i: usize) -> Option<Candidate>
     ensures { found_form result ≡ union_in lists.now i }
 {
     let union = lists.full[i]?;
-    is_union(lists, i, union).then_some(Candidate {
+    is_union(lists, i).then_some(Candidate {
         index: i as u8,
         kind: Kind::Union,
         first: union.lo,

@@ -5,7 +5,7 @@ ghost use Rattle.definitions.specs.Junctions.{exterior_of};
 ghost use Rattle.context.specs.Rows.{pair_form};
 ghost use Rattle.junction_proposals.specs.Lent.{LentBoundaries, LentIn};
 ghost use Rattle.junction_proposals.specs.Ports.{pair_of, incidents_of};
-ghost use Rattle.junction_proposals.specs.Unions.{with_exterior, with_incident, leads_anew, ports_pass, shape_at};
+ghost use Rattle.junction_proposals.specs.Unions.{with_exterior, with_incident, leads_anew, ports_pass, shape_at, is_union_at};
 
 use crate::distances::port_passes;
 use crate::lists::JunctionLists;
@@ -106,7 +106,7 @@ fn has_few_incidents(counts: &[u32], union: Pair) -> bool
 }
 
 // Whether the regions of the full pair of boundary `index` and their ports have the shape of a union.
-pub fn is_union(lists: &JunctionLists, index: usize, union: Pair) -> bool
+fn has_union_shape(lists: &JunctionLists, index: usize, union: Pair) -> bool
     requires lent { LentIn lists.now }
     requires index_within { index < lists.now.count }
     requires union_full { pair_of lists.now.full.now index ≡ Some (pair_form union) }
@@ -135,4 +135,17 @@ pub fn is_union(lists: &JunctionLists, index: usize, union: Pair) -> bool
     ports_fit(lists, &divider)
         && has_three_exteriors(lists, &divider)
         && ports_pass(lists, &divider, lower != upper)
+}
+
+// Whether boundary `index` is a full pair whose regions and their ports have the shape of a union.
+pub fn is_union(lists: &JunctionLists, index: usize) -> bool
+    requires lent { LentIn lists.now }
+    requires index_within { index < lists.now.count }
+    ensures { result ≡ is_union_at lists.now.boundaries.now lists.now.full.now lists.now.counts.now lists.now.marks.now
+        lists.now.count index }
+{
+    match lists.full[index] {
+        Some(union) => has_union_shape(lists, index, union),
+        None => false,
+    }
 }
