@@ -7,6 +7,7 @@ use areas::partition;
 use definitions::limits::{
     MAX_ENTRIES, NUMBERS_PER_ANCHOR, NUMBERS_PER_BOUNDARY, NUMBERS_PER_SPAN,
 };
+use refusals::answers::Answer;
 use replay_lists::{LentRoom, Opening, length_within, replay_cases, write_partition};
 use sheet::{CELLS_MOST, read_sheet};
 use std::io;
@@ -28,7 +29,7 @@ fn lend<W: Write>(out: &mut W, opening: &Opening, cells: &[u8], spans: &[u64]) -
         &spans[..length_within(opening.spans, spans.len())],
         &mut lists,
     );
-    write_partition(out, answer, &lists)?;
+    write_partition(out, Answer::from(answer), &lists)?;
     Ok(())
 }
 

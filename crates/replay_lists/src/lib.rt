@@ -7,7 +7,6 @@ ghost use Rattle.std.specs.Prelude.{◌≤◌, ◌<◌, ◌≡◌, length, take,
 ghost use Rattle.replay_lists.specs.Contract.{held_at, HeldBefore, IsOther, Changed, Zeros};
 
 use areas::lists::PartitionLists;
-use refusals::Refusal;
 use refusals::answers::Answer;
 use std::io::{Read, Write};
 use std::{array, io};
@@ -112,14 +111,14 @@ fn write_zeros<T: Copy + Into<u64>, W: Write>(
 // Writes an answer and the lists that a partition fills and clears. Answers how many entries it wrote of labels, tallies and pairs.
 pub fn write_partition<W: Write>(
     output: &mut W,
-    answer: Result<usize, Refusal>,
+    answer: Answer,
     lists: &PartitionLists,
 ) -> io::Result<Written>
     ensures labels_changed { IfOk result (λ w. Changed (λ x y. y ≡ x) (take 4096 lists.now.labels.now) w.labels) }
     ensures tallies_changed { IfOk result (λ w. Changed (λ x y. y ≡ x) (take 4096 lists.now.tallies.now) w.tallies) }
     ensures pairs_changed { IfOk result (λ w. Changed (λ x y. y ≡ x) (take 4096 lists.now.pairs.now) w.pairs) }
 {
-    let Answer { number, value } = Answer::from(answer);
+    let Answer { number, value } = answer;
     writeln!(output, "answer {number} {value}")?;
     let labels = write_numbers(output, b"labels ", lent(lists.labels))?;
     let tallies = write_numbers(output, b"tallies ", lent(lists.tallies))?;

@@ -7,6 +7,7 @@ use call_partition::asked::Asked;
 use definitions::limits::{
     MAX_ENTRIES, NUMBERS_PER_ANCHOR, NUMBERS_PER_BOUNDARY, NUMBERS_PER_SPAN,
 };
+use refusals::answers::Answer;
 use replay_lists::{
     LentRoom, Opening, entries_before, length_within, replay_cases, write_numbers, write_partition,
 };
@@ -36,7 +37,7 @@ fn lend<W: Write>(out: &mut W, opening: &Opening, asked: Asked) -> io::Result<()
         &mut output[0..output_end],
         &mut numbers,
     );
-    write_partition(out, answer, &lists)?;
+    write_partition(out, Answer::from(answer), &lists)?;
     write_numbers(out, b"records ", &numbers)?;
     write_numbers(out, b"output ", &output[0..output_end])?;
     Ok(())
