@@ -1,2 +1,3 @@
 mod FromTheBack
 mod UpToLast
+mod Reading

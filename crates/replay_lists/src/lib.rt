@@ -3,8 +3,9 @@
 
 #![tactic(auto)]
 
-ghost use Rattle.std.specs.Prelude.{◌≤◌, ◌<◌, ◌≡◌, length, take, IfOk};
+ghost use Rattle.std.specs.Prelude.{◌≤◌, ◌<◌, ◌≡◌, length, take, min, IfOk, OnOk, IfSome, Some, drop, nat_le};
 ghost use Rattle.replay_lists.specs.Contract.{held_at, HeldBefore, IsOther, Changed, Zeros};
+ghost use Rattle.replay_lists.specs.Openings.{opening_of, next_opening, behind_case, behind_cases, RoomBefore, lent_of};
 
 use areas::lists::PartitionLists;
 use refusals::answers::Answer;
@@ -162,12 +163,15 @@ pub struct Opening {
 
 // A number of an opening as the length of a list; the list has no more than `most` entries.
 pub fn length_within(asked: u16, most: usize) -> usize
-    ensures { result ≤ most }
+    ensures bound { result ≤ most }
+    ensures least { result ≡ min asked most }
 {
     usize::from(asked).min(most)
 }
 
 impl From<[u8; OPENING]> for Opening {
+    ghost from_gives = { λ bytes opening. opening ≡ opening_of bytes };
+
     fn from(bytes: [u8; OPENING]) -> Opening {
         let (numbers, _) = bytes.as_chunks::<2>();
         let [
@@ -209,7 +213,10 @@ impl From<[u8; OPENING]> for Opening {
 
 impl Opening {
     // Reads what the next case begins with; none where the input ends before.
-    pub fn read<R: Read>(input: &mut R) -> io::Result<Option<Opening>> {
+    pub fn read<R: Read>(input: &mut R) -> io::Result<Option<Opening>>
+        ensures next { IfOk result (λ o. IfSome (R.remaining input.old) (λ xs. o ≡ next_opening xs)) }
+        ensures taken { OnOk result (IfSome (R.remaining input.old) (λ xs. R.remaining input.new ≡ Some (drop 30 xs))) }
+    {
         let mut bytes = [0u8; OPENING];
         if read_full(input, &mut bytes)? < OPENING {
             return Ok(None);
@@ -220,7 +227,9 @@ impl Opening {
     // Reads the sheet behind it, and answers how many bytes there were.
     pub fn read_sheet<R: Read>(&self, input: &mut R, buffer: &mut [u8]) -> io::Result<usize>
         requires { 65536 ≤ length buffer.old }
-        ensures { IfOk result (λ n. n ≤ length buffer.new) }
+        ensures within { IfOk result (λ n. n ≤ length buffer.new) }
+        ensures given { IfOk result (λ n. IfSome (R.remaining input.old) (λ xs. take n buffer.new ≡ take self.now.sheet xs)) }
+        ensures taken { OnOk result (IfSome (R.remaining input.old) (λ xs. R.remaining input.new ≡ Some (drop self.now.sheet xs))) }
     {
         read_full(input, &mut buffer[..usize::from(self.sheet)])
     }
@@ -239,7 +248,9 @@ pub struct LentRoom {
 }
 
 impl LentRoom {
-    pub fn new() -> LentRoom {
+    pub fn new() -> LentRoom
+        ensures { RoomBefore result }
+    {
         LentRoom {
             labels: entries_before(),
             masks: entries_before(),
@@ -250,7 +261,13 @@ impl LentRoom {
     }
 
     // As much of them as the opening says.
-    pub fn lists(&mut self, opening: &Opening) -> PartitionLists {
+    pub fn lists(&mut self, opening: &Opening) -> PartitionLists
+        ensures labels { result.labels.now ≡ lent_of opening.now.labels self.old.labels }
+        ensures masks { result.masks.now ≡ lent_of opening.now.masks self.old.masks }
+        ensures queue { result.queue.now ≡ lent_of opening.now.queue self.old.queue }
+        ensures tallies { result.tallies.now ≡ lent_of opening.now.tallies self.old.tallies }
+        ensures pairs { result.pairs.now ≡ lent_of opening.now.pairs self.old.pairs }
+    {
         let LentRoom {
             labels,
             masks,
@@ -279,6 +296,8 @@ fn replay_next<R: Read, W: Write, F: Fn(&mut W, &Opening, &[u8]) -> io::Result<(
 ) -> io::Result<bool>
     requires room { 65536 ≤ length buffer.old }
     requires callable { F.IsAlwaysCallable replay }
+    ensures more { IfOk result (λ b. IfSome (R.remaining input.old) (λ xs. b ≡ nat_le 30 (length xs))) }
+    ensures taken { OnOk result (IfSome (R.remaining input.old) (λ xs. R.remaining input.new ≡ Some (behind_case xs))) }
 {
     let Some(opening) = Opening::read(input)? else {
         return Ok(false);
@@ -288,13 +307,15 @@ fn replay_next<R: Read, W: Write, F: Fn(&mut W, &Opening, &[u8]) -> io::Result<(
     Ok(true)
 }
 
-// Replays the cases, each as `replay` does it from its opening and the bytes of its sheet.
+// Replays the cases, each as `replay` does it from its opening and the bytes of its sheet. Of an input whose bytes are known, all cases are taken, to the limit;
+// what is written is what `replay` makes of them, of which no contract speaks.
 pub fn replay_cases<R: Read, W: Write, F: Fn(&mut W, &Opening, &[u8]) -> io::Result<()>>(
     input: &mut R,
     out: &mut W,
     replay: F,
 ) -> io::Result<()>
     requires { F.IsAlwaysCallable replay }
+    ensures { OnOk result (IfSome (R.remaining input.old) (λ xs. R.remaining input.new ≡ Some (behind_cases 65536 xs))) }
 {
     let mut buffer = [0u8; 65536];
     for _ in 0..CASES {
