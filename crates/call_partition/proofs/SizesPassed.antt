@@ -90,3 +90,8 @@ whole-fit {w} {h} {cells} e =
       counted = eqb-true (length cells) (w * h) (no_fault_lem _ 0 (refusal_none 2 _ two.0));
       whole = no_fault_lem _ 0 (refusal_none 3 _ two.1);
     }
+
+-- so too where 1 to 4 refuse nothing
+pub sizes-fit : (pass : ℕ) {w h : ℕ} {cells spans boundaries anchors : List ℕ} → sizes_refusal pass w h cells spans boundaries anchors ≡ None → WholeFit w h cells spans boundaries anchors
+sizes-fit pass {w} {h} {cells} {spans} {boundaries} {anchors} e =
+    whole-fit (or_else_none (whole_refusal w h cells spans boundaries anchors) _ (sym (sizes-parts pass w h cells spans boundaries anchors) ∙ e)).0

@@ -7,7 +7,7 @@ ghost use Rattle.refusals.specs.Refusals.{refusal_in};
 ghost use Rattle.areas.specs.Lists.{of_lengths};
 ghost use Rattle.call_partition.specs.Asking.{of_asked};
 ghost use Rattle.checks.specs.Passes.{pass_number};
-ghost use Rattle.call_partition.specs.Early.{is_whole_of, whole_refusal, entries_refusal, lists_refusal, early_refusal};
+ghost use Rattle.call_partition.specs.Early.{is_whole_of, whole_refusal, sizes_refusal, entries_refusal, lists_refusal, early_refusal};
 
 use crate::asked::Asked;
 use areas::lists::PartitionLists;
@@ -30,7 +30,7 @@ fn all_whole(spans: usize, boundaries: usize, anchors: usize) -> bool
 }
 
 // Checks 1 to 3.
-pub fn check_sizes(asked: Asked) -> Result<(), Refusal>
+pub fn check_whole(asked: Asked) -> Result<(), Refusal>
     ensures { refusal_in result ≡ of_asked whole_refusal asked.entry }
 {
     ensure(sides_fit(asked.width, asked.height), Cause::Sides)?;
@@ -42,6 +42,15 @@ pub fn check_sizes(asked: Asked) -> Result<(), Refusal>
         asked.anchors.len(),
     );
     ensure(whole, Cause::Entries)
+}
+
+// Checks 1 to 4, and the pass of the number that is asked for.
+pub fn check_sizes(pass: u64, asked: Asked) -> Result<Pass, Refusal>
+    ensures refused { refusal_in result ≡ of_asked (sizes_refusal pass) asked.entry }
+    ensures named { IfOk result (λ p. pass_number p ≡ pass) }
+{
+    check_whole(asked)?;
+    Pass::try_from(pass)
 }
 
 // Checks 5 to 9.
@@ -103,8 +112,7 @@ pub fn checks_before(
     ensures refused { refusal_in result ≡ of_lengths (of_asked (early_refusal pass) asked.entry) lists.now output }
     ensures named { IfOk result (λ p. pass_number p ≡ pass) }
 {
-    check_sizes(asked)?;
-    let pass = Pass::try_from(pass)?;
+    let pass = check_sizes(pass, asked)?;
     check_lists(asked, lists, output)?;
     Ok(pass)
 }

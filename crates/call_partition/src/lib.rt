@@ -19,7 +19,7 @@ use areas::lists::PartitionLists;
 use areas::scratch::{clear_assessed, clear_scratch};
 use asked::Asked;
 use assessments::assess_spans;
-use checked::{check_lists, check_sizes, checks_before};
+use checked::{check_lists, check_whole, checks_before};
 use checks::passes::Pass;
 use definitions::limits::{NUMBERS_PER_SPAN, TALLIES_PER_SPAN};
 use grid_steps::grid::TerrainGrid;
@@ -120,7 +120,7 @@ pub fn prepare_lists(
         → of_lists (of_lists (of_asked (PreparedAs pass) asked.entry room output) lists.old result) lists.new }
     ensures same { SameLists lists.old lists.new }
 {
-    check_sizes(asked)?;
+    check_whole(asked)?;
     check_lists(asked, &*lists, output)?;
     divide(asked.grid(), asked.spans, room, lists)
 }

@@ -27,8 +27,7 @@ pub fn game_checks(
     ensures named { IfOk result (λ p. pass_number p ≡ pass) }
     ensures refused { refusal_in result ≡ of_lengths (of_asked (game_early pass) asked.entry) lists.now output verdicts }
 {
-    check_sizes(asked)?;
-    let pass = Pass::try_from(pass)?;
+    let pass = check_sizes(pass, asked)?;
     no_fault(lists_fault(asked.spans, asked.boundaries), Cause::Lists)?;
     check_lists(asked, lists, output)?;
     ensure(VERDICTS_ROOM <= verdicts, Cause::Room)?;

@@ -8,14 +8,14 @@ ghost use Rattle.rest_lists.specs.Early.{rest_early};
 use crate::lists::lists_fault;
 use areas::lists::PartitionLists;
 use call_partition::asked::Asked;
-use call_partition::checked::{check_lists, check_sizes};
+use call_partition::checked::{check_lists, check_whole};
 use refusals::{Cause, Refusal, no_fault};
 
 // Of the lists that are filled, only the lengths matter. No pass is asked for.
 pub fn rest_checks(asked: Asked, lists: &PartitionLists, output: usize) -> Result<(), Refusal>
     ensures { refusal_in result ≡ of_lengths (of_asked rest_early asked.entry) lists.now output }
 {
-    check_sizes(asked)?;
+    check_whole(asked)?;
     no_fault(lists_fault(asked.spans, asked.boundaries), Cause::Lists)?;
     check_lists(asked, lists, output)
 }

@@ -3,30 +3,28 @@ use Rattle.std.proofs.Common.{rules, sym, ◌≡◌, ◌∙◌}
 use Rattle.std.specs.Prelude.{Some}
 use Rattle.refusals.specs.Refusals.{refusal_in, refusal_of}
 use Rattle.refusals.proofs.Steps.{here, next}
-use Rattle.call_partition.proofs.SizesPassed.{early-joined, whole-fit}
+use Rattle.call_partition.specs.Early.{early_refusal}
+use Rattle.call_partition.proofs.SizesPassed.{sizes-fit}
 use Rattle.call_partition.proofs.checked.checks_before.Goals as goal
 
-pub returns-in_err-check_sizes-clause-refused : goal.returns-in_err-check_sizes-clause-refused
-returns-in_err-check_sizes-clause-refused c =
-    let r : refusal_in c.from_residual.result ≡ Some (refusal_of c.in_err-check_sizes.field-0.0) = search rules in
-    r ∙ here _ (sym c.in_err-check_sizes.ensures) ∙ sym (early-joined _ _ _ _ _ _ _ _ _ _ _ _)
-
 pub returns-in_err-pass-clause-refused : goal.returns-in_err-pass-clause-refused
+unfolding early_refusal
 returns-in_err-pass-clause-refused c =
-    let r : refusal_in c.from_residual-in_err-pass.result ≡ Some (refusal_of c.in_err-pass.field-0.0) = search rules in
-    r ∙ next (sym c.in_ok-check_sizes.ensures) (here _ (sym c.in_err-pass.ensures.0)) ∙ sym (early-joined _ _ _ _ _ _ _ _ _ _ _ _)
+    let r : refusal_in c.from_residual.result ≡ Some (refusal_of c.in_err-pass.field-0.0) = search rules in
+    r ∙ here _ (sym c.in_err-pass.ensures.refused)
 
 pub check_lists-requires-clause-sides : goal.check_lists-requires-clause-sides
-check_lists-requires-clause-sides c = let s = whole-fit (sym c.in_ok-check_sizes.ensures) in (s.narrow, s.short)
+check_lists-requires-clause-sides c = let s = sizes-fit c.args.pass (sym c.in_ok-pass.ensures.refused) in (s.narrow, s.short)
 
 pub check_lists-requires-clause-counted : goal.check_lists-requires-clause-counted
-check_lists-requires-clause-counted c = (whole-fit (sym c.in_ok-check_sizes.ensures)).counted
+check_lists-requires-clause-counted c = (sizes-fit c.args.pass (sym c.in_ok-pass.ensures.refused)).counted
 
 pub returns-in_err-check_lists-clause-refused : goal.returns-in_err-check_lists-clause-refused
+unfolding early_refusal
 returns-in_err-check_lists-clause-refused c =
     let r : refusal_in c.from_residual-in_err-check_lists.result ≡ Some (refusal_of c.in_err-check_lists.field-0.0) = search rules in
-    r ∙ next (sym c.in_ok-check_sizes.ensures) (next (sym c.in_ok-pass.ensures.0) c.in_err-check_lists.ensures) ∙ sym (early-joined _ _ _ _ _ _ _ _ _ _ _ _)
+    r ∙ next (sym c.in_ok-pass.ensures.refused) c.in_err-check_lists.ensures
 
 pub returns-clause-refused : goal.returns-clause-refused
-returns-clause-refused c =
-    next (sym c.in_ok-check_sizes.ensures) (next (sym c.in_ok-pass.ensures.0) c.in_ok-check_lists.ensures) ∙ sym (early-joined _ _ _ _ _ _ _ _ _ _ _ _)
+unfolding early_refusal
+returns-clause-refused c = next (sym c.in_ok-pass.ensures.refused) c.in_ok-check_lists.ensures

@@ -7,25 +7,25 @@ use Rattle.call_partition.proofs.SizesPassed.{sizes-of-pass, whole-fit}
 use Rattle.rest_lists.specs.Early.{rest_early}
 use Rattle.rest_lists.proofs.checked.rest_checks.Goals as goal
 
-pub returns-in_err-check_sizes : goal.returns-in_err-check_sizes
+pub returns-in_err-check_whole : goal.returns-in_err-check_whole
 unfolding rest_early
-returns-in_err-check_sizes c =
-    let r : refusal_in c.from_residual.result ≡ Some (refusal_of c.in_err-check_sizes.field-0.0) = search rules in
-    r ∙ here _ (sym (c.in_err-check_sizes.ensures ∙ sizes-of-pass 1 _ _ _ _ _ _ (search rules)))
+returns-in_err-check_whole c =
+    let r : refusal_in c.from_residual.result ≡ Some (refusal_of c.in_err-check_whole.field-0.0) = search rules in
+    r ∙ here _ (sym (c.in_err-check_whole.ensures ∙ sizes-of-pass 1 _ _ _ _ _ _ (search rules)))
 
 pub returns-in_err-no_fault : goal.returns-in_err-no_fault
 unfolding rest_early
 returns-in_err-no_fault c =
     let r : refusal_in c.from_residual-in_err-no_fault.result ≡ Some (refusal_of c.in_err-no_fault.field-0.0) = search rules in
-    r ∙ next (sym (c.in_ok-check_sizes.ensures ∙ sizes-of-pass 1 _ _ _ _ _ _ (search rules))) (here _ (searched 16 c.lists_fault.ensures c.in_err-no_fault.ensures))
+    r ∙ next (sym (c.in_ok-check_whole.ensures ∙ sizes-of-pass 1 _ _ _ _ _ _ (search rules))) (here _ (searched 16 c.lists_fault.ensures c.in_err-no_fault.ensures))
 
 pub check_lists-requires-clause-sides : goal.check_lists-requires-clause-sides
-check_lists-requires-clause-sides c = let s = whole-fit (sym c.in_ok-check_sizes.ensures) in (s.narrow, s.short)
+check_lists-requires-clause-sides c = let s = whole-fit (sym c.in_ok-check_whole.ensures) in (s.narrow, s.short)
 
 pub check_lists-requires-clause-counted : goal.check_lists-requires-clause-counted
-check_lists-requires-clause-counted c = (whole-fit (sym c.in_ok-check_sizes.ensures)).counted
+check_lists-requires-clause-counted c = (whole-fit (sym c.in_ok-check_whole.ensures)).counted
 
 pub returns : goal.returns
 unfolding rest_early
 returns c =
-    next (sym (c.in_ok-check_sizes.ensures ∙ sizes-of-pass 1 _ _ _ _ _ _ (search rules))) (next (searched 16 c.lists_fault.ensures c.in_ok-no_fault.ensures) c.check_lists.ensures)
+    next (sym (c.in_ok-check_whole.ensures ∙ sizes-of-pass 1 _ _ _ _ _ _ (search rules))) (next (searched 16 c.lists_fault.ensures c.in_ok-no_fault.ensures) c.check_lists.ensures)
