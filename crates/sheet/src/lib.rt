@@ -9,7 +9,7 @@ ghost use Rattle.definitions.specs.SheetNumber as grammar;
 ghost use Rattle.definitions.specs.Lists.{overwrite};
 ghost use Rattle.definitions.specs.Limits.{is_side};
 ghost use Rattle.definitions.specs.Grid.{segment_at};
-ghost use Rattle.definitions.specs.Sheet.{cell, entries, has_spans, spans_held, spans_stated, endpoints, endpoints_of, read_verdict};
+ghost use Rattle.definitions.specs.Sheet.{cell, entries, has_spans, spans_held, spans_stated, endpoints, endpoints_in, read_verdict};
 ghost use Rattle.sheet.specs.Numbers.{read_of, up_to, items_at, Told, ShortTold, EndTold, Held, values_at};
 ghost use Rattle.sheet.specs.Parts as parts;
 ghost use Rattle.sheet.specs.Parts.{kind_number, KindAsked, opened_of, PartTold, ListsTold, SheetTold, PartsHeld, part_of, cells_in, stated_long};
@@ -447,13 +447,13 @@ fn put_endpoints(boundary: &[u64; NUMBERS_PER_BOUNDARY], i: usize, spans: &mut [
     spans[place..place + NUMBERS_PER_SPAN].copy_from_slice(&boundary[..NUMBERS_PER_SPAN]);
 }
 
-// Stores the endpoints of the boundaries as spans.
-pub fn fill_endpoints(boundaries: &[u64], spans: &mut [u64])
-    requires { 4 * (length boundaries.now / 9) ≤ length spans.old }
-    ensures { spans.new ≡ overwrite (endpoints_of boundaries.now) spans.old }
+// Stores the endpoints of the first boundaries, so many of them, as spans.
+pub fn fill_endpoints(boundaries: &[u64], count: usize, spans: &mut [u64])
+    requires { (9 * count ≤ length boundaries.now) × (4 * count ≤ length spans.old) }
+    ensures { spans.new ≡ overwrite (endpoints_in count boundaries.now) spans.old }
 {
     let (chunks, _) = boundaries.as_chunks::<NUMBERS_PER_BOUNDARY>();
-    for (i, boundary) in chunks.iter().enumerate() {
+    for (i, boundary) in chunks[..count].iter().enumerate() {
         put_endpoints(boundary, i, spans);
     }
 }
@@ -465,9 +465,10 @@ fn fill_spans(bytes: &[u8], kind: Kind, part: Part, boundaries: &[u64], spans: &
     ensures { spans.new
         ≡ overwrite (spans_stated (has_spans (kind_number kind)) (part_of bytes.now part) boundaries.now) spans.old }
 {
+    let count = boundaries.len() / NUMBERS_PER_BOUNDARY;
     match kind {
         Kind::OwnSpans => fill_numbers(bytes, part.first, part.count, spans),
-        Kind::SharedSpans => fill_endpoints(boundaries, spans),
+        Kind::SharedSpans => fill_endpoints(boundaries, count, spans),
     }
 }
 

@@ -90,9 +90,9 @@ fn is_one_list(spans: &[u64], boundaries: &[u64]) -> bool
     ensures { result ≡ same_numbers spans.now (endpoints_of boundaries.now) }
 {
     let mut ends = [0u64; NUMBERS_PER_SPAN * MAX_ENTRIES];
-    fill_endpoints(boundaries, &mut ends);
-    let end = NUMBERS_PER_SPAN * (boundaries.len() / NUMBERS_PER_BOUNDARY);
-    spans == &ends[..end]
+    let count = boundaries.len() / NUMBERS_PER_BOUNDARY;
+    fill_endpoints(boundaries, count, &mut ends);
+    spans == &ends[..NUMBERS_PER_SPAN * count]
 }
 
 // Checks 4 to 9, and then 22, of a sheet whose cells stand in the bytes.

@@ -1,5 +1,5 @@
 -- `sheet::fill_endpoints` meets its contract. The loop's invariant: the endpoints of the first i boundaries are stored, and nothing else. Assumes nothing.
-use Prim.Native.Nat.{◌≤◌, ◌/◌}
+use Prim.Native.Nat.{◌≤◌}
 use mathlib.Core.Path.{◌≡◌}
 use lib.ListN.{length}
 use Rattle.definitions.specs.Lists.{overwrite}
@@ -8,4 +8,4 @@ use Rattle.sheet.proofs.fill_endpoints.Given as goal
 
 abbrev pub invariant-loop-i : goal.invariant-loop-i
 invariant-loop-i l =
-    (l.i ≤ length l.boundaries / 9) × (length l.spans ≡ length l.initial.spans) × (l.spans ≡ overwrite (endpoints_in l.i l.boundaries) l.initial.spans)
+    (l.i ≤ l.count) × (length l.spans ≡ length l.initial.spans) × (l.spans ≡ overwrite (endpoints_in l.i l.boundaries) l.initial.spans)
