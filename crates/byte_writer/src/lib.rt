@@ -14,6 +14,7 @@ pub struct Writer<'a> {
 
 impl Writer<'_> {
     // Appends one byte.
+    #[inline(always)]
     pub fn put_byte(&mut self, byte: u8)
         requires { HasRoom self.old 1 }
         ensures { Appends self.old (byte ∷ []) self.new }

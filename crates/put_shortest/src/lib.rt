@@ -49,6 +49,7 @@ fn last(n: u64) -> u8
 }
 
 // Appends a number in shortest form.
+#[inline(always)]
 pub fn put_shortest(w: &mut Writer, n: u64)
     requires { HasRoom w.old (length (shortest n)) }
     ensures { Appends w.old (shortest n) w.new }

@@ -39,3 +39,8 @@ groups_by_power n m r e c d f =
     let two : 1 ≤ k → 2 ≤ 2 ^ r = λ j. pow_mono {i = 1} {j = r} (omega arith) in
     let low : n < 128 ^ suc k = omega (arith, e, sevens (suc k), pow-suc 2 r) in
     sym (groups k 9 n (omega arith) low (λ j. omega (arith, e, sevens k, two j)))
+
+-- below 128 there is one group
+pub one_alone : (n : ℕ) → n < 128 → 1 ≡ length (shortest n)
+unfolding shortest
+one_alone n h = sym (ap length (one_group 9 n h))

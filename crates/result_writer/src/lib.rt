@@ -93,7 +93,11 @@ pub const LABEL_SIZE: usize = 1;
 fn group_count(n: u64) -> usize
     ensures { result ≡ length (shortest n) }
 {
-    (n.max(1).ilog2() / 7) as usize + 1
+    // Most numbers of a sheet have one group, and are spared the logarithm.
+    if n < 128 {
+        return 1;
+    }
+    (n.ilog2() / 7) as usize + 1
 }
 
 // Takes the size of a number from the bytes of a lent list that are left, if there are so many. Sizes are taken from the room, since their sum may be beyond
@@ -127,6 +131,8 @@ pub fn spend_list(room: usize, size: usize, numbers: &[u64]) -> Option<usize>
 // ---- writing
 
 // Writes these numbers.
+// Put into its callers, as all that writes through a `Writer`: the place then stays in a register, and is not stored and read again for each byte.
+#[inline(always)]
 pub fn put_numbers<T: Entry>(w: &mut Writer, numbers: &[T])
     requires { HasRoom w.old (length (concat_map shortest (map T.value numbers.now))) }
     ensures { Appends w.old (concat_map shortest (map T.value numbers.now)) w.new }
@@ -137,6 +143,7 @@ pub fn put_numbers<T: Entry>(w: &mut Writer, numbers: &[T])
 }
 
 // Writes a count of entries, each of `size` numbers, and the numbers.
+#[inline(always)]
 pub fn put_list(w: &mut Writer, size: usize, numbers: &[u64])
     requires { (1 ≤ size) × HasRoom w.old (length (list_bytes size numbers.now)) }
     ensures { Appends w.old (list_bytes size numbers.now) w.new }
@@ -196,6 +203,7 @@ impl RunResult<'_> {
     }
 
     // Writes the sheet.
+    #[inline(always)]
     fn put(self, w: &mut Writer)
         requires { HasRoom w.old (length (result_bytes (result_of self))) }
         ensures { Appends w.old (result_bytes (result_of self.entry)) w.new }

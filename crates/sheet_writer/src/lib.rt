@@ -55,6 +55,7 @@ impl Map<'_> {
     }
 
     // Writes the kind, the pass and both sides.
+    #[inline(always)]
     fn put_opening(self, w: &mut Writer)
         requires { HasRoom w.old (length (opening self.pass self.width self.height)) }
         ensures { Appends w.old (opening self.entry.pass self.entry.width self.entry.height) w.new }
@@ -66,6 +67,7 @@ impl Map<'_> {
     }
 
     // Writes the sheet.
+    #[inline(always)]
     fn put(self, w: &mut Writer)
         requires { HasRoom w.old (length (sheet_bytes 3 (stated self))) }
         ensures { Appends w.old (sheet_bytes 3 (stated self.entry)) w.new }
