@@ -5,13 +5,14 @@ use native.Mathlib.Omega.{arith}
 use mathlib.Core.Path.{◌≡◌, refl, sym, ap, ◌∙◌}
 use mathlib.Core.Bool.{Bool, true, false, ◌&&◌}
 use Rattle.std.specs.Prelude.{Option, None, Some, Ok, Err}
-use mathlib.Core.List.{List, [], ◌∷◌, ◌++◌}
-use lib.ListN.{length, drop}
+use mathlib.Core.List.{List, [], ◌∷◌}
+use lib.ListN.{length}
 use lib.Dec.{ltb, leb}
 use borrow.Author.Tests.{le-leb, lt-leb, leb-true, leb-false}
 use Rattle.definitions.specs.Lists.{overwrite}
 use Rattle.definitions.specs.Refusals.{Refusal, or_else, unless}
 use Rattle.definitions.specs.Verdict.{Answer, refusal, first_refusal}
+use Rattle.laws.specs.ListLaws.Overwritten.{overwrite-twice}
 use Rattle.laws.specs.ListLaws.SortedMembers.{length-sort}
 use Rattle.catalogue.specs.Dates.{Date, day_of}
 use Rattle.catalogue.specs.Terms.{term_count, is_finished, terms_refusal}
@@ -21,6 +22,7 @@ use Rattle.catalogue.specs.Pool.{maps_in, maps_of_day, entries_of, entries_on, a
 use Rattle.catalogue.proofs.PoolLaws.{pool_rising}
 use Rattle.pool_entries.specs.Steps.{blank, RecordsShown}
 use Rattle.pool_entries.proofs.Showing.{entries_of-length}
+use Rattle.pool_entries.proofs.Spreading.{entries-length}
 use Rattle.refusals.specs.declared.Refusal as code
 use Rattle.refusals.specs.Refusals.{number_of, refusal_of}
 use Rattle.refusals.proofs.Steps.{stopped, positive}
@@ -127,6 +129,10 @@ module _ (terms records : List ℕ) (day : ℕ) {maps : ℕ} (m : maps ≡ lengt
   unfolding maps_of_day
   need = entries_of-length records day (accession_count records) (maps_of_day terms day) ∙ ap (λ n. 4 * n) (length-sort ltb (maps_in terms day) ∙ sym m)
 
+  maps-listed : length (maps_of_day terms day) ≡ maps
+  unfolding maps_of_day
+  maps-listed = length-sort ltb (maps_in terms day) ∙ sym m
+
 module _ (terms records : List ℕ) (day : ℕ) (old : List ℕ) {maps : ℕ} (m : maps ≡ length (maps_in terms day)) where
   abbrev needed : length (entries_on terms records (Some day)) ≡ 4 * maps
   needed = need terms records day m
@@ -168,10 +174,12 @@ module _ (terms records : List ℕ) (day : ℕ) (old : List ℕ) {maps : ℕ} (m
 -- ---- the entries, and the records shown in them
 
 pub shown-over : (terms records : List ℕ) (day : ℕ) (old put new : List ℕ) (maps : ℕ) → maps ≡ length (maps_in terms day) → terms_refusal terms ≡ None
-    → put ≡ blank (maps_of_day terms day) → RecordsShown put records day new
-    → new ++ drop (4 * maps) old ≡ overwrite (entries_of records day (accession_count records) (maps_of_day terms day)) old
+    → put ≡ overwrite (blank (maps_of_day terms day)) old → RecordsShown put maps records day new
+    → new ≡ overwrite (entries_of records day (accession_count records) (maps_of_day terms day)) old
 shown-over terms records day old put new maps m ok p S =
     let M = maps_of_day terms day in
     let E = entries_of records day (accession_count records) M in
-    let long : length E ≡ 4 * maps = need terms records day m in
-    ap (λ l. l ++ drop (4 * maps) old) (S M (pool_rising terms day ok) p) ∙ ap (λ n. E ++ drop n old) (sym long)
+    let again : put ≡ overwrite (blank M) put = p ∙ sym (overwrite-twice (blank M) (blank M) old (omega arith)) ∙ ap (overwrite (blank M)) (sym p) in
+    S M (pool_rising terms day ok) (maps-listed terms records day m) again
+    ∙ ap (overwrite E) p
+    ∙ overwrite-twice E (blank M) old (omega (arith, entries-length (λ m. None) M, entries_of-length records day (accession_count records) M))

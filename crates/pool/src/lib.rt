@@ -38,9 +38,8 @@ fn list_day(terms: &[u64], records: &[u64], day: u64, output: &mut [u64]) -> Res
 {
     let maps = count_maps(terms, day);
     ensure(maps <= output.len() / NUMBERS_PER_ENTRY, Cause::Room)?;
-    let entries = &mut output[..NUMBERS_PER_ENTRY * maps];
-    put_entries(terms, day, &mut *entries);
-    show_records(entries, records, day);
+    put_entries(terms, day, &mut *output);
+    show_records(output, maps, records, day);
     Ok(maps)
 }
 

@@ -138,3 +138,7 @@ module _ {terms : List ℕ} {day : ℕ} {old : List ℕ} where
   pub putting-ends : {new : List ℕ} {maps i : ℕ} → Putting terms day old new maps i → term_count terms ≤ i → new ≡ overwrite (maps_in terms day) old
   unfolding maps_in
   putting-ends P h = P.stored ∙ ap (λ n. overwrite (collect n (map_at_lem terms day)) old) (le_antisymm P.within h)
+
+  pub putting-counts : {new : List ℕ} {maps i : ℕ} → Putting terms day old new maps i → term_count terms ≤ i → maps ≡ length (maps_in terms day)
+  unfolding maps_in
+  putting-counts P h = P.counted ∙ ap (λ n. length (collect n (map_at_lem terms day))) (le_antisymm P.within h)

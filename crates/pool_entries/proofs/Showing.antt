@@ -2,20 +2,21 @@
 -- the last that is of its map and of the day or earlier (`Showing`). Assumes nothing.
 use Prim.Native.Nat.{ℕ, zero, suc, ◌+◌, ◌*◌, ◌≤◌, ◌<◌}
 use native.Mathlib.Omega.{arith}
+use native.Mathlib.Nat.{le_antisymm}
 use native.Mathlib.Numerals.{add-one}
 use mathlib.Core.Path.{◌≡◌, refl, sym, ap, ap₂, subst, ◌∙◌}
 use mathlib.Core.Bool.{Bool, true, false, ◌&&◌, cond, false≢true}
 use Rattle.std.specs.Prelude.{Option, None, Some}
 use mathlib.Core.List.{List, [], ◌∷◌, ◌++◌, append-nil}
-use lib.ListN.{length, get_or, set}
-use lib.Seq.{sets}
+use lib.ListN.{length, get_or, set, take, drop}
+use lib.Seq.{sets, take-append_seam}
 use lib.Dec.{eqb, leb}
 use borrow.Author.Tests.{eq-eqb, ne_eqb, le-leb, lt-leb, leb-true, leb-false}
 use Rattle.definitions.specs.Scan.{concat_map}
 use Rattle.catalogue.specs.Accession.{Accession, accession_at, accession_count}
 use Rattle.catalogue.specs.Pool.{entry_of, newest, entries_of}
 use Rattle.catalogue.specs.PoolLaws.{Rising}
-use Rattle.pool_entries.specs.Steps.{entries_by, blank, Found, Shown}
+use Rattle.pool_entries.specs.Steps.{entries_by, blank, Found, Shown, RecordsShown}
 use Rattle.pool_entries.proofs.Spreading.{entries-length}
 
 -- ---- entries, one by one
@@ -185,3 +186,13 @@ module _ {old records : List ℕ} {day : ℕ} where
 
     pub showing_late : (r : Accession) → r ≡ accession_at records i → i < accession_count records → day < r.day → Showing old records day new (i + 1)
     showing_late r e h d = goes_on h (record_late records i day (omega (arith, d, ap (λ x. x.day) e)))
+
+-- over the entries at the front of a list
+pub showing_over : {old records : List ℕ} {day maps : ℕ} {new : List ℕ} {i : ℕ} → Showing (take (4 * maps) old) records day new i → accession_count records ≤ i
+    → RecordsShown old maps records day (new ++ drop (4 * maps) old)
+showing_over {old} {records} {day} {maps} {new} {i} S h M R n B =
+    let E = entries_of records day (accession_count records) M in
+    let full : length (blank M) ≡ 4 * maps = omega (arith, entries-length (λ m. None) M, n) in
+    let front : take (4 * maps) old ≡ blank M = ap₂ take (sym full) B ∙ take-append_seam (blank M) (drop (length (blank M)) old) in
+    let long : length E ≡ 4 * maps = omega (arith, entries_of-length records day (accession_count records) M, n) in
+    ap₂ (λ u v. u ++ v) (S.so_far M R front ∙ ap (λ k. entries_of records day k M) (le_antisymm S.within h)) (ap (λ k. drop k old) (sym long))

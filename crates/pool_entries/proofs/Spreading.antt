@@ -5,12 +5,12 @@ use mathlib.Core.Path.{◌≡◌, refl, sym, ap, ap₂, ◌∙◌}
 use mathlib.Core.List.{List, [], ◌∷◌, ◌++◌, append-nil}
 use Rattle.std.specs.Prelude.{Option, None, Some}
 use lib.ListN.{length, get_or, set, take, drop, length-append, length-drop, length-take}
-use lib.Seq.{sets, length-sets, drop-cons, get_or-take, get_or-set_other, take-append_seam}
+use lib.Seq.{sets, length-sets, drop-cons, get_or-take, get_or-set_other, take-append_seam, drop-append_seam, take-take}
 use lib.Dec.{ltb}
 use Rattle.definitions.specs.Lists.{overwrite}
 use Rattle.definitions.specs.Scan.{concat_map}
 use Rattle.definitions.specs.Sort.{sort}
-use Rattle.laws.specs.ListLaws.Overwritten.{sets_append, sets_later, sets_overwrite}
+use Rattle.laws.specs.ListLaws.Overwritten.{sets_append, sets_later, sets_overwrite, overwrite-twice}
 use Rattle.laws.specs.ListLaws.SortedMembers.{length-sort}
 use Rattle.catalogue.specs.Accession.{Accession}
 use Rattle.catalogue.specs.Pool.{entry_of}
@@ -105,22 +105,28 @@ module _ {maps : ℕ} {old : List ℕ} where
 
 -- ---- the maps put, sorted and spread
 
--- the maps X at the front, sorted, and the whole list then spread
-pub listed : (X old put sorted new : List ℕ) (n : ℕ) → n ≡ length X → length old ≡ 4 * length X → put ≡ overwrite X (take n old) → sorted ≡ sort ltb put
-    → new ≡ overwrite (blank (take (length (sorted ++ drop n old) / 4) (sorted ++ drop n old))) (sorted ++ drop n old) → new ≡ blank (sort ltb X)
-listed X old put sorted new n c whole p s e =
+-- the maps X at the front, sorted, and the part that their entries need then spread
+pub listed : (X old : List ℕ) {put sorted spread : List ℕ} {n : ℕ} → n ≡ length X → 4 * length X ≤ length old → put ≡ overwrite X old → sorted ≡ sort ltb (take n put)
+    → spread ≡ overwrite (blank (take (length (take (4 * n) (sorted ++ drop n put)) / 4) (take (4 * n) (sorted ++ drop n put)))) (take (4 * n) (sorted ++ drop n put))
+    → spread ++ drop (4 * n) (sorted ++ drop n put) ≡ overwrite (blank (sort ltb X)) old
+listed X old {put} {sorted} {spread} {n} c room p s e =
     let S = sort ltb X in
-    let size : length S ≡ length X = length-sort ltb X in
-    let none : drop (length X) (take n old) ≡ [] = drop_all (take n old) (length X) (omega (arith, c, taken-length n old (omega (arith, c, whole)))) in
-    let there : sorted ≡ S = s ∙ ap (sort ltb) (p ∙ ap (λ l. X ++ l) none ∙ append-nil X) in
-    let long : length (S ++ drop n old) ≡ length old = omega (arith, length-append S (drop n old), length-drop n old, size, c, whole) in
-    let front : take (length (S ++ drop n old) / 4) (S ++ drop n old) ≡ S =
-    (let quarter : length (S ++ drop n old) / 4 ≡ length S = omega (arith, long, whole, size) in
-    ap (λ k. take k (S ++ drop n old)) quarter ∙ take-append_seam S (drop n old)) in
-    let behind : drop (length (blank S)) (S ++ drop n old) ≡ [] =
-    drop_all (S ++ drop n old) (length (blank S)) (omega (arith, long, whole, size, entries-length (λ m. None) S)) in
-    e
-    ∙ ap (λ t. overwrite (blank (take (length (t ++ drop n old) / 4) (t ++ drop n old))) (t ++ drop n old)) there
-    ∙ ap (λ t. overwrite (blank t) (S ++ drop n old)) front
-    ∙ ap (λ t. blank S ++ t) behind
-    ∙ append-nil (blank S)
+    let sized : length S ≡ n = length-sort ltb X ∙ sym c in
+    let W = overwrite S old in
+    let part = take (4 * n) W in
+    let front : take n put ≡ X = ap₂ take c p ∙ take-append_seam X (drop (length X) old) in
+    let behind : drop n put ≡ drop (length S) old = ap₂ drop c p ∙ drop-append_seam X (drop (length X) old) ∙ ap (λ k. drop k old) (sym c ∙ sym sized) in
+    let there : sorted ++ drop n put ≡ W = ap₂ (λ u v. u ++ v) (s ∙ ap (sort ltb) front) behind in
+    let long : length part ≡ 4 * n = simp length-take (omega (arith, length-append S (drop (length S) old), length-drop (length S) old, sized, c, room)) in
+    let quarter : length part / 4 ≡ length S = omega (arith, long, sized) in
+    let read : take (length part / 4) part ≡ S = ap (λ k. take k part) quarter ∙ take-take (length S) (4 * n) W (omega (arith, sized)) ∙ take-append_seam S (drop (length S) old) in
+    let none : drop (length (blank S)) part ≡ [] = drop_all part (length (blank S)) (omega (arith, long, sized, entries-length (λ m. None) S)) in
+    let full : length (blank S) ≡ 4 * n = omega (arith, sized, entries-length (λ m. None) S) in
+    ap₂ (λ u v. u ++ v)
+    (e
+    ∙ ap (λ w. overwrite (blank (take (length (take (4 * n) w) / 4) (take (4 * n) w))) (take (4 * n) w)) there
+    ∙ ap (λ t. overwrite (blank t) part) read
+    ∙ ap (λ t. blank S ++ t) none
+    ∙ append-nil (blank S))
+    (ap (drop (4 * n)) there ∙ ap (λ k. drop k W) (sym full))
+    ∙ overwrite-twice (blank S) S old (omega (arith, entries-length (λ m. None) S))

@@ -1,5 +1,6 @@
 -- What the steps of the listing promise: entries that show no record yet, and entries in which a record is shown. Definitions only; assumes nothing.
 use Rattle.std.specs.Prelude.{ℕ, ◌<◌, ◌≡◌, cond, List, length, get_or, eqb, Option, None, Some}
+use Rattle.definitions.specs.Lists.{overwrite}
 use Rattle.definitions.specs.Scan.{only_if, concat_map}
 use Rattle.catalogue.specs.Terms.{term_at, days_of, contains}
 use Rattle.catalogue.specs.Accession.{Accession, accession_count}
@@ -35,6 +36,8 @@ Found entries map place = (M : List ℕ) (f : ℕ → Option Accession) → Risi
 abbrev pub Shown : List ℕ → Accession → List ℕ → Type 0
 Shown old r new = (M : List ℕ) (f : ℕ → Option Accession) → Rising M → old ≡ entries_by f M → new ≡ entries_by (λ m. cond (eqb r.on_map m) (Some r) (f m)) M
 
--- of all records each is shown that is of this day or earlier, over what stood there
-abbrev pub RecordsShown : List ℕ → List ℕ → ℕ → List ℕ → Type 0
-RecordsShown old records day new = (M : List ℕ) → Rising M → old ≡ blank M → new ≡ entries_of records day (accession_count records) M
+-- where the list begins with the entries of so many rising maps, which show no record, of all records each is shown that is of this day or earlier, over what stood
+-- there; what lies behind the entries stays
+abbrev pub RecordsShown : List ℕ → ℕ → List ℕ → ℕ → List ℕ → Type 0
+RecordsShown old count records day new = (M : List ℕ) → Rising M → length M ≡ count → old ≡ overwrite (blank M) old
+    → new ≡ overwrite (entries_of records day (accession_count records) M) old

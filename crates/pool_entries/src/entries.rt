@@ -28,15 +28,17 @@ fn show(entries: &mut [u64], accession: &[u64; NUMBERS_PER_ACCESSION])
     }
 }
 
-// Shows each map's newest record of this day or earlier, in entries that show none.
-pub fn show_records(entries: &mut [u64], records: &[u64], day: u64)
-    ensures { RecordsShown entries.old records.now day entries.new }
+// Shows each map's newest record of this day or earlier in so many entries at the front of a list, that show none; what lies behind them stays.
+pub fn show_records(entries: &mut [u64], maps: usize, records: &[u64], day: u64)
+    requires { numbers_per_entry * maps ≤ length entries.old }
+    ensures { RecordsShown entries.old maps records.now day entries.new }
 {
+    let shown = &mut entries[..NUMBERS_PER_ENTRY * maps];
     let (records, _) = records.as_chunks::<NUMBERS_PER_ACCESSION>();
     for accession in records {
         if day < accession[2] {
             continue;
         }
-        show(&mut *entries, accession);
+        show(&mut *shown, accession);
     }
 }

@@ -19,10 +19,11 @@ pub fn count_maps(terms: &[u64], day: u64) -> usize
         .count()
 }
 
-// Puts the maps of the terms that have the day in front, in the order of the terms.
-fn put_maps(terms: &[u64], day: u64, output: &mut [u64])
+// Puts the maps of the terms that have the day in front, in the order of the terms, and gives how many there are.
+fn put_maps(terms: &[u64], day: u64, output: &mut [u64]) -> usize
     requires { length (maps_in terms.now day) ≤ length output.old }
-    ensures { output.new ≡ overwrite (maps_in terms.now day) output.old }
+    ensures output { output.new ≡ overwrite (maps_in terms.now day) output.old }
+    ensures count { result ≡ length (maps_in terms.now day) }
 {
     let (terms, _) = terms.as_chunks::<NUMBERS_PER_TERM>();
     let mut maps = 0;
@@ -33,6 +34,7 @@ fn put_maps(terms: &[u64], day: u64, output: &mut [u64])
             maps += 1;
         }
     }
+    maps
 }
 
 // Writes entry k, which shows no record.
@@ -55,14 +57,12 @@ fn spread_maps(entries: &mut [u64])
     }
 }
 
-// Writes the entries of the day's maps, by number; they show no record yet.
+// Writes the entries of the day's maps, by number, to the front of a list; they show no record yet, and what lies behind them stays.
 pub fn put_entries(terms: &[u64], day: u64, entries: &mut [u64])
-    requires { length entries.old ≡ numbers_per_entry * length (maps_in terms.now day) }
-    ensures { entries.new ≡ blank (maps_of_day terms.now day) }
+    requires { numbers_per_entry * length (maps_in terms.now day) ≤ length entries.old }
+    ensures { entries.new ≡ overwrite (blank (maps_of_day terms.now day)) entries.old }
 {
-    let count = entries.len() / NUMBERS_PER_ENTRY;
-    let maps = &mut entries[..count];
-    put_maps(terms, day, &mut *maps);
-    sort_numbers(maps);
-    spread_maps(entries);
+    let count = put_maps(terms, day, &mut *entries);
+    sort_numbers(&mut entries[..count]);
+    spread_maps(&mut entries[..NUMBERS_PER_ENTRY * count]);
 }

@@ -1,6 +1,7 @@
 -- `entries::show_records` meets its contract. The invariant is `Showing`. Assumes nothing.
+use native.Mathlib.Omega.{arith}
 use mathlib.Core.List.{[]}
-use Rattle.pool_entries.proofs.Showing.{showing_starts, showing_shown, showing_late}
+use Rattle.pool_entries.proofs.Showing.{showing_starts, showing_shown, showing_late, showing_over}
 use Rattle.catalogue.proofs.Chunks.{record-at}
 use Rattle.pool_entries.proofs.Placing.{record-inside}
 use Rattle.pool_entries.proofs.entries.show_records.Goals as goal
@@ -21,3 +22,6 @@ loop-accession-preserved c =
     let i = c.loop-accession.accession-index in
     let inside = record-inside l c.as_chunks.ensures.front c.loop-accession-test.true in
     showing_shown c.loop-accession.invariant _ (record-at l i [] c.as_chunks.ensures.front inside) inside c.if-day-accession.false c.show.ensures
+
+pub returns : goal.returns
+returns c = showing_over c.loop-accession.invariant (omega (arith, c.loop-accession-test.false, c.as_chunks.ensures.front_len))

@@ -1,7 +1,7 @@
 -- `maps::put_maps` meets its contract. The invariant: the maps of the terms that were passed stand at the front. Assumes nothing.
-use Rattle.std.proofs.Common.{arith, ◌<◌, ◌/◌, length, ◌∙◌}
+use Rattle.std.proofs.Common.{arith, ◌<◌, ◌≤◌, ◌/◌, length, ◌∙◌}
 use Rattle.pool_terms.proofs.Chunks.{term_in-chunk}
-use Rattle.pool_entries.proofs.Listing.{putting-starts, putting-room, putting-put, putting-left, putting-ends}
+use Rattle.pool_entries.proofs.Listing.{putting-starts, putting-room, putting-put, putting-left, putting-ends, putting-counts}
 use Rattle.pool_entries.proofs.maps.put_maps.Goals.{then-has_day, else-has_day}
 use Rattle.pool_entries.proofs.maps.put_maps.Goals as goal
 
@@ -29,4 +29,6 @@ loop-numbers-preserved c =
     ]
 
 pub returns : goal.returns
-returns c = putting-ends c.loop-numbers.invariant (omega (arith, c.loop-numbers-test.false, c.as_chunks.ensures.front_len))
+returns c =
+    let all : length c.args.terms.now / 7 ≤ c.loop-numbers.numbers-index = omega (arith, c.loop-numbers-test.false, c.as_chunks.ensures.front_len) in
+    record { output = putting-ends c.loop-numbers.invariant all; count = putting-counts c.loop-numbers.invariant all }
