@@ -35,6 +35,15 @@ pub fn entries_before<T: From<u16>>() -> [T; ENTRIES_LENT]
     array::from_fn(|i| T::from(held_before(i)))
 }
 
+// The same of a list that is there already.
+fn hold_before<T: Copy + From<u16>>(list: &mut [T; ENTRIES_LENT])
+    ensures { HeldBefore T.from_gives 4096 list.new }
+{
+    for (i, entry) in list.iter_mut().enumerate() {
+        *entry = T::from(held_before(i));
+    }
+}
+
 // Entry i of a list is not as it was.
 fn is_changed<T: Copy + Into<u64>>(list: &[T], i: usize) -> bool
     requires { i < length list.now }
@@ -251,13 +260,21 @@ impl LentRoom {
     pub fn new() -> LentRoom
         ensures { RoomBefore result }
     {
-        LentRoom {
-            labels: entries_before(),
-            masks: entries_before(),
-            queue: entries_before(),
-            tallies: entries_before(),
-            pairs: entries_before(),
-        }
+        // Kept: filled where they stand. `array::from_fn`, by which `entries_before` makes a list, clears each of these four times and copies it, and with it a replay of
+        // the partition takes a third more time.
+        let mut room = LentRoom {
+            labels: [0; ENTRIES_LENT],
+            masks: [0; ENTRIES_LENT],
+            queue: [0; ENTRIES_LENT],
+            tallies: [0; ENTRIES_LENT],
+            pairs: [0; ENTRIES_LENT],
+        };
+        hold_before(&mut room.labels);
+        hold_before(&mut room.masks);
+        hold_before(&mut room.queue);
+        hold_before(&mut room.tallies);
+        hold_before(&mut room.pairs);
+        room
     }
 
     // As much of them as the opening says.
