@@ -260,8 +260,8 @@ impl LentRoom {
     pub fn new() -> LentRoom
         ensures { RoomBefore result }
     {
-        // Kept: filled where they stand. `array::from_fn`, by which `entries_before` makes a list, clears each of these four times and copies it, and with it a replay of
-        // the partition takes a third more time.
+        // Kept: filled where they stand. `array::from_fn`, by which `entries_before` makes a list, clears each of these four times and copies it, and with it a
+        // replay of the partition takes a third more time.
         let mut room = LentRoom {
             labels: [0; ENTRIES_LENT],
             masks: [0; ENTRIES_LENT],
