@@ -35,6 +35,10 @@ fn ranks_before(boundaries: &[u64], entry: Candidate, other: Candidate) -> bool
     requires { SafeKey boundaries.now entry × SafeKey boundaries.now other }
     ensures { result ≡ list_lt (key_of boundaries.now entry) (key_of boundaries.now other) }
 {
+    // Most separations differ, and then no endpoint is read.
+    if entry.separation != other.separation {
+        return entry.separation < other.separation;
+    }
     RankKey::of(boundaries, entry) < RankKey::of(boundaries, other)
 }
 

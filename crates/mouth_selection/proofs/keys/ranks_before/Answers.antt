@@ -1,8 +1,24 @@
--- `keys::ranks_before` meets its contract: two keys compare as their numbers do. Assumes nothing.
-use Rattle.std.proofs.Common.{arith}
+-- `keys::ranks_before` meets its contract: two keys compare as their numbers do, and by the separations alone where these differ. Assumes nothing.
+use Rattle.std.proofs.Common.{arith, ◌≡◌, refl, sym, ap, ◌∙◌, Bool, true, false, ◌&&◌, ◌||◌, ℕ, List, ◌∷◌}
 use Rattle.std.proofs.lemmas.Grind.{common_steps}
+use borrow.Author.Tests.{ne_eqb}
+use lib.Dec.{ltb}
 use Rattle.definitions.specs.Sort.{list_lt}
+use Rattle.mouth_selection.specs.Keys.{key_at}
 use Rattle.mouth_selection.proofs.keys.ranks_before.Goals as goal
+
+-- lists whose first numbers differ compare by these
+first_differ : (x y : ℕ) (l m : List ℕ) → (x ≡ y → ⊥) → ltb x y ≡ list_lt (x ∷ l) (y ∷ m)
+unfolding list_lt
+first_differ x y l m h = sym (ap (λ b. ltb x y || (b && list_lt l m)) (ne_eqb x y h) ∙ go (ltb x y))
+  where
+    go : (b : Bool) → (b || false) ≡ b
+    go true = refl
+    go false = refl
+
+pub returns-then-entry-other : goal.returns-then-entry-other
+unfolding key_at
+returns-then-entry-other c = first_differ c.args.entry.separation c.args.other.separation _ _ c.if-entry-other.true
 
 pub returns : goal.returns
 unfolding list_lt
