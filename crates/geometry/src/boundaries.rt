@@ -81,17 +81,17 @@ pub fn kind_at(boundaries: &[u64], i: usize) -> BoundaryKind
     BoundaryKind::from(boundaries[NUMBERS_PER_BOUNDARY * i + KIND])
 }
 
-// Kept: here and in `same_kind` the numbers are compared, not the kinds, which say the same: pass 1 asks both of each boundary for each ramp, and a kind is made
-// of its number each time.
 // Whether boundary i is an end of a ramp.
 pub fn has_ramp(boundaries: &[u64], i: usize) -> bool
     requires { HasBoundary boundaries.now i }
     ensures { result ≡ not (eqb (get_or boundaries.now (numbers_per_boundary * i + 5) 0) 0) }
 {
-    boundaries[NUMBERS_PER_BOUNDARY * i + KIND] != 0
+    kind_at(boundaries, i) != BoundaryKind::Plain
 }
 
 // Whether boundaries i and j are of one kind.
+// Kept: the numbers are compared, not the kinds, which say the same: pass 1 asks this of each boundary for each ramp, and two kinds made of their numbers take
+// it ten times as many steps.
 pub fn same_kind(boundaries: &[u64], i: usize, j: usize) -> bool
     requires { HasBoundary boundaries.now i × HasBoundary boundaries.now j }
     ensures { result ≡ eqb (get_or boundaries.now (numbers_per_boundary * i + 5) 0) (get_or boundaries.now (numbers_per_boundary * j + 5) 0) }
