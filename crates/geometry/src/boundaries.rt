@@ -91,7 +91,7 @@ pub fn has_ramp(boundaries: &[u64], i: usize) -> bool
 
 // Whether boundaries i and j are of one kind.
 // Kept: the numbers are compared, not the kinds, which say the same: pass 1 asks this of each boundary for each ramp, and two kinds made of their numbers take
-// it ten times as many steps.
+// some twenty instructions more.
 pub fn same_kind(boundaries: &[u64], i: usize, j: usize) -> bool
     requires { HasBoundary boundaries.now i × HasBoundary boundaries.now j }
     ensures { result ≡ eqb (get_or boundaries.now (numbers_per_boundary * i + 5) 0) (get_or boundaries.now (numbers_per_boundary * j + 5) 0) }
