@@ -2,7 +2,7 @@
    boundaries are apart, the reader, the writer and the converter of sheets, writer and reader of result sheets, the line of an accession record, the maps in the pool on a day, the year's
    figures, the share behind dominance, and the correctly rounded hypotenuse.
    The library is for x86-64 Linux: libjenwyllt.a and libjenwyllt.so, which tools/build_library.sh writes to target/lib. It keeps no state and allocates
-   nothing; from outside it needs only `memset`.
+   nothing; from outside it needs only `memcpy` and `memset`.
    Every function is proved to meet the definitions of crates/definitions, crates/separations, crates/catalogue, crates/results, crates/map_sheets,
    crates/report, crates/ranked_list, crates/game, crates/game_calls and crates/desks for every input that keeps to what stands here. */
 #ifndef JENWYLLT_H
