@@ -103,6 +103,33 @@ fn best_near(
 }
 
 // The best of ramp a: the least of its proposals that conflict with none taken.
+// Never put into its caller: the list is made and cleared for each ramp that may have candidates, and for no other boundary.
+#[inline(never)]
+fn best_of_candidates(
+    records: &[Region],
+    context: PartitionContext,
+    counts: &[u32],
+    taken: &Taken,
+    a: usize,
+) -> Option<Candidate>
+    requires { (C : Context) × ((chosen : List definition.MouthProposal) × (PassRampAsked C records.now context taken.now.marks.now counts.now a
+        × TakenIn C chosen taken.now)) }
+    ensures best { (C : Context) (chosen : List definition.MouthProposal) →
+        PassRampAsked C records.now context.entry taken.now.marks.now counts.now a →
+        TakenIn C chosen taken.now →
+        BestOf C chosen a result }
+    ensures left { stale_in context.entry taken.now result ≡ false }
+{
+    let mut entries = [Candidate::blank(); MAX_ENTRIES];
+    let regions = RegionMarks {
+        counts,
+        marks: &*taken.marks,
+    };
+    let n = push_ramp(context, regions, &mut entries, a);
+    best_near(records, context, taken, &entries[..n])
+}
+
+// The same of any boundary a: one that has no ramp, or is no full cut, has no candidates.
 fn best_of_ramp(
     records: &[Region],
     context: PartitionContext,
@@ -119,16 +146,10 @@ fn best_of_ramp(
     ensures left { stale_in context.entry taken.now result ≡ false }
 {
     // Most boundaries of a map have no ramp, and so no candidates: for them no list is made.
-    if !has_ramp(context.boundaries, a) {
+    if !has_ramp(context.boundaries, a) || !context.full_cut(a) {
         return None;
     }
-    let mut entries = [Candidate::blank(); MAX_ENTRIES];
-    let regions = RegionMarks {
-        counts,
-        marks: &*taken.marks,
-    };
-    let n = push_ramp(context, regions, &mut entries, a);
-    best_near(records, context, taken, &entries[..n])
+    best_of_candidates(records, context, counts, taken, a)
 }
 
 // Finds the best of each ramp.
