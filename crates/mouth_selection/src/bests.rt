@@ -55,7 +55,7 @@ fn next_best(
     requires safe { (a : ℕ) → a < context.count → OnO (SafeKey context.boundaries.now) (get_or bests.now a None) }
     ensures { (C : Context) (chosen : List MouthProposal) →
         Lists context.entry.boundaries.now context.entry.pairs.now context.entry.starts.now context.entry.count C →
-        TakenState C chosen taken.now.removed taken.now.ramp_ends taken.now.marks.now →
+        TakenState C chosen taken.now.removed.now taken.now.ramp_ends taken.now.marks.now →
         Bests C chosen bests.now context.entry.count →
         NextBest C chosen bests.now context.entry.count result }
 {
@@ -73,19 +73,20 @@ pub fn advance(
     bests: &mut [Option<Candidate>; MAX_ENTRIES],
 ) -> Option<usize>
     requires { (C : Context) × (Lists context.boundaries.now context.pairs.now context.starts.now context.count C
-        × Progress C taken.old.marks.now taken.old.removed taken.old.ramp_ends bests.old context.count) }
+        × Progress C taken.old.marks.now taken.old.removed.now taken.old.ramp_ends bests.old context.count) }
     ensures same_marks { taken.new.marks.ghost_name ≡ taken.old.marks.ghost_name }
+    ensures same_removed { taken.new.removed.ghost_name ≡ taken.old.removed.ghost_name }
     ensures long { length taken.new.marks.now ≡ length taken.old.marks.now }
-    ensures weight { weight context.entry.pairs.now context.entry.starts.now context.entry.count taken.new.marks.now taken.new.removed
+    ensures weight { weight context.entry.pairs.now context.entry.starts.now context.entry.count taken.new.marks.now taken.new.removed.now
         taken.new.ramp_ends bests.new
-        ≤ weight context.entry.pairs.now context.entry.starts.now context.entry.count taken.old.marks.now taken.old.removed
+        ≤ weight context.entry.pairs.now context.entry.starts.now context.entry.count taken.old.marks.now taken.old.removed.now
         taken.old.ramp_ends bests.old }
-    ensures stale { OnO (λ a. (a < context.entry.count) × (is_stale context.entry.pairs.now context.entry.starts.now taken.new.marks.now taken.new.removed
+    ensures stale { OnO (λ a. (a < context.entry.count) × (is_stale context.entry.pairs.now context.entry.starts.now taken.new.marks.now taken.new.removed.now
         taken.new.ramp_ends (get_or bests.new a None) ≡ true)) result }
     ensures progress { (C : Context) →
         Lists context.entry.boundaries.now context.entry.pairs.now context.entry.starts.now context.entry.count C →
-        Progress C taken.old.marks.now taken.old.removed taken.old.ramp_ends bests.old context.entry.count →
-        Advanced C taken.new.marks.now taken.new.removed taken.new.ramp_ends bests.new context.entry.count result }
+        Progress C taken.old.marks.now taken.old.removed.now taken.old.ramp_ends bests.old context.entry.count →
+        Advanced C taken.new.marks.now taken.new.removed.now taken.new.ramp_ends bests.new context.entry.count result }
 {
     while let Some(best) = next_best(context, &*taken, &*bests) {
         let proposal = best.proposal();

@@ -26,7 +26,7 @@ use mouth_proposals::candidates::MouthProposal;
 #[derive(Drop)]
 pub struct Taken<'a> {
     pub marks: &'a mut [u16],
-    pub removed: [bool; MAX_ENTRIES],
+    pub removed: &'a mut [bool; MAX_ENTRIES],
     pub ramp_ends: [bool; MAX_ENTRIES],
 }
 
@@ -54,17 +54,18 @@ impl Taken<'_> {
     pub fn is_left(&self, context: PartitionContext, proposal: MouthProposal) -> bool
         requires safe { SafeMouth context.pairs.now context.starts.now self.now.marks.now proposal.mouth proposal.outer }
         requires ramp_within { proposal.ramp < max_entries }
-        ensures marked { result ≡ left_at context.entry.pairs.now context.entry.starts.now self.now.marks.now self.now.removed self.now.ramp_ends
+        ensures marked { result ≡ left_at context.entry.pairs.now context.entry.starts.now self.now.marks.now self.now.removed.now self.now.ramp_ends
             proposal }
         ensures left { (C : Context) (taken : List definition.MouthProposal) →
             ShownPairs C context.entry.pairs.now context.entry.starts.now →
-            TakenState C taken self.now.removed self.now.ramp_ends self.now.marks.now →
+            TakenState C taken self.now.removed.now self.now.ramp_ends self.now.marks.now →
             proposal.mouth < C.count →
             proposal.ramp < C.count →
             Numbered C.regions proposal.outer →
             result ≡ not (is_refused C taken (proposal_as C proposal)) }
     {
-        let is_used = self.removed[proposal.mouth] | self.ramp_ends[proposal.ramp];
+        let removed = &*self.removed;
+        let is_used = removed[proposal.mouth] | self.ramp_ends[proposal.ramp];
         !is_used && !proposal_held(context, &*self.marks, proposal)
     }
 
@@ -74,21 +75,23 @@ impl Taken<'_> {
         requires ramp_within { proposal.ramp < context.count }
         requires safe { SafeMouth context.pairs.now context.starts.now self.old.marks.now proposal.mouth proposal.outer }
         ensures same_marks { self.new.marks.ghost_name ≡ self.old.marks.ghost_name }
+        ensures same_removed { self.new.removed.ghost_name ≡ self.old.removed.ghost_name }
         ensures taken { (C : Context) (taken : List definition.MouthProposal) →
             C.count ≡ context.entry.count →
             ShownBoundaries C context.entry.boundaries.now →
             ShownPairs C context.entry.pairs.now context.entry.starts.now →
             C.regions ≤ length self.old.marks.now →
-            TakenState C taken self.old.removed self.old.ramp_ends self.old.marks.now →
+            TakenState C taken self.old.removed.now self.old.ramp_ends self.old.marks.now →
             proposal.mouth < C.count →
             Numbered C.regions proposal.outer →
             is_refused C taken (proposal_as C proposal) ≡ false →
             TakenState C (taken ++ (proposal_as C proposal ∷ []))
-            self.new.removed self.new.ramp_ends self.new.marks.now }
+            self.new.removed.now self.new.ramp_ends self.new.marks.now }
         ensures long { length self.new.marks.now ≡ length self.old.marks.now }
         ensures odd_parts { (i : ℕ) → i < length self.old.marks.now → get_or self.new.marks.now i 0 % 2 ≡ get_or self.old.marks.now i 0 % 2 }
     {
-        self.removed[proposal.mouth] = true;
+        let removed = &mut *self.removed;
+        removed[proposal.mouth] = true;
         use_end(context, &mut self.ramp_ends, proposal.ramp);
         hold_proposal(context, &mut *self.marks, proposal);
     }
@@ -102,12 +105,13 @@ impl Taken<'_> {
         ensures { (C : Context) (taken : List definition.MouthProposal) →
             ShownBoundaries C context.entry.boundaries.now →
             ShownPairs C context.entry.pairs.now context.entry.starts.now →
-            TakenState C taken self.now.removed self.now.ramp_ends self.now.marks.now →
+            TakenState C taken self.now.removed.now self.now.ramp_ends self.now.marks.now →
             m < C.count →
             result ≡ true →
             Gone C taken m }
     {
-        if has_ramp(context.boundaries, m) | self.removed[m] {
+        let removed = &*self.removed;
+        if has_ramp(context.boundaries, m) | removed[m] {
             return true;
         }
         let rows = context.rows(m);
@@ -124,7 +128,7 @@ impl Taken<'_> {
         requires rows { NamedRows context.pairs.now context.starts.now context.count (length self.now.marks.now) }
         ensures { (C : Context) (taken : List definition.MouthProposal) →
             Lists context.entry.boundaries.now context.entry.pairs.now context.entry.starts.now context.entry.count C →
-            TakenState C taken self.now.removed self.now.ramp_ends self.now.marks.now →
+            TakenState C taken self.now.removed.now self.now.ramp_ends self.now.marks.now →
             result ≡ true →
             None ≡ least_among C taken (proposals C) }
     {

@@ -107,10 +107,10 @@ PassReplaces C records given = Replaces C records given.boundaries.now given.tal
 
 -- the same of what is taken, as a function takes it
 abbrev pub TakenIn : Context → List MouthProposal → Taken → Type 0
-TakenIn C chosen t = TakenState C chosen t.removed t.ramp_ends t.marks.now
+TakenIn C chosen t = TakenState C chosen t.removed.now t.ramp_ends t.marks.now
 
 abbrev pub ProgressIn : Context → Taken → List (Option Candidate) → ℕ → Type 0
-ProgressIn C t = Progress C t.marks.now t.removed t.ramp_ends
+ProgressIn C t = Progress C t.marks.now t.removed.now t.ramp_ends
 
 abbrev pub stale_in : PartitionContext → Taken → Option Candidate → Bool
-stale_in given t = is_stale given.pairs.now given.starts.now t.marks.now t.removed t.ramp_ends
+stale_in given t = is_stale given.pairs.now given.starts.now t.marks.now t.removed.now t.ramp_ends

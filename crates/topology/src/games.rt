@@ -14,7 +14,7 @@ use call_partition::Ready;
 use call_partition::asked::Asked;
 use checks::passes::Pass;
 use context::Region;
-use definitions::limits::NUMBERS_PER_BOUNDARY;
+use definitions::limits::{MAX_ENTRIES, NUMBERS_PER_BOUNDARY};
 use game_lists::checked::prepare_game;
 use game_lists::kept::divide_kept;
 use game_lists::play::play;
@@ -42,7 +42,8 @@ pub fn run_kept(
     let grid = asked.grid();
     let room = records.len();
     fill(records, ready.regions, grid, &*lists);
-    let removed = mark_asked(pass, asked, ready, records, lists);
+    let mut removed = [false; MAX_ENTRIES];
+    mark_asked(pass, asked, ready, records, lists, &mut removed);
     let graph = divide_kept(grid, asked.spans, &removed, ready.rows, room, lists);
     renew(records, ready.regions, graph.regions, grid, &*lists);
     let kept = finish(

@@ -25,7 +25,7 @@ use areas::lists::PartitionLists;
 use call_partition::asked::Asked;
 use call_partition::prepare;
 use context::Region;
-use definitions::limits::NUMBERS_PER_BOUNDARY;
+use definitions::limits::{MAX_ENTRIES, NUMBERS_PER_BOUNDARY};
 use marks::mark_asked;
 use pass_lists::finish;
 use records::fill;
@@ -46,7 +46,8 @@ pub fn topology_kept_boundaries(
     let (pass, ready) = prepare(pass, asked, records.len(), output.len(), lists)?;
     let grid = asked.grid();
     fill(records, ready.regions, grid, &*lists);
-    let removed = mark_asked(pass, asked, ready, records, lists);
+    let mut removed = [false; MAX_ENTRIES];
+    mark_asked(pass, asked, ready, records, lists, &mut removed);
     let kept = finish(
         grid.height * grid.width,
         asked.boundaries.len() / NUMBERS_PER_BOUNDARY,

@@ -62,19 +62,21 @@ pub fn removed_marks(
     }
 }
 
-// Views the partitioned map and gives the marks of what the pass removes: none, where there are not as many boundaries as spans. The pass is lent as much of
-// masks and queue as there are regions.
+// Views the partitioned map and marks what the pass removes: none, where there are not as many boundaries as spans. What was marked before does not count. The
+// pass is lent as much of masks and queue as there are regions.
+// Kept: the marks are lent, and not given: each function that gives such a list has it on the stack once or twice more.
 pub fn mark_removed(
     pass: Pass,
     records: &[Region],
     partition: SpanPartition,
     masks: &mut [u16],
     queue: &mut [u32],
-) -> [bool; MAX_ENTRIES]
+    removed: &mut [bool; MAX_ENTRIES],
+)
     requires { (M : Map) × LentAs M records.now partition (length masks.old) (length queue.old) }
     ensures { (M : Map) → LentAs M records.now partition.entry (length masks.old) (length queue.old)
         → MarkedFor (pass_number pass) M partition.entry.needed partition.entry.count partition.entry.boundaries.now
-        masks.old queue.old masks.new queue.new (replicate max_entries false) result }
+        masks.old queue.old masks.new queue.new (replicate max_entries false) removed.new }
 {
     let SpanPartition {
         regions,
@@ -84,9 +86,9 @@ pub fn mark_removed(
         pairs,
         ..
     } = partition;
-    let mut removed = [false; MAX_ENTRIES];
+    *removed = [false; MAX_ENTRIES];
     if boundaries.len() / NUMBERS_PER_BOUNDARY != count {
-        return removed;
+        return;
     }
     let mut starts = [0usize; MAX_ENTRIES + 1];
     let mut full: [Option<Pair>; MAX_ENTRIES] = [None; MAX_ENTRIES];
@@ -106,12 +108,11 @@ pub fn mark_removed(
         &full,
         &mut masks[..regions],
         &mut queue[..regions],
-        &mut removed,
+        removed,
     );
-    removed
 }
 
-// The marks of the boundaries that the pass removes of what a call is asked: labels, tallies and pairs are those of its partition.
+// Marks the boundaries that the pass removes of what a call is asked: labels, tallies and pairs are those of its partition.
 // Kept: the lists one by one. With `PartitionLists` this function would lend three of them to `SpanPartition`, and behind a loan by a struct a proof does not
 // know that a list is as it was.
 fn mark_lent(
@@ -124,12 +125,13 @@ fn mark_lent(
     pairs: &[u32],
     masks: &mut [u16],
     queue: &mut [u32],
-) -> [bool; MAX_ENTRIES]
+    removed: &mut [bool; MAX_ENTRIES],
+)
     requires few { asked.height * asked.width ≤ max_cells }
     requires map_shown { (M : Map) × AskedLent M records.now asked ready labels.now tallies.now pairs.now (length masks.old) (length queue.old) }
     ensures { (M : Map) → AskedLent M records.now asked.entry ready labels.now tallies.now pairs.now (length masks.old) (length queue.old)
         → MarkedFor (pass_number pass) M (asked.entry.height * asked.entry.width) (length asked.entry.spans.now / numbers_per_span)
-        asked.entry.boundaries.now masks.old queue.old masks.new queue.new (replicate max_entries false) result }
+        asked.entry.boundaries.now masks.old queue.old masks.new queue.new (replicate max_entries false) removed.new }
 {
     let width = asked.width as usize;
     // Kept: `mark_ranked` makes the same; a function of both would promise each of the ten fields, and be longer than the two literals.
@@ -145,7 +147,7 @@ fn mark_lent(
         tallies,
         pairs,
     };
-    mark_removed(pass, records, partition, masks, queue)
+    mark_removed(pass, records, partition, masks, queue, removed)
 }
 
 // The same of the lists that the partition filled.
@@ -155,7 +157,8 @@ pub(crate) fn mark_asked(
     ready: Ready,
     records: &[Region],
     lists: &mut PartitionLists,
-) -> [bool; MAX_ENTRIES]
+    removed: &mut [bool; MAX_ENTRIES],
+)
     requires few { asked.height * asked.width ≤ max_cells }
     requires map_shown { (M : Map) × AskedLent M records.now asked ready lists.old.labels.now lists.old.tallies.now lists.old.pairs.now
         (length lists.old.masks.now) (length lists.old.queue.now) }
@@ -163,7 +166,7 @@ pub(crate) fn mark_asked(
         (length lists.old.masks.now) (length lists.old.queue.now)
         → MarkedFor (pass_number pass) M (asked.entry.height * asked.entry.width) (length asked.entry.spans.now / numbers_per_span)
         asked.entry.boundaries.now lists.old.masks.now lists.old.queue.now
-        lists.new.masks.now lists.new.queue.now (replicate max_entries false) result }
+        lists.new.masks.now lists.new.queue.now (replicate max_entries false) removed.new }
     ensures read { SameFilled lists.old lists.new }
     ensures same { SameLists lists.old lists.new }
 {
@@ -181,5 +184,6 @@ pub(crate) fn mark_asked(
         &*pairs,
         lists.masks,
         lists.queue,
+        removed,
     )
 }

@@ -191,7 +191,7 @@ pub fn replace_ramp_mouths(
 {
     let mut taken = Taken {
         marks,
-        removed: *removed,
+        removed,
         ramp_ends: [false; MAX_ENTRIES],
     };
     let mut bests = [None; MAX_ENTRIES];
@@ -199,5 +199,4 @@ pub fn replace_ramp_mouths(
     while let Some(a) = advance(context, &mut taken, &mut bests) {
         bests[a] = best_of_ramp(records, context, counts, &taken, a);
     }
-    *removed = taken.removed;
 }

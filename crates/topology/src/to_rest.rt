@@ -67,7 +67,9 @@ fn mark_kept<'x>(
         regions: standing.regions,
         rows: standing.rows,
     };
-    mark_asked(pass, asked, ready, records, lists)
+    let mut removed = [false; MAX_ENTRIES];
+    mark_asked(pass, asked, ready, records, lists, &mut removed);
+    removed
 }
 
 // Kept: grid, anchors and the first partition stay, the lists change. In a struct of all of them each contract would say of its fields what it says of the

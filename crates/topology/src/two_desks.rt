@@ -15,7 +15,7 @@ use call_answers::desk_answers::{DeskOrder, DesksKept};
 use call_partition::Ready;
 use call_partition::asked::Asked;
 use context::Region;
-use definitions::limits::NUMBERS_PER_BOUNDARY;
+use definitions::limits::{MAX_ENTRIES, NUMBERS_PER_BOUNDARY};
 use desk_checks::own::{Desk, check_desk};
 use desk_checks::shared::prepare_shared;
 use pass_lists::finish;
@@ -59,7 +59,8 @@ pub fn run_desk(
         ..shared
     };
     let grid = asked.grid();
-    let removed = mark_asked(pass, asked, terrain.ready, records, lists);
+    let mut removed = [false; MAX_ENTRIES];
+    mark_asked(pass, asked, terrain.ready, records, lists, &mut removed);
     let kept = finish(
         grid.height * grid.width,
         desk.boundaries.len() / NUMBERS_PER_BOUNDARY,

@@ -20,28 +20,28 @@ fill-requires c =
     let R = (when_named c.prepare.ensures.prepared c.in_ok-pass.was).1 in
     (_, fills-on (grid_in c.args.asked) c.grid-grid.ensures (ready_fills R c.prepare.ensures.same.queue_long_lem))
 
-pub mark_asked-removed-requires-clause-map_shown : goal.mark_asked-removed-requires-clause-map_shown
-mark_asked-removed-requires-clause-map_shown c =
+pub mark_asked-requires-clause-map_shown : goal.mark_asked-requires-clause-map_shown
+mark_asked-requires-clause-map_shown c =
     let R = (when_named c.prepare.ensures.prepared c.in_ok-pass.was).1 in
     let same = c.prepare.ensures.same in
     let F = c.fill.ensures _ (fills-on (grid_in c.args.asked) c.grid-grid.ensures (ready_fills R same.queue_long_lem)) in
     (_, ready-lent R F same.masks_long same.queue_long_lem)
 
-pub mark_asked-removed-requires-clause-few : goal.mark_asked-removed-requires-clause-few
-mark_asked-removed-requires-clause-few c = needed-few (when_named c.prepare.ensures.prepared c.in_ok-pass.was).1
+pub mark_asked-requires-clause-few : goal.mark_asked-requires-clause-few
+mark_asked-requires-clause-few c = needed-few (when_named c.prepare.ensures.prepared c.in_ok-pass.was).1
 
 pub finish-kept-requires : goal.finish-kept-requires
 finish-kept-requires c =
     let R = (when_named c.prepare.ensures.prepared c.in_ok-pass.was).1 in
     let same = c.prepare.ensures.same in
     rw c.grid-grid.ensures
-    (ready_finishes R (c.mark_asked-removed.ensures.same.masks_long ∙ same.masks_long) (c.mark_asked-removed.ensures.same.queue_long_lem ∙ same.queue_long_lem))
+    (ready_finishes R (c.mark_asked.ensures.same.masks_long ∙ same.masks_long) (c.mark_asked.ensures.same.queue_long_lem ∙ same.queue_long_lem))
 
 pub returns-clause-ran : goal.returns-clause-ran
 returns-clause-ran c =
     let P = when_named c.prepare.ensures.prepared c.in_ok-pass.was in
     let same = c.prepare.ensures.same in
     let F = c.fill.ensures _ (fills-on (grid_in c.args.asked) c.grid-grid.ensures (ready_fills P.1 same.queue_long_lem)) in
-    let K = marked_as _ _ _ _ P.0 (c.mark_asked-removed.ensures.marked _ (ready-lent P.1 F same.masks_long same.queue_long_lem)) in
-    let read = c.mark_asked-removed.ensures.read in
+    let K = marked_as _ _ _ _ P.0 (c.mark_asked.ensures.marked _ (ready-lent P.1 F same.masks_long same.queue_long_lem)) in
+    let read = c.mark_asked.ensures.read in
     rw read.labels (rw read.tallies (rw read.pairs (ran_over P.1 F K refl refl (finished-on (grid_in c.args.asked) c.grid-grid.ensures c.finish-kept.ensures))))

@@ -36,7 +36,7 @@ module _ (c : goal.At-loop-best) where
   abbrev shown : Lists c.args.context.boundaries.now c.args.context.pairs.now c.args.context.starts.now c.args.context.count C₀
   shown = c.requires.1.0
 
-  abbrev known : Progress C₀ c.loop-best.taken.marks.now c.loop-best.taken.removed c.loop-best.taken.ramp_ends c.loop-best.bests c.args.context.count
+  abbrev known : Progress C₀ c.loop-best.taken.marks.now c.loop-best.taken.removed.now c.loop-best.taken.ramp_ends c.loop-best.bests c.args.context.count
   known = c.loop-best.invariant.1.1 C₀ shown c.requires.1.1
 
 -- p is the next best
@@ -132,7 +132,7 @@ loop-best-preserved c =
     let head = (goal.at.loop-best-preserved c).At-loop-best in
     let inv = c.loop-best.invariant in
     let T = c.take.ensures in (
-      (T.same_marks ∙ inv.0.0, T.long ∙ inv.0.1),
+      (T.same_marks ∙ inv.0.0, (T.long ∙ inv.0.1.0, T.same_removed ∙ inv.0.1.1)),
       (
         le_trans (weight-taken _ _ _ _ _ _ _ _ _ _ (omega (arith, (shown head).counted, (shown head).bounds.few)) (loop-best-smaller c)) inv.1.0,
         λ C L P₀.

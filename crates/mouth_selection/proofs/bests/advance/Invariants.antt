@@ -11,12 +11,13 @@ use Rattle.mouth_selection.proofs.bests.advance.Given as goal
 
 abbrev pub invariant-loop-best : goal.invariant-loop-best
 invariant-loop-best l =
-    ((l.taken.marks.ghost_name ≡ l.initial.taken.marks.ghost_name) × (length l.taken.marks.now ≡ length l.initial.taken.marks.now))
-    × ((weight l.context.pairs.now l.context.starts.now l.context.count l.taken.marks.now l.taken.removed l.taken.ramp_ends l.bests
-    ≤ weight l.context.pairs.now l.context.starts.now l.context.count l.initial.taken.marks.now l.initial.taken.removed l.initial.taken.ramp_ends l.initial.bests)
+    ((l.taken.marks.ghost_name ≡ l.initial.taken.marks.ghost_name) × ((length l.taken.marks.now ≡ length l.initial.taken.marks.now)
+    × (l.taken.removed.ghost_name ≡ l.initial.taken.removed.ghost_name)))
+    × ((weight l.context.pairs.now l.context.starts.now l.context.count l.taken.marks.now l.taken.removed.now l.taken.ramp_ends l.bests
+    ≤ weight l.context.pairs.now l.context.starts.now l.context.count l.initial.taken.marks.now l.initial.taken.removed.now l.initial.taken.ramp_ends l.initial.bests)
     × ((C : Context) → Lists l.context.boundaries.now l.context.pairs.now l.context.starts.now l.context.count C
-    → Progress C l.initial.taken.marks.now l.initial.taken.removed l.initial.taken.ramp_ends l.initial.bests l.context.count
-    → Progress C l.taken.marks.now l.taken.removed l.taken.ramp_ends l.bests l.context.count))
+    → Progress C l.initial.taken.marks.now l.initial.taken.removed.now l.initial.taken.ramp_ends l.initial.bests l.context.count
+    → Progress C l.taken.marks.now l.taken.removed.now l.taken.ramp_ends l.bests l.context.count))
 
 abbrev pub decreases-loop-best : goal.decreases-loop-best
-decreases-loop-best l = count_below l.context.count (λ i. not (get_or l.taken.removed i false))
+decreases-loop-best l = count_below l.context.count (λ i. not (get_or l.taken.removed.now i false))

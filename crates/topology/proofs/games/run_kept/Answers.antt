@@ -11,27 +11,27 @@ overflow_mul-grid c = rw c.grid-grid.ensures (record { fits = omega (arith, need
 pub fill-requires : goal.fill-requires
 fill-requires c = (_, fills-on (grid_in c.args.asked) c.grid-grid.ensures (runs_fills c.requires.1))
 
-pub mark_asked-removed-requires-clause-map_shown : goal.mark_asked-removed-requires-clause-map_shown
-mark_asked-removed-requires-clause-map_shown c = let G = c.requires.1 in (_, runs-lent G (c.fill.ensures _ (fills-on (grid_in c.args.asked) c.grid-grid.ensures (runs_fills G))))
+pub mark_asked-requires-clause-map_shown : goal.mark_asked-requires-clause-map_shown
+mark_asked-requires-clause-map_shown c = let G = c.requires.1 in (_, runs-lent G (c.fill.ensures _ (fills-on (grid_in c.args.asked) c.grid-grid.ensures (runs_fills G))))
 
-pub mark_asked-removed-requires-clause-few : goal.mark_asked-removed-requires-clause-few
-mark_asked-removed-requires-clause-few c = needed-few c.requires.1.ready.ready
+pub mark_asked-requires-clause-few : goal.mark_asked-requires-clause-few
+mark_asked-requires-clause-few c = needed-few c.requires.1.ready.ready
 
 pub divide_kept-graph-requires : goal.divide_kept-graph-requires
 divide_kept-graph-requires c =
     let G = c.requires.1 in
     let F = c.fill.ensures _ (fills-on (grid_in c.args.asked) c.grid-grid.ensures (runs_fills G)) in
-    let read = c.mark_asked-removed.ensures.read in
-    let D = c.mark_asked-removed.ensures.marked _ (runs-lent G F) in
-    (source G, divides-on (grid_in c.args.asked) c.grid-grid.ensures (divides-still read.labels read.tallies read.pairs (runs_divides G F c.mark_asked-removed.ensures.same.masks_long c.mark_asked-removed.ensures.same.queue_long_lem D)))
+    let read = c.mark_asked.ensures.read in
+    let D = c.mark_asked.ensures.marked _ (runs-lent G F) in
+    (source G, divides-on (grid_in c.args.asked) c.grid-grid.ensures (divides-still read.labels read.tallies read.pairs (runs_divides G F c.mark_asked.ensures.same.masks_long c.mark_asked.ensures.same.queue_long_lem D)))
 
 pub renew-requires-clause-first_in : goal.renew-requires-clause-first_in
 renew-requires-clause-first_in c =
     let G = c.requires.1 in
     let F = c.fill.ensures _ (fills-on (grid_in c.args.asked) c.grid-grid.ensures (runs_fills G)) in
-    let read = c.mark_asked-removed.ensures.read in
-    let D = c.mark_asked-removed.ensures.marked _ (runs-lent G F) in
-    let m = c.mark_asked-removed.ensures.same in
+    let read = c.mark_asked.ensures.read in
+    let D = c.mark_asked.ensures.marked _ (runs-lent G F) in
+    let m = c.mark_asked.ensures.same in
     let d = c.divide_kept-graph.ensures.same in
     let S = divides-on (grid_in c.args.asked) c.grid-grid.ensures (divides-still read.labels read.tallies read.pairs (runs_divides G F m.masks_long m.queue_long_lem D)) in
     let N = kept-still read.labels read.tallies read.pairs (kept-on (grid_in c.args.asked) c.grid-grid.ensures (c.divide_kept-graph.ensures.divided (source G) S)) in
@@ -41,9 +41,9 @@ pub renew-requires-clause-map_shown : goal.renew-requires-clause-map_shown
 renew-requires-clause-map_shown c =
     let G = c.requires.1 in
     let F = c.fill.ensures _ (fills-on (grid_in c.args.asked) c.grid-grid.ensures (runs_fills G)) in
-    let read = c.mark_asked-removed.ensures.read in
-    let D = c.mark_asked-removed.ensures.marked _ (runs-lent G F) in
-    let m = c.mark_asked-removed.ensures.same in
+    let read = c.mark_asked.ensures.read in
+    let D = c.mark_asked.ensures.marked _ (runs-lent G F) in
+    let m = c.mark_asked.ensures.same in
     let d = c.divide_kept-graph.ensures.same in
     let S = divides-on (grid_in c.args.asked) c.grid-grid.ensures (divides-still read.labels read.tallies read.pairs (runs_divides G F m.masks_long m.queue_long_lem D)) in
     let N = kept-still read.labels read.tallies read.pairs (kept-on (grid_in c.args.asked) c.grid-grid.ensures (c.divide_kept-graph.ensures.divided (source G) S)) in
@@ -53,9 +53,9 @@ pub finish-kept-requires : goal.finish-kept-requires
 finish-kept-requires c =
     let G = c.requires.1 in
     let F = c.fill.ensures _ (fills-on (grid_in c.args.asked) c.grid-grid.ensures (runs_fills G)) in
-    let read = c.mark_asked-removed.ensures.read in
-    let D = c.mark_asked-removed.ensures.marked _ (runs-lent G F) in
-    let m = c.mark_asked-removed.ensures.same in
+    let read = c.mark_asked.ensures.read in
+    let D = c.mark_asked.ensures.marked _ (runs-lent G F) in
+    let m = c.mark_asked.ensures.same in
     let d = c.divide_kept-graph.ensures.same in
     let S = divides-on (grid_in c.args.asked) c.grid-grid.ensures (divides-still read.labels read.tallies read.pairs (runs_divides G F m.masks_long m.queue_long_lem D)) in
     let N = kept-still read.labels read.tallies read.pairs (kept-on (grid_in c.args.asked) c.grid-grid.ensures (c.divide_kept-graph.ensures.divided (source G) S)) in
@@ -64,9 +64,9 @@ finish-kept-requires c =
 pub returns-clause-kept : goal.returns-clause-kept
 returns-clause-kept c = λ B G.
     let F = c.fill.ensures _ (fills-on (grid_in c.args.asked) c.grid-grid.ensures (runs_fills G)) in
-    let read = c.mark_asked-removed.ensures.read in
-    let D = c.mark_asked-removed.ensures.marked _ (runs-lent G F) in
-    let m = c.mark_asked-removed.ensures.same in
+    let read = c.mark_asked.ensures.read in
+    let D = c.mark_asked.ensures.marked _ (runs-lent G F) in
+    let m = c.mark_asked.ensures.same in
     let d = c.divide_kept-graph.ensures.same in
     let S = divides-on (grid_in c.args.asked) c.grid-grid.ensures (divides-still read.labels read.tallies read.pairs (runs_divides G F m.masks_long m.queue_long_lem D)) in
     let N = kept-still read.labels read.tallies read.pairs (kept-on (grid_in c.args.asked) c.grid-grid.ensures (c.divide_kept-graph.ensures.divided (source G) S)) in

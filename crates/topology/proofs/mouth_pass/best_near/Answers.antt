@@ -61,14 +61,14 @@ pub fold-requires-clause-callable : goal.fold-requires-clause-callable
 fold-requires-clause-callable c =
     let s = c.args in
     let t = s.taken.now in
-    callable_in_fold (YieldsList-from_slice s.entries.now cc) _ _ (Kept s.records.now s.context t.marks.now t.removed t.ramp_ends s.entries.now) None
+    callable_in_fold (YieldsList-from_slice s.entries.now cc) _ _ (Kept s.records.now s.context t.marks.now t.removed.now t.ramp_ends s.entries.now) None
     (λ b x k q r at i w.
     let item : x.now ≡ get_or s.entries.now k blank = at.1 ∙ get_or_default s.entries.now k x.now blank at.0 in
-    let better : Better s.records.now s.context t.marks.now t.removed t.ramp_ends s.entries.now k b r = subst (BetterAt s.records.now s.context t.marks.now t.removed t.ramp_ends b r) item (search rules) in
-    let left : Left s.records.now s.context t.marks.now t.removed t.ramp_ends s.entries.now b r = search rules in
-    let m = more s.records.now s.context t.marks.now t.removed t.ramp_ends s.entries.now at.0 i better left in
+    let better : Better s.records.now s.context t.marks.now t.removed.now t.ramp_ends s.entries.now k b r = subst (BetterAt s.records.now s.context t.marks.now t.removed.now t.ramp_ends b r) item (search rules) in
+    let left : Left s.records.now s.context t.marks.now t.removed.now t.ramp_ends s.entries.now b r = search rules in
+    let m = more s.records.now s.context t.marks.now t.removed.now t.ramp_ends s.entries.now at.0 i better left in
     (search rules, m))
-    (start s.records.now s.context t.marks.now t.removed t.ramp_ends s.entries.now)
+    (start s.records.now s.context t.marks.now t.removed.now t.ramp_ends s.entries.now)
     (λ b x k at i.
     let C = c.requires.asked.0 in
     let A = c.requires.asked.1.1.0 in
@@ -80,13 +80,13 @@ pub returns : goal.returns
 returns c =
     let s = c.args in
     let t = s.taken.now in
-    let end = kept_by_fold (YieldsList-from_slice s.entries.now cc) _ _ (Kept s.records.now s.context t.marks.now t.removed t.ramp_ends s.entries.now) None
+    let end = kept_by_fold (YieldsList-from_slice s.entries.now cc) _ _ (Kept s.records.now s.context t.marks.now t.removed.now t.ramp_ends s.entries.now) None
     (λ b x k q r at i w.
     let item : x.now ≡ get_or s.entries.now k blank = at.1 ∙ get_or_default s.entries.now k x.now blank at.0 in
-    let better : Better s.records.now s.context t.marks.now t.removed t.ramp_ends s.entries.now k b r = subst (BetterAt s.records.now s.context t.marks.now t.removed t.ramp_ends b r) item (search rules) in
-    let left : Left s.records.now s.context t.marks.now t.removed t.ramp_ends s.entries.now b r = search rules in
-    let m = more s.records.now s.context t.marks.now t.removed t.ramp_ends s.entries.now at.0 i better left in
+    let better : Better s.records.now s.context t.marks.now t.removed.now t.ramp_ends s.entries.now k b r = subst (BetterAt s.records.now s.context t.marks.now t.removed.now t.ramp_ends b r) item (search rules) in
+    let left : Left s.records.now s.context t.marks.now t.removed.now t.ramp_ends s.entries.now b r = search rules in
+    let m = more s.records.now s.context t.marks.now t.removed.now t.ramp_ends s.entries.now at.0 i better left in
     (search rules, m))
-    (start s.records.now s.context t.marks.now t.removed t.ramp_ends s.entries.now) _ c.fold.ensures.ran
+    (start s.records.now s.context t.marks.now t.removed.now t.ramp_ends s.entries.now) _ c.fold.ensures.ran
     in
     record { least = end.1; left = end.0 }

@@ -49,4 +49,4 @@ returns c = λ C m R P₀.
     let few = length-take-le c.args.context.count c.args.bests.now (omega (arith, R.shows.counted, R.shows.bounds.few, long)) in
     let now = c.args.taken.now in
     let done : at.a ≡ c.args.context.count = omega (arith, at.auto.a-end, c.loop-a-test.false, few) in
-    subst (Progress C now.marks.now now.removed now.ramp_ends _) done (bests-front _ (omega (arith, at.invariant.0, done)) (at.invariant.1 C m R P₀))
+    subst (Progress C now.marks.now now.removed.now now.ramp_ends _) done (bests-front _ (omega (arith, at.invariant.0, done)) (at.invariant.1 C m R P₀))

@@ -11,4 +11,4 @@ use Rattle.topology.proofs.mouth_pass.find_bests.Given as goal
 abbrev pub invariant-loop-a : goal.invariant-loop-a
 invariant-loop-a l =
     (length l.best-items ≡ l.context.count) × ((C : Context) (marks₀ : List ℕ) → PassReplaces C l.records l.context marks₀ l.counts
-    → Progress C l.taken.marks.now l.taken.removed l.taken.ramp_ends l.fn.bests 0 → Progress C l.taken.marks.now l.taken.removed l.taken.ramp_ends l.best-items l.a)
+    → Progress C l.taken.marks.now l.taken.removed.now l.taken.ramp_ends l.fn.bests 0 → Progress C l.taken.marks.now l.taken.removed.now l.taken.ramp_ends l.best-items l.a)

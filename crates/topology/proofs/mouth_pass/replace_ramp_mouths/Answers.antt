@@ -16,13 +16,13 @@ find_bests-requires c =
     (c.requires.lists_show.0, (c.args.marks.now, (R, pass-starts R c.requires.none_marked (none_set 256))))
 
 pub loop-a-init : goal.loop-a-init
-loop-a-init c = (refl, (refl, λ C R. c.find_bests.ensures C c.args.marks.now R (pass-starts R c.requires.none_marked (none_set 256))))
+loop-a-init c = (refl, (refl, (refl, λ C R. c.find_bests.ensures C c.args.marks.now R (pass-starts R c.requires.none_marked (none_set 256)))))
 
 pub best_of_ramp-requires : goal.best_of_ramp-requires
 best_of_ramp-requires c =
     let C = c.requires.lists_show.0 in
     let R = c.requires.lists_show.1 in
-    let P = (c.advance.ensures.progress C (pass-lists R) (c.loop-a.invariant.1.1 C R)).progress in
+    let P = (c.advance.ensures.progress C (pass-lists R) (c.loop-a.invariant.1.1.1 C R)).progress in
     (C, (P.chosen, (pass-ramp R P.anchored (of_some c.in-Some.is c.advance.ensures.stale).0, P.state)))
 
 pub offset_bounds-bests-a : goal.offset_bounds-bests-a
@@ -54,9 +54,12 @@ loop-a-preserved c =
     let long : length c.advance.new.bests ≡ 256 = search rules in (
       E.same_marks ∙ inv.0,
       (
-        E.long ∙ inv.1.0,
-        λ C R.
-            let P = (E.progress C (pass-lists R) (inv.1.1 C R)).progress in
-            best_put P (c.best_of_ramp.ensures.best C P.chosen (pass-ramp R P.anchored below) P.state) (omega (arith, below, R.shows.counted, R.shows.bounds.few, long)) (λ i h d. h),
+        E.same_removed ∙ inv.1.0,
+        (
+          E.long ∙ inv.1.1.0,
+          λ C R.
+              let P = (E.progress C (pass-lists R) (inv.1.1.1 C R)).progress in
+              best_put P (c.best_of_ramp.ensures.best C P.chosen (pass-ramp R P.anchored below) P.state) (omega (arith, below, R.shows.counted, R.shows.bounds.few, long)) (λ i h d. h),
+        ),
       ),
     )

@@ -16,7 +16,7 @@ pub returns : goal.returns
 returns c =
     let now = c.args.self.now in
     let Found : ℕ → Type 0 = λ m. (C : Context) (T : List MouthProposal) → ShownBoundaries C c.args.context.boundaries.now → ShownPairs C c.args.context.pairs.now c.args.context.starts.now
-    → TakenState C T now.removed now.ramp_ends now.marks.now → m < C.count → true ≡ true → Gone C T m in
+    → TakenState C T now.removed.now now.ramp_ends now.marks.now → m < C.count → true ≡ true → Gone C T m in
     let each = all_from_range _ _ _ c.all.result Found (λ m. Unit {0}) c.all.ensures.ran (λ m q k. search (rules, tests)) (λ m q k. tt) in
     λ C T L S e.
     all_none C T (λ m h. subst (λ r. MatchBool r ((k : ℕ) → 0 ≤ k → k < c.args.context.count → Found k) ((k : ℕ) × (0 ≤ k) × (k < c.args.context.count) × Unit {0})) e each m (omega arith) (omega (arith, h, L.counted)) C T L.bounds L.rows S h refl)

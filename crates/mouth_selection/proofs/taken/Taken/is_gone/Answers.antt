@@ -12,12 +12,12 @@ use Rattle.context.specs.Shown.{pair_at}
 use Rattle.mouth_selection.proofs.GoneMouths.{gone-ramp, gone-removed, gone_held}
 use Rattle.mouth_selection.proofs.taken.Taken.is_gone.Goals as goal
 
-pub returns-then-has_ramp-self : goal.returns-then-has_ramp-self
-returns-then-has_ramp-self c =
+pub returns-then-has_ramp-removed : goal.returns-then-has_ramp-removed
+returns-then-has_ramp-removed c =
     let s = c.args in
     λ C T B P S hm e.
     ⊎_elim (λ k. gone-ramp C T s.m (ap (λ b. eqb b.kind 0) (B.at s.m hm) ∙ not-true _ (sym c.has_ramp.ensures ∙ k))) (gone-removed C T P hm S)
-    (or_split c.has_ramp.result (get_or s.self.now.removed s.m false) c.if-has_ramp-self.true)
+    (or_split c.has_ramp.result (get_or s.self.now.removed.now s.m false) c.if-has_ramp-removed.true)
 
 pub returns : goal.returns
 returns c =

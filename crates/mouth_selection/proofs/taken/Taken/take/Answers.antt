@@ -27,7 +27,7 @@ returns-clause-taken c =
     let p = proposal_of C m a outer kind in
     let ha : a < C.count = subst (λ k. a < k) (sym n) c.requires.ramp_within in
     record {
-      gone = λ i hi. mouth-taken T p now.removed m i refl (search rules) (S.gone i hi);
+      gone = λ i hi. mouth-taken T p now.removed.now m i refl (omega arith) (S.gone i hi);
       ends = λ j hj.
           c.use_end.ensures j
           ∙ ap (λ b. get_or now.ramp_ends j false || b && same_end_lem s.context.boundaries.now a j) (lt-ltb j s.context.count (subst (λ k. j < k) n hj))
