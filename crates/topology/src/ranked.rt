@@ -1,7 +1,6 @@
 // The call that gives the ranked junction list, over the lent slice of region records.
 ghost use Rattle.std.specs.Prelude.{◌*◌, ◌/◌, ◌≤◌, length};
 ghost use Rattle.definitions.specs.Limits.{numbers_per_span};
-ghost use Rattle.context.specs.Records.{max_cells};
 ghost use Rattle.definitions.specs.Grid.{Map};
 ghost use Rattle.definitions.specs.Context.{Context};
 ghost use Rattle.junction_proposals.specs.Rows.{max_proposals};
@@ -76,7 +75,6 @@ pub fn mark_ranked(
     removed: &mut [bool; MAX_ENTRIES],
     listed: &mut [RankedRow],
 ) -> usize
-    requires few { asked.height * asked.width ≤ max_cells }
     requires map_shown { (M : Map) × AskedLent M records.now asked ready labels.now tallies.now pairs.now (length masks.old) (length queue.old) }
     requires before_ranking { NoMarks removed.old × (max_proposals ≤ length listed.old) }
     ensures { (M : Map) → AskedLent M records.now asked.entry ready labels.now tallies.now pairs.now (length masks.old) (length queue.old)

@@ -8,7 +8,9 @@ pub returns-then-boundaries-count : goal.returns-then-boundaries-count
 returns-then-boundaries-count c = λ M L. unranked-lent M L c.if-boundaries-count.true
 
 pub overflow_mul-partition : goal.overflow_mul-partition
-overflow_mul-partition c = record { fits = omega (arith, c.requires.few) }
+overflow_mul-partition c =
+    let p = c.requires.map_shown.1.partitioned in
+    record { fits = omega (arith, p.cells, p.labels_long) }
 
 pub view-requires-clause-partitioned : goal.view-requires-clause-partitioned
 view-requires-clause-partitioned c = (_, c.requires.map_shown.1.partitioned)

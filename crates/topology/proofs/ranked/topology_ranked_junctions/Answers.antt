@@ -30,9 +30,6 @@ mark_ranked-n-requires-clause-map_shown c =
     let F = c.fill.ensures _ (fills-on (grid_in c.args.asked) c.grid.ensures (ready_fills R c.prepare_lists.ensures.same.queue_long_lem)) in
     (_, ready-lent R F c.prepare_lists.ensures.same.masks_long c.prepare_lists.ensures.same.queue_long_lem)
 
-pub mark_ranked-n-requires-clause-few : goal.mark_ranked-n-requires-clause-few
-mark_ranked-n-requires-clause-few c = needed-few (when_ready (c.prepare_lists.ensures.prepared 3 (search rules)) c.in_ok-ready.was)
-
 pub mark_ranked-n-requires-clause-before_ranking : goal.mark_ranked-n-requires-clause-before_ranking
 mark_ranked-n-requires-clause-before_ranking c = (no_marks, omega (arith, length-replicate {A = ℕ}))
 
