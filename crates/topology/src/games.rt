@@ -7,7 +7,7 @@ ghost use Rattle.topology.specs.Lent.{lends, leaves};
 ghost use Rattle.topology.specs.Games.{Begun, RunsKept, RanKept, PlayedOver};
 
 use crate::marks::mark_asked;
-use crate::records::{fill, renew};
+use crate::records::{fill_from_lists, renew_from_lists};
 use areas::lists::PartitionLists;
 use call_answers::game_answers::GameKept;
 use call_partition::Ready;
@@ -41,11 +41,11 @@ pub fn run_kept(
 {
     let grid = asked.grid();
     let room = records.len();
-    fill(records, ready.regions, grid, &*lists);
+    fill_from_lists(records, ready.regions, grid, &*lists);
     let mut removed = [false; MAX_ENTRIES];
     mark_asked(pass, asked, ready, records, lists, &mut removed);
     let graph = divide_kept(grid, asked.spans, &removed, ready.rows, room, lists);
-    renew(records, ready.regions, graph.regions, grid, &*lists);
+    renew_from_lists(records, ready.regions, graph.regions, grid, &*lists);
     let kept = finish(
         grid.height * grid.width,
         asked.boundaries.len() / NUMBERS_PER_BOUNDARY,

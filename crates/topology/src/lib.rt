@@ -28,7 +28,7 @@ use context::Region;
 use definitions::limits::{MAX_ENTRIES, NUMBERS_PER_BOUNDARY};
 use marks::mark_asked;
 use pass_lists::finish;
-use records::fill;
+use records::fill_from_lists;
 use refusals::Refusal;
 
 // The call that runs a pass (SPECIFICATION 3): how many rows are kept, or the refusal. `jenwyllt_c` exports it.
@@ -45,7 +45,7 @@ pub fn topology_kept_boundaries(
 {
     let (pass, ready) = prepare(pass, asked, records.len(), output.len(), lists)?;
     let grid = asked.grid();
-    fill(records, ready.regions, grid, &*lists);
+    fill_from_lists(records, ready.regions, grid, &*lists);
     let mut removed = [false; MAX_ENTRIES];
     mark_asked(pass, asked, ready, records, lists, &mut removed);
     let kept = finish(

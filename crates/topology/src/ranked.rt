@@ -14,7 +14,7 @@ ghost use Rattle.topology.specs.Lent.{lends, leaves};
 ghost use Rattle.topology.specs.Ranked.{Ranked, RankedFor, RankedOver};
 
 use crate::junction_pass::{NO_ROW, allowed_proposals};
-use crate::records::fill;
+use crate::records::fill_from_lists;
 use areas::lists::PartitionLists;
 use call_partition::asked::Asked;
 use call_partition::{Ready, prepare_lists};
@@ -129,7 +129,7 @@ pub fn topology_ranked_junctions(
     ensures same { SameLists lists.old lists.new }
 {
     let ready = prepare_lists(asked, records.len(), output.len(), lists)?;
-    fill(records, ready.regions, asked.grid(), &*lists);
+    fill_from_lists(records, ready.regions, asked.grid(), &*lists);
     let mut removed = [false; MAX_ENTRIES];
     let mut listed = [NO_RANKED; MAX_PROPOSALS];
     // Kept: the lists that are read have names as in `mark_asked` of `marks`; masks and queue, which two calls are lent, have theirs beside them.

@@ -31,10 +31,16 @@ pub fn add_stretch(
 }
 
 // One record a region, along the chain of stretches: region r's stands at r - 1.
-pub fn fill(records: &mut [Region], regions: usize, grid: TerrainGrid, lists: &PartitionLists)
-    requires { (M : Map) × Fills M (length records.old) regions grid.width grid.cells.now lists.now.labels.now lists.now.queue.now }
+pub fn fill(
+    records: &mut [Region],
+    regions: usize,
+    grid: TerrainGrid,
+    labels: &[u32],
+    queue: &[u32],
+)
+    requires { (M : Map) × Fills M (length records.old) regions grid.width grid.cells.now labels.now queue.now }
     ensures { (M : Map) →
-        Fills M (length records.old) regions grid.entry.width grid.entry.cells.now lists.now.labels.now lists.now.queue.now →
+        Fills M (length records.old) regions grid.entry.width grid.entry.cells.now labels.now queue.now →
         Filled M records.old records.new }
 {
     clear_records(records, regions);
@@ -43,10 +49,26 @@ pub fn fill(records: &mut [Region], regions: usize, grid: TerrainGrid, lists: &P
     let mut c = 0;
     // Kept: each stretch says where the next begins; `iter::from_fn` would hold c in a closure and end by the same test.
     while c < end {
-        let s = stretch_at(lists.labels, lists.queue, c);
+        let s = stretch_at(labels, queue, c);
         add_stretch(records, width, cells, c, s.end, s.label);
         c = s.end;
     }
+}
+
+// The same of the lists of a partition.
+// Kept: who is lent the lists in a struct names none of them for it; two lists of a struct in one call are refused there, though Rust takes them.
+pub(crate) fn fill_from_lists(
+    records: &mut [Region],
+    regions: usize,
+    grid: TerrainGrid,
+    lists: &PartitionLists,
+)
+    requires { (M : Map) × Fills M (length records.old) regions grid.width grid.cells.now lists.now.labels.now lists.now.queue.now }
+    ensures { (M : Map) →
+        Fills M (length records.old) regions grid.entry.width grid.entry.cells.now lists.now.labels.now lists.now.queue.now →
+        Filled M records.old records.new }
+{
+    fill(records, regions, grid, lists.labels, lists.queue);
 }
 
 // Empties the first records.
@@ -63,6 +85,25 @@ pub fn renew(
     first: usize,
     regions: usize,
     grid: TerrainGrid,
+    labels: &[u32],
+    queue: &[u32],
+)
+    requires first_in { first ≤ length records.old }
+    requires map_shown { (M : Map) × Fills M (length records.old) regions grid.width grid.cells.now labels.now queue.now }
+    ensures { (M : Map) → Fills M (length records.old) regions grid.entry.width
+        grid.entry.cells.now labels.now queue.now
+        → Renewed M first records.old records.new }
+{
+    clear_records(records, first);
+    fill(records, regions, grid, labels, queue);
+}
+
+// The same of the lists of a partition.
+pub(crate) fn renew_from_lists(
+    records: &mut [Region],
+    first: usize,
+    regions: usize,
+    grid: TerrainGrid,
     lists: &PartitionLists,
 )
     requires first_in { first ≤ length records.old }
@@ -71,6 +112,5 @@ pub fn renew(
         grid.entry.cells.now lists.now.labels.now lists.now.queue.now
         → Renewed M first records.old records.new }
 {
-    clear_records(records, first);
-    fill(records, regions, grid, lists);
+    renew(records, first, regions, grid, lists.labels, lists.queue);
 }

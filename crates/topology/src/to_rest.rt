@@ -16,7 +16,7 @@ ghost use Rattle.call_answers.specs.Rest.{rest_answer_of};
 ghost use Rattle.topology.specs.Rest.{run-lists, RestRanOver, Stands, RanToRest};
 
 use crate::marks::mark_asked;
-use crate::records::{fill, renew};
+use crate::records::{fill_from_lists, renew_from_lists};
 use areas::lists::PartitionLists;
 use call_answers::rest_answers::RestKept;
 use call_partition::Ready;
@@ -103,7 +103,7 @@ pub fn turn_once(
         return standing;
     }
     let next = divide_again(grid, &kept.spans, left, first, records.len(), lists);
-    renew(records, first.regions, next.regions, grid, &*lists);
+    renew_from_lists(records, first.regions, next.regions, grid, &*lists);
     next
 }
 
@@ -166,7 +166,7 @@ pub fn topology_run_to_rest(
         regions: ready.regions,
         rows: ready.rows,
     };
-    fill(records, ready.regions, grid, &*lists);
+    fill_from_lists(records, ready.regions, grid, &*lists);
     let rest = run_turns(grid, asked.anchors, first, lists, records, &mut kept);
     finish_rest(
         grid.height * grid.width,

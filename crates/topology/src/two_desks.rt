@@ -8,7 +8,7 @@ ghost use Rattle.call_answers.specs.Desks.{desks_answer};
 ghost use Rattle.topology.specs.Desks.{desk_in, Ground, TerrainIn, DeskRan, DesksRan, lends_both, leaves-both, RanBothOver};
 
 use crate::marks::mark_asked;
-use crate::records::fill;
+use crate::records::fill_from_lists;
 use areas::lists::PartitionLists;
 use areas::scratch::clear_scratch;
 use call_answers::desk_answers::{DeskOrder, DesksKept};
@@ -146,7 +146,7 @@ pub fn topology_two_desks(
                 anchors: &[],
             };
             let grid = asked.grid();
-            fill(records, ready.regions, grid, &*lists);
+            fill_from_lists(records, ready.regions, grid, &*lists);
             clear_scratch(lists.masks, lists.queue, grid.height * grid.width);
             let terrain = SharedTerrain { asked, ready };
             run_desks(

@@ -15,8 +15,8 @@ returns-in_err-pass-clause-ran c =
 pub overflow_mul-grid : goal.overflow_mul-grid
 overflow_mul-grid c = rw c.grid-grid.ensures (record { fits = omega (arith, needed-few (when_named c.prepare.ensures.prepared c.in_ok-pass.was).1) })
 
-pub fill-requires : goal.fill-requires
-fill-requires c =
+pub fill_from_lists-requires : goal.fill_from_lists-requires
+fill_from_lists-requires c =
     let R = (when_named c.prepare.ensures.prepared c.in_ok-pass.was).1 in
     (_, fills-on (grid_in c.args.asked) c.grid-grid.ensures (ready_fills R c.prepare.ensures.same.queue_long_lem))
 
@@ -24,7 +24,7 @@ pub mark_asked-requires-clause-map_shown : goal.mark_asked-requires-clause-map_s
 mark_asked-requires-clause-map_shown c =
     let R = (when_named c.prepare.ensures.prepared c.in_ok-pass.was).1 in
     let same = c.prepare.ensures.same in
-    let F = c.fill.ensures _ (fills-on (grid_in c.args.asked) c.grid-grid.ensures (ready_fills R same.queue_long_lem)) in
+    let F = c.fill_from_lists.ensures _ (fills-on (grid_in c.args.asked) c.grid-grid.ensures (ready_fills R same.queue_long_lem)) in
     (_, ready-lent R F same.masks_long same.queue_long_lem)
 
 pub mark_asked-requires-clause-few : goal.mark_asked-requires-clause-few
@@ -41,7 +41,7 @@ pub returns-clause-ran : goal.returns-clause-ran
 returns-clause-ran c =
     let P = when_named c.prepare.ensures.prepared c.in_ok-pass.was in
     let same = c.prepare.ensures.same in
-    let F = c.fill.ensures _ (fills-on (grid_in c.args.asked) c.grid-grid.ensures (ready_fills P.1 same.queue_long_lem)) in
+    let F = c.fill_from_lists.ensures _ (fills-on (grid_in c.args.asked) c.grid-grid.ensures (ready_fills P.1 same.queue_long_lem)) in
     let K = marked_as _ _ _ _ P.0 (c.mark_asked.ensures.marked _ (ready-lent P.1 F same.masks_long same.queue_long_lem)) in
     let read = c.mark_asked.ensures.read in
     rw read.labels (rw read.tallies (rw read.pairs (ran_over P.1 F K refl refl (finished-on (grid_in c.args.asked) c.grid-grid.ensures c.finish-kept.ensures))))

@@ -19,15 +19,15 @@ overflow_mul-asked c =
     let R = when_ready (c.prepare_lists.ensures.prepared 3 (search rules)) c.in_ok-ready.was in
     record { fits = omega (arith, needed-few R) }
 
-pub fill-requires : goal.fill-requires
-fill-requires c =
+pub fill_from_lists-requires : goal.fill_from_lists-requires
+fill_from_lists-requires c =
     let R = when_ready (c.prepare_lists.ensures.prepared 3 (search rules)) c.in_ok-ready.was in
     (_, fills-on (grid_in c.args.asked) c.grid.ensures (ready_fills R c.prepare_lists.ensures.same.queue_long_lem))
 
 pub mark_ranked-n-requires-clause-map_shown : goal.mark_ranked-n-requires-clause-map_shown
 mark_ranked-n-requires-clause-map_shown c =
     let R = when_ready (c.prepare_lists.ensures.prepared 3 (search rules)) c.in_ok-ready.was in
-    let F = c.fill.ensures _ (fills-on (grid_in c.args.asked) c.grid.ensures (ready_fills R c.prepare_lists.ensures.same.queue_long_lem)) in
+    let F = c.fill_from_lists.ensures _ (fills-on (grid_in c.args.asked) c.grid.ensures (ready_fills R c.prepare_lists.ensures.same.queue_long_lem)) in
     (_, ready-lent R F c.prepare_lists.ensures.same.masks_long c.prepare_lists.ensures.same.queue_long_lem)
 
 pub mark_ranked-n-requires-clause-before_ranking : goal.mark_ranked-n-requires-clause-before_ranking
@@ -41,13 +41,13 @@ finish_ranked-requires c =
 pub slice_bounds-listed-end : goal.slice_bounds-listed-end
 slice_bounds-listed-end c =
     let R = when_ready (c.prepare_lists.ensures.prepared 3 (search rules)) c.in_ok-ready.was in
-    let F = c.fill.ensures _ (fills-on (grid_in c.args.asked) c.grid.ensures (ready_fills R c.prepare_lists.ensures.same.queue_long_lem)) in
+    let F = c.fill_from_lists.ensures _ (fills-on (grid_in c.args.asked) c.grid.ensures (ready_fills R c.prepare_lists.ensures.same.queue_long_lem)) in
     listed-within R F (c.mark_ranked-n.ensures _ (ready-lent R F c.prepare_lists.ensures.same.masks_long c.prepare_lists.ensures.same.queue_long_lem))
 
 pub slice_bounds-finish_ranked-end : goal.slice_bounds-finish_ranked-end
 slice_bounds-finish_ranked-end c =
     let R = when_ready (c.prepare_lists.ensures.prepared 3 (search rules)) c.in_ok-ready.was in
-    let F = c.fill.ensures _ (fills-on (grid_in c.args.asked) c.grid.ensures (ready_fills R c.prepare_lists.ensures.same.queue_long_lem)) in
+    let F = c.fill_from_lists.ensures _ (fills-on (grid_in c.args.asked) c.grid.ensures (ready_fills R c.prepare_lists.ensures.same.queue_long_lem)) in
     sym
     (length-take-le c.mark_ranked-n.result c.mark_ranked-n.new.listed
     (listed-within R F (c.mark_ranked-n.ensures _ (ready-lent R F c.prepare_lists.ensures.same.masks_long c.prepare_lists.ensures.same.queue_long_lem))))
@@ -55,6 +55,6 @@ slice_bounds-finish_ranked-end c =
 pub returns-clause-ranked : goal.returns-clause-ranked
 returns-clause-ranked c =
     let R = when_ready (c.prepare_lists.ensures.prepared 3 (search rules)) c.in_ok-ready.was in
-    let F = c.fill.ensures _ (fills-on (grid_in c.args.asked) c.grid.ensures (ready_fills R c.prepare_lists.ensures.same.queue_long_lem)) in
+    let F = c.fill_from_lists.ensures _ (fills-on (grid_in c.args.asked) c.grid.ensures (ready_fills R c.prepare_lists.ensures.same.queue_long_lem)) in
     let K = c.mark_ranked-n.ensures _ (ready-lent R F c.prepare_lists.ensures.same.masks_long c.prepare_lists.ensures.same.queue_long_lem) in
     ranked-over R F K refl refl c.finish_ranked.ensures

@@ -8,7 +8,7 @@ use Rattle.topology.proofs.records.fill.Given as goal
 abbrev pub invariant-loop-c : goal.invariant-loop-c
 invariant-loop-c l =
     (length l.records ≡ length l.initial.records)
-    × ((M : Map) → Fills M (length l.initial.records) l.regions l.grid.width l.grid.cells.now l.lists.labels.now l.lists.queue.now → Filling M l.lists.queue.now l.c l.initial.records l.records)
+    × ((M : Map) → Fills M (length l.initial.records) l.regions l.grid.width l.grid.cells.now l.labels l.queue → Filling M l.queue l.c l.initial.records l.records)
 
 abbrev pub decreases-loop-c : goal.decreases-loop-c
 decreases-loop-c l = l.end - l.c

@@ -29,15 +29,15 @@ divide_again-next-requires c =
     let read = c.mark_kept-removed.ensures.read in
     (_, _, _, _, divides-still read.labels read.tallies read.pairs (asks_again T _ at.count at.held at.masks at.queue))
 
-pub renew-requires-clause-first_in : goal.renew-requires-clause-first_in
-renew-requires-clause-first_in c =
+pub renew_from_lists-requires-clause-first_in : goal.renew_from_lists-requires-clause-first_in
+renew_from_lists-requires-clause-first_in c =
     let T = c.requires.3 in
     let left = c.keep_left-left.ensures in
     let at = pass-done T (c.mark_kept-removed.ensures.marked _ (stands-lent T)) left.numbers left.spans left.boundaries left.answer in
     first_fits T _ at.count at.held at.masks at.queue
 
-pub renew-requires-clause-map_shown : goal.renew-requires-clause-map_shown
-renew-requires-clause-map_shown c =
+pub renew_from_lists-requires-clause-map_shown : goal.renew_from_lists-requires-clause-map_shown
+renew_from_lists-requires-clause-map_shown c =
     let T = c.requires.3 in
     let left = c.keep_left-left.ensures in
     let at = pass-done T (c.mark_kept-removed.ensures.marked _ (stands-lent T)) left.numbers left.spans left.boundaries left.answer in
@@ -53,4 +53,4 @@ returns-clause-stands c = λ O s places T.
     let again = redivided-still read.labels read.tallies read.pairs (c.divide_again-next.ensures.divided _ _ _ _ (divides-still read.labels read.tallies read.pairs (asks_again T _ at.count at.held at.masks at.queue))) in
     let size = c.divide_again-next.ensures.same in
     let fills = again_fills T _ at.count at.held at.masks at.queue again size.queue_long_lem in
-    stands-again T _ at.count at.held at.masks at.queue again (size.labels_long ∙ ap length read.labels) size.masks_long size.queue_long_lem (size.tallies_long ∙ ap length read.tallies) (size.pairs_long ∙ ap length read.pairs) c.renew.auto.records (c.renew.ensures _ fills)
+    stands-again T _ at.count at.held at.masks at.queue again (size.labels_long ∙ ap length read.labels) size.masks_long size.queue_long_lem (size.tallies_long ∙ ap length read.tallies) (size.pairs_long ∙ ap length read.pairs) c.renew_from_lists.auto.records (c.renew_from_lists.ensures _ fills)

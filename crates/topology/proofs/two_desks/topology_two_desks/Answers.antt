@@ -11,8 +11,8 @@ pub returns-in-Err-clause-ran : goal.returns-in-Err-clause-ran
 returns-in-Err-clause-ran c =
     both-refused (shared-refused c.prepare_shared.ensures.shared c.in-Err.is (length-map c.args.records.now record_of)) (refl, refl)
 
-pub fill-requires : goal.fill-requires
-fill-requires c =
+pub fill_from_lists-requires : goal.fill_from_lists-requires
+fill_from_lists-requires c =
     let R = shared-ready c.prepare_shared.ensures.shared c.in-Ok.is in
     (_, fills-on _ c.grid-grid.ensures (ready_fills R c.prepare_shared.ensures.same.queue_long_lem))
 
@@ -30,7 +30,7 @@ clear_scratch-requires c =
 pub run_desks-requires : goal.run_desks-requires
 run_desks-requires c =
     let R = shared-ready c.prepare_shared.ensures.shared c.in-Ok.is in
-    let F = c.fill.ensures _ (fills-on _ c.grid-grid.ensures (ready_fills R c.prepare_shared.ensures.same.queue_long_lem)) in (
+    let F = c.fill_from_lists.ensures _ (fills-on _ c.grid-grid.ensures (ready_fills R c.prepare_shared.ensures.same.queue_long_lem)) in (
       _,
       terrain-filled R c.prepare_shared.ensures.same.masks_long c.prepare_shared.ensures.same.queue_long_lem F
           (zeroed-on _ _ c.grid-grid.ensures c.clear_scratch.ensures.0) (zeroed-on _ _ c.grid-grid.ensures c.clear_scratch.ensures.1),
@@ -39,7 +39,7 @@ run_desks-requires c =
 pub returns-in-Ok-clause-ran : goal.returns-in-Ok-clause-ran
 returns-in-Ok-clause-ran c =
     let R = shared-ready c.prepare_shared.ensures.shared c.in-Ok.is in
-    let F = c.fill.ensures _ (fills-on _ c.grid-grid.ensures (ready_fills R c.prepare_shared.ensures.same.queue_long_lem)) in
+    let F = c.fill_from_lists.ensures _ (fills-on _ c.grid-grid.ensures (ready_fills R c.prepare_shared.ensures.same.queue_long_lem)) in
     let T = terrain-filled R c.prepare_shared.ensures.same.masks_long c.prepare_shared.ensures.same.queue_long_lem F
     (zeroed-on _ _ c.grid-grid.ensures c.clear_scratch.ensures.0) (zeroed-on _ _ c.grid-grid.ensures c.clear_scratch.ensures.1) in
     let read = c.run_desks.ensures.read in
