@@ -1,6 +1,7 @@
 pub mod FirstNumber
 pub mod Walking
 pub mod Same
+pub mod Comparing
 pub mod Cutting
 pub mod Answering
 pub mod Lists

@@ -1,18 +1,17 @@
 -- The lists of a sheet of kind 1 that was judged: they fit the arrays that they are stored in, and what is stored is what the sheet states. Assumes nothing.
-use Prim.Native.Nat.{ℕ, ◌*◌, ◌/◌, ◌≤◌}
+use Prim.Native.Nat.{ℕ, ◌≤◌}
 use native.Mathlib.Omega.{arith}
 use mathlib.Core.Path.{◌≡◌, sym, ap, ◌∙◌}
 use Rattle.std.specs.Prelude.{Option}
 use mathlib.Core.List.{List}
 use lib.ListN.{length, take, drop}
 use lib.Seq.{take-append_seam}
-use Rattle.definitions.specs.Limits.{max_side, numbers_per_span, numbers_per_boundary}
+use Rattle.definitions.specs.Limits.{max_side}
 use Rattle.definitions.specs.Lists.{overwrite}
 use Rattle.definitions.specs.Refusals.{Refusal}
 use Rattle.definitions.specs.SheetNumber.{number}
-use Rattle.definitions.specs.Sheet.{has_spans, spans_stated, endpoints_in, endpoints_of, plain_cell_limit}
+use Rattle.definitions.specs.Sheet.{has_spans, spans_stated, plain_cell_limit}
 use Rattle.laws.specs.SheetReading.SheetSizes.{sized}
-use Rattle.laws.specs.SheetReading.Endpoints.{endpoints-long}
 use Rattle.sheet.specs.declared.Part.{Part}
 use Rattle.sheet.specs.declared.Plan.{Plan}
 use Rattle.sheet.specs.Numbers.{Held}
@@ -59,12 +58,3 @@ checks_same bytes plan k {spans} {boundaries} {anchors} a b c e =
     let cells = cells_in bytes plan.parts in
     let stated = stated_1 k (part_of bytes plan.parts.spans) (part_of bytes plan.parts.boundaries) in
     e ∙ (λ i. map_refusal plan.pass plan.width plan.height cells ((a ∙ sym stated) i) (b i) (c i))
-
--- the endpoints that were stored, so many as there are
-pub ends-taken : (boundaries : List ℕ) {ends : List ℕ} (old : List ℕ) → ends ≡ overwrite (endpoints_of boundaries) old
-    → take (numbers_per_span * (length boundaries / numbers_per_boundary)) ends ≡ endpoints_of boundaries
-unfolding endpoints_of
-ends-taken boundaries {ends} old e =
-    let n = length boundaries / numbers_per_boundary in
-    let l = endpoints_in n boundaries in
-    ap (λ m. take m ends) (sym (endpoints-long n boundaries)) ∙ ap (take (length l)) e ∙ take-append_seam l (drop (length l) old)

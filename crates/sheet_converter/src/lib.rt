@@ -4,7 +4,7 @@
 #![tactic(auto)]
 
 ghost use Rattle.std.specs.Prelude.{◌≡◌, ◌+◌, ◌-◌, ◌*◌, ◌≤◌, length};
-ghost use Rattle.definitions.specs.Limits.{max_side, max_entries, numbers_per_boundary};
+ghost use Rattle.definitions.specs.Limits.{max_side};
 ghost use Rattle.definitions.specs.SheetNumber as grammar;
 ghost use Rattle.definitions.specs.Refusals.{elevations_fault};
 ghost use Rattle.definitions.specs.Sheet.{cell, endpoints_of, plain_cell_limit};
@@ -28,10 +28,7 @@ use definitions::limits::{
 use put_shortest::put_shortest;
 use refusals::answers::Answer;
 use refusals::{Cause, Refusal, ensure, no_fault};
-use sheet::{
-    CELL_MOST, Kind, PLAIN_CELL_LIMIT, Plan, fill_endpoints, fill_numbers, item, judge_sheet,
-    number_at,
-};
+use sheet::{CELL_MOST, Kind, PLAIN_CELL_LIMIT, Plan, fill_numbers, item, judge_sheet, number_at};
 
 // ---- the kind
 
@@ -83,16 +80,25 @@ fn cells_fault(bytes: &[u8], at: usize, count: usize) -> Option<usize>
 }
 
 // The spans are the endpoints of the boundaries, as written.
-// Kept: the chunks of both lists compared where they stand would spare the array, and ask three things in place of one: as many chunks, no number left over,
-// and the numbers of each.
+// Kept: a loop over places. The endpoints stored in an array of their own would be compared by one `==`, and take 8 KiB of the stack in each call; the chunks
+// of both lists would ask besides that no number is left over behind the spans.
 fn is_one_list(spans: &[u64], boundaries: &[u64]) -> bool
-    requires { length boundaries.now ≤ numbers_per_boundary * max_entries }
     ensures { result ≡ same_numbers spans.now (endpoints_of boundaries.now) }
 {
-    let mut ends = [0u64; NUMBERS_PER_SPAN * MAX_ENTRIES];
     let count = boundaries.len() / NUMBERS_PER_BOUNDARY;
-    fill_endpoints(boundaries, count, &mut ends);
-    spans == &ends[..NUMBERS_PER_SPAN * count]
+    if spans.len() != NUMBERS_PER_SPAN * count {
+        return false;
+    }
+    for i in 0..count {
+        let span = NUMBERS_PER_SPAN * i;
+        let boundary = NUMBERS_PER_BOUNDARY * i;
+        if spans[span..span + NUMBERS_PER_SPAN]
+            != boundaries[boundary..boundary + NUMBERS_PER_SPAN]
+        {
+            return false;
+        }
+    }
+    true
 }
 
 // Checks 4 to 9, and then 22, of a sheet whose cells stand in the bytes.
@@ -105,7 +111,6 @@ fn map_check(
 ) -> Result<(), Refusal>
     requires sides { (plan.width ≤ max_side) × (plan.height ≤ max_side) }
     requires cells { Held cell bytes.now plan.parts.cells.first plan.parts.cells.count }
-    requires few { length boundaries.now ≤ numbers_per_boundary * max_entries }
     ensures { refusal_in result
         ≡ map_refusal plan.pass plan.width plan.height (cells_in bytes.now plan.parts)
         spans.now boundaries.now anchors.now }

@@ -1,9 +1,7 @@
 -- `sheet_converter::plan_check` meets its contract: the arrays hold what the sheet states, and have room for it. Assumes nothing.
 use native.Mathlib.Omega.{arith}
-use mathlib.Core.Path.{sym, ap}
-use lib.ListN.{length}
+use mathlib.Core.Path.{sym}
 use lib.Seq.{length-take-le}
-use Rattle.sheet.proofs.Filling.{held-length}
 use Rattle.sheet_converter.proofs.Lists.{plan-fits, part-taken, checks_same}
 use Rattle.sheet_converter.proofs.plan_check.Goals as goal
 
@@ -48,7 +46,6 @@ map_check-requires c =
     record {
       sides = ((plan-fits c.requires.held c.requires.old).wide, (plan-fits c.requires.held c.requires.old).high);
       cells = c.requires.held.held.cells;
-      few = omega (arith, (plan-fits c.requires.held c.requires.old).boundaries, ap length (part-taken c.args.bytes.now c.args.plan.parts.boundaries _ c.requires.held.held.boundaries c.fill_numbers-2.ensures), held-length c.requires.held.held.boundaries);
     }
 
 pub returns : goal.returns
