@@ -1,5 +1,5 @@
 -- A report with a run more, from its parts. Assumes nothing.
-use Rattle.std.proofs.Common.{◌≡◌, ℕ, zero, suc, ◌<◌, List, [], ◌∷◌, length, get_or, set, replicate, refl, ap, ap₂, arith}
+use Rattle.std.proofs.Common.{◌≡◌, ℕ, zero, suc, ◌<◌, ◌≤◌, List, [], ◌∷◌, length, get_or, set, replicate, refl, ap, ap₂, arith}
 use Rattle.report.specs.Runs as def
 use Rattle.report.specs.Runs.{refused_run, accepted_run, squared_lengths}
 use Rattle.report.specs.Report as def'
@@ -16,6 +16,12 @@ unfolding count_at
 counted [] i h = absurd (omega arith)
 counted (n ∷ l) zero h = refl
 counted (n ∷ l) (suc i) h = ap {B = List ℕ} (λ m. n ∷ m) (counted l i (omega arith))
+
+pub not-counted : (l : List ℕ) (i : ℕ) → length l ≤ i → l ≡ count_at sum64 i l
+unfolding count_at
+not-counted [] i h = refl
+not-counted (n ∷ l) zero h = absurd (omega arith)
+not-counted (n ∷ l) (suc i) h = ap {B = List ℕ} (λ m. n ∷ m) (not-counted l i (omega arith))
 
 -- counts that are all 0
 pub zeros : (l : List ℕ) (n : ℕ) → length l ≡ n → ((i d : ℕ) → i < n → get_or l i d ≡ 0) → l ≡ replicate n 0

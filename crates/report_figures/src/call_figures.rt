@@ -31,26 +31,25 @@ fn with_kept(report: Report, pass: Pass, rows: &[[u64; NUMBERS_PER_ROW]], count:
     with_accepted(report, pass, run, squared_lengths(rows))
 }
 
-// The call answered this, of a map of `count` boundaries; accepted, it left so many rows in the output.
-fn with_call(
+// The call answered with this number, of a map of `count` boundaries; accepted, it left `value` rows in the output.
+pub fn with_call(
     report: Report,
     pass: u64,
-    kept: Result<usize, Refusal>,
+    number: u64,
+    value: u64,
     count: usize,
     output: &[u64],
 ) -> Report
-    requires { CallLeft pass (answer_of kept).number (answer_of kept).value output.now }
-    ensures { report_form result
-        ≡ added_by sum64 (report_form report) (call_run pass (answer_of kept).number (answer_of kept).value count output.now) }
+    requires { CallLeft pass number value output.now }
+    ensures { report_form result ≡ added_by sum64 (report_form report) (call_run pass number value count output.now) }
 {
-    match kept {
-        Ok(kept) => {
-            let (rows, _) = output.as_chunks::<NUMBERS_PER_ROW>();
-            // Kept: the callers have the pass as a number only; that the call was accepted says that it names one.
-            with_kept(report, Pass::try_from(pass).unwrap(), &rows[..kept], count)
-        }
-        Err(refusal) => with_refused(report, refusal.cause),
+    if number != 0 {
+        return with_refused(report, number);
     }
+    let (rows, _) = output.as_chunks::<NUMBERS_PER_ROW>();
+    let kept = &rows[..value as usize];
+    // Kept: the callers have the pass as a number only; that the call was accepted says that it names one.
+    with_kept(report, Pass::try_from(pass).unwrap(), kept, count)
 }
 
 // Whether a run may be added.
@@ -78,8 +77,7 @@ pub fn answered(
     requires { CallLeft pass (answer_of kept).number (answer_of kept).value output.now }
     ensures { ReportedCall (report_form report) pass (answer_of kept).number (answer_of kept).value count output.now result }
 {
-    Reported::new(
-        Answer::from(kept),
-        with_call(report, pass, kept, count, output),
-    )
+    let answer = Answer::from(kept);
+    let added = with_call(report, pass, answer.number, answer.value, count, output);
+    Reported::new(answer, added)
 }

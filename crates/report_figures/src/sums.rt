@@ -3,29 +3,28 @@ ghost use Rattle.std.specs.Prelude.{◌≡◌};
 ghost use Rattle.report.specs.Runs.{refused_run, accepted_run};
 ghost use Rattle.report.specs.Report.{sum64, count_at, with_figures, added_by};
 ghost use Rattle.checks.specs.Passes.{pass_number};
-ghost use Rattle.refusals.specs.Refusals.{number_of};
 ghost use Rattle.report_figures.specs.Forms.{figures_form, report_form};
 
 use crate::{Figures, REFUSAL_NUMBERS, Report};
 use checks::passes::Pass;
-use refusals::Cause;
 
-// One more of a cause.
-fn count_at(counts: [u64; REFUSAL_NUMBERS], cause: Cause) -> [u64; REFUSAL_NUMBERS]
-    ensures { result ≡ count_at sum64 (number_of cause) counts }
+// One more at a place; a list without that place stays as it is.
+fn count_at(counts: [u64; REFUSAL_NUMBERS], number: u64) -> [u64; REFUSAL_NUMBERS]
+    ensures { result ≡ count_at sum64 number counts }
 {
-    let number = cause.number() as usize;
     let mut counted = counts;
-    counted[number] = counts[number].wrapping_add(1);
+    if number < REFUSAL_NUMBERS as u64 {
+        counted[number as usize] = counts[number as usize].wrapping_add(1);
+    }
     counted
 }
 
-pub fn with_refused(report: Report, cause: Cause) -> Report
-    ensures { report_form result ≡ added_by sum64 (report_form report) (refused_run (number_of cause)) }
+pub fn with_refused(report: Report, number: u64) -> Report
+    ensures { report_form result ≡ added_by sum64 (report_form report) (refused_run number) }
 {
     let mut added = report;
     added.runs = report.runs.wrapping_add(1);
-    added.refused = count_at(report.refused, cause);
+    added.refused = count_at(report.refused, number);
     added
 }
 

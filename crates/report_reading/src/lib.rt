@@ -61,7 +61,7 @@ fn opened_for(report: Report, answer: Result<Header, Refusal>) -> Opened
 {
     let added = match answer {
         Ok(_) => report,
-        Err(refusal) => with_refused(report, refusal.cause),
+        Err(refusal) => with_refused(report, refusal.cause.number()),
     };
     Opened::new(added, answer)
 }

@@ -19,7 +19,10 @@ fn add_sheet(report: Report, bytes: &[u8]) -> Reported
     let mut output = [0u64; ROWS_ROOM];
     match run_sheet(bytes, &mut output) {
         Ok(run) => answered(report, run.pass, Ok(run.kept), run.boundaries, &output),
-        Err(refusal) => Reported::new(Answer::from(refusal), with_refused(report, refusal.cause)),
+        Err(refusal) => Reported::new(
+            Answer::from(refusal),
+            with_refused(report, refusal.cause.number()),
+        ),
     }
 }
 
