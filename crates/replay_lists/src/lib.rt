@@ -221,7 +221,7 @@ impl From<[u8; OPENING]> for Opening {
 }
 
 impl Opening {
-    // Reads what the next case begins with; none where the input ends before.
+    // Reads what the next case begins with; none where the input ends before. The clauses speak of an input whose bytes are known, as those of a slice are.
     pub fn read<R: Read>(input: &mut R) -> io::Result<Option<Opening>>
         ensures next { IfOk result (λ o. IfSome (R.remaining input.old) (λ xs. o ≡ next_opening xs)) }
         ensures taken { OnOk result (IfSome (R.remaining input.old) (λ xs. R.remaining input.new ≡ Some (drop 30 xs))) }
@@ -233,7 +233,7 @@ impl Opening {
         Ok(Some(Opening::from(bytes)))
     }
 
-    // Reads the sheet behind it, and answers how many bytes there were.
+    // Reads the sheet behind it, and answers how many bytes there were: of an input whose bytes are known, as many as the opening says or as are left.
     pub fn read_sheet<R: Read>(&self, input: &mut R, buffer: &mut [u8]) -> io::Result<usize>
         requires { 65536 ≤ length buffer.old }
         ensures within { IfOk result (λ n. n ≤ length buffer.new) }
@@ -324,8 +324,8 @@ fn replay_next<R: Read, W: Write, F: Fn(&mut W, &Opening, &[u8]) -> io::Result<(
     Ok(true)
 }
 
-// Replays the cases, each as `replay` does it from its opening and the bytes of its sheet. Of an input whose bytes are known, all cases are taken, to the limit;
-// what is written is what `replay` makes of them, of which no contract speaks.
+// Replays the cases, each as `replay` does it from its opening and the bytes of its sheet. Of an input whose bytes are known it takes all cases, or as many as
+// the limit; what `replay` writes of them no contract says.
 pub fn replay_cases<R: Read, W: Write, F: Fn(&mut W, &Opening, &[u8]) -> io::Result<()>>(
     input: &mut R,
     out: &mut W,

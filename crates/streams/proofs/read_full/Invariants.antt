@@ -1,4 +1,5 @@
--- `read_full` meets its contract. The invariant: the list keeps its length, count is not beyond it, and the input lost the bytes that stand before it. The measure is how much is left. Assumes nothing.
+-- `read_full` meets its contract. The invariant: the list keeps its length, count is not beyond it, and what is in front of count is what the input lost. The
+-- measure is how much is left. Assumes nothing.
 use Rattle.std.proofs.Common.{length, take, ◌-◌, ◌≤◌, ◌≡◌}
 use Rattle.std.specs.Io.KnownBytes.{Consumes}
 use Rattle.streams.proofs.read_full.Given as goal
