@@ -1,7 +1,10 @@
 // A run to rest before its first pass.
+ghost use Rattle.std.specs.Prelude.{◌*◌, ◌≤◌, length};
+ghost use Rattle.definitions.specs.Limits.{max_entries, numbers_per_span, numbers_per_boundary};
 ghost use Rattle.areas.specs.Lists.{of_lists, SameLists};
 ghost use Rattle.call_partition.specs.Asking.{of_asked};
 ghost use Rattle.rest_lists.specs.Begun.{BegunAs};
+ghost use Rattle.rest_lists.specs.Together.{SameKept};
 
 use crate::checked::rest_checks;
 use crate::kept::KeptLists;
@@ -22,19 +25,22 @@ pub fn begin_rest(
     lists: &mut PartitionLists,
     kept: &mut KeptLists,
 ) -> Result<Ready, Refusal>
+    requires { (max_entries ≤ length kept.old.numbers.now) × (numbers_per_span * max_entries ≤ length kept.old.spans.now)
+        × (numbers_per_boundary * max_entries ≤ length kept.old.boundaries.now) }
     ensures begun { of_lists (of_lists (of_asked BegunAs asked.entry room output) lists.old result) lists.new
-        kept.new.numbers kept.new.spans kept.new.boundaries }
+        kept.new.numbers.now kept.new.spans.now kept.new.boundaries.now }
     ensures same { SameLists lists.old lists.new }
+    ensures same_kept { SameKept kept.old kept.new }
 {
     rest_checks(asked, &*lists, output)?;
     let count = asked.boundaries.len() / NUMBERS_PER_BOUNDARY;
     start_lists(
         asked.boundaries,
         count,
-        &mut kept.numbers,
-        &mut kept.spans,
-        &mut kept.boundaries,
+        kept.numbers,
+        kept.spans,
+        kept.boundaries,
     );
     let end = NUMBERS_PER_SPAN * count;
-    divide(asked.grid(), &kept.spans[..end], room, lists)
+    divide(asked.grid(), &kept.ends()[..end], room, lists)
 }

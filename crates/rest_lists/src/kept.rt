@@ -7,6 +7,7 @@ ghost use Rattle.definitions.specs.Rows.{flat_rows};
 ghost use Rattle.boundary_blocks.specs.Blocks.{left_blocks, left_count};
 ghost use Rattle.areas.specs.Lists.{of_lists, SameLists};
 ghost use Rattle.rest_lists.specs.Kept.{Origin, Divides, Redivided};
+ghost use Rattle.rest_lists.specs.Together.{SameKept};
 ghost use Rattle.boundary_blocks.specs.Start.{rows_at};
 
 use areas::lists::PartitionLists;
@@ -29,36 +30,48 @@ pub struct Standing {
     pub rows: usize,
 }
 
-// The lists of a run. In front of each stands what is kept: the numbers of boundaries, their endpoints as spans, and the boundaries.
+// The lists of a run, lent together. In front of each stands what is kept: the numbers of boundaries, their endpoints as spans, and the boundaries.
 // Kept: how many are in front is told by a `Standing`, and not by a field here, since a run holds two over these lists, of its first partition and of its last.
 #[derive(Drop)]
-pub struct KeptLists {
-    pub numbers: [u64; MAX_ENTRIES],
-    pub spans: [u64; NUMBERS_PER_SPAN * MAX_ENTRIES],
-    pub boundaries: [u64; NUMBERS_PER_BOUNDARY * MAX_ENTRIES],
+pub struct KeptLists<'a> {
+    pub numbers: &'a mut [u64],
+    pub spans: &'a mut [u64],
+    pub boundaries: &'a mut [u64],
 }
 
-impl KeptLists {
+impl<'a> KeptLists<'a> {
+    // The endpoints of boundaries as spans.
+    // Kept: one who holds the lists to write them reads the spans through this, since the toolchain does not tell of a list that is lent by its field that it
+    // stays.
+    pub fn ends(&self) -> &[u64]
+        ensures { result.now ≡ self.now.spans.now }
+    {
+        self.spans
+    }
+
     // The first `count` boundaries.
     pub fn front(&self, count: usize) -> &[u64]
-        requires { count ≤ max_entries }
-        ensures { result.now ≡ take (numbers_per_boundary * count) self.now.boundaries }
+        requires { numbers_per_boundary * count ≤ length self.now.boundaries.now }
+        ensures { result.now ≡ take (numbers_per_boundary * count) self.now.boundaries.now }
     {
         &self.boundaries[..NUMBERS_PER_BOUNDARY * count]
     }
 
     // Moves what is not marked to the front of the three lists, and gives how many are left.
     pub fn keep_left(&mut self, removed: &[bool; MAX_ENTRIES], count: usize) -> usize
-        requires { count ≤ max_entries }
-        ensures numbers { self.new.numbers ≡ overwrite (left_blocks removed.now 1 self.old.numbers count) self.old.numbers }
-        ensures spans { self.new.spans ≡ overwrite (left_blocks removed.now numbers_per_span self.old.spans count) self.old.spans }
-        ensures boundaries { self.new.boundaries
-            ≡ overwrite (left_blocks removed.now numbers_per_boundary self.old.boundaries count) self.old.boundaries }
+        requires few { count ≤ max_entries }
+        requires room { (count ≤ length self.old.numbers.now) × (numbers_per_span * count ≤ length self.old.spans.now)
+            × (numbers_per_boundary * count ≤ length self.old.boundaries.now) }
+        ensures numbers { self.new.numbers.now ≡ overwrite (left_blocks removed.now 1 self.old.numbers.now count) self.old.numbers.now }
+        ensures spans { self.new.spans.now ≡ overwrite (left_blocks removed.now numbers_per_span self.old.spans.now count) self.old.spans.now }
+        ensures boundaries { self.new.boundaries.now
+            ≡ overwrite (left_blocks removed.now numbers_per_boundary self.old.boundaries.now count) self.old.boundaries.now }
         ensures answer { result ≡ left_count removed.now count }
+        ensures same { SameKept self.old self.new }
     {
-        keep_blocks(&mut self.numbers, 1, removed, count);
-        keep_blocks(&mut self.spans, NUMBERS_PER_SPAN, removed, count);
-        keep_blocks(&mut self.boundaries, NUMBERS_PER_BOUNDARY, removed, count)
+        keep_blocks(self.numbers, 1, removed, count);
+        keep_blocks(self.spans, NUMBERS_PER_SPAN, removed, count);
+        keep_blocks(self.boundaries, NUMBERS_PER_BOUNDARY, removed, count)
     }
 }
 
@@ -101,10 +114,11 @@ pub fn finish_rest(
     output: &mut [u64],
 )
     requires scratch { (needed ≤ length masks.old) × (needed ≤ length queue.old) }
-    requires room { (count ≤ max_entries) × (numbers_per_row * count ≤ length output.old) }
+    requires room { (count ≤ length kept.now.numbers.now) × (numbers_per_span * count ≤ length kept.now.spans.now)
+        × (numbers_per_row * count ≤ length output.old) }
     ensures scratch { (masks.new ≡ zeroed needed masks.old) × (queue.new ≡ zeroed needed queue.old) }
-    ensures output { output.new ≡ overwrite (flat_rows (rows_at kept.now.numbers kept.now.spans count)) output.old }
+    ensures output { output.new ≡ overwrite (flat_rows (rows_at kept.now.numbers.now kept.now.spans.now count)) output.old }
 {
     clear_scratch(masks, queue, needed);
-    put_rows(&kept.numbers, &kept.spans, count, output);
+    put_rows(kept.numbers, kept.spans, count, output);
 }

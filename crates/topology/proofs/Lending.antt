@@ -2,6 +2,8 @@
 use mathlib.Core.Path.{refl, ◌∙◌}
 use Rattle.areas.specs.Lists.{SameLists}
 use Rattle.areas.specs.declared.lists.PartitionLists.{PartitionLists}
+use Rattle.rest_lists.specs.declared.kept.KeptLists.{KeptLists}
+use Rattle.rest_lists.specs.Together.{SameKept}
 
 pub same_at_entry : (x : PartitionLists) → SameLists x x
 same_at_entry x =
@@ -31,4 +33,18 @@ still_same s t =
       queue_long_lem = t.queue_long_lem ∙ s.queue_long_lem;
       tallies_long = t.tallies_long ∙ s.tallies_long;
       pairs_long = t.pairs_long ∙ s.pairs_long;
+    }
+
+pub kept_at_entry : (x : KeptLists) → SameKept x x
+kept_at_entry x = record { numbers = refl; spans = refl; boundaries = refl; numbers_long = refl; spans_long = refl; boundaries_long = refl }
+
+pub still_kept : {x y z : KeptLists} → SameKept x y → SameKept y z → SameKept x z
+still_kept s t =
+    record {
+      numbers = t.numbers ∙ s.numbers;
+      spans = t.spans ∙ s.spans;
+      boundaries = t.boundaries ∙ s.boundaries;
+      numbers_long = t.numbers_long ∙ s.numbers_long;
+      spans_long = t.spans_long ∙ s.spans_long;
+      boundaries_long = t.boundaries_long ∙ s.boundaries_long;
     }

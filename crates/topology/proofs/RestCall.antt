@@ -33,15 +33,13 @@ use Rattle.rest_lists.specs.Kept.{Origin, map_lent, all_places}
 use Rattle.rest_lists.specs.Begun.{Begun, BegunAs}
 use Rattle.boundary_blocks.specs.Start.{rows_at}
 use Rattle.rest_lists.proofs.Between.{flat-kept, kept-starts}
-use Rattle.rest_lists.proofs.Ending.{output-fits, masks-fit, queue-fit, rest-ran}
+use Rattle.rest_lists.proofs.Ending.{numbers_fit, ends-fit, output-fits, masks-fit, queue-fit, rest-ran}
 use Rattle.call_answers.specs.declared.rest_answers.RestKept.{RestKept}
 use Rattle.topology.specs.Filled.{Fills, Filled}
 use Rattle.call_answers.specs.Rest.{rest_answer_of}
 use Rattle.topology.specs.Rest.{RestRanOver, Stands, RanToRest, RunLists, run-lists}
 use Rattle.topology.specs.Lent.{lends, leaves}
-use Rattle.definitions.specs.Limits.{max_entries}
 use Rattle.topology.proofs.Calling.{ready_fills}
-use Rattle.topology.proofs.Resting.{kept-few}
 
 -- ---- before the first pass
 
@@ -118,10 +116,10 @@ module _ {w h : ℕ} {cells anchors : List ℕ} {O : Origin} {s : List Region} {
   pub rest-scratch : (h * w ≤ length m) × (h * w ≤ length q)
   rest-scratch = (masks-fit R.stands.lists, queue-fit R.stands.lists)
 
-  pub rest-room : (a.kept ≤ max_entries) × (5 * a.kept ≤ length O.output)
+  pub rest-room : (a.kept ≤ length n) × (4 * a.kept ≤ length b) × (5 * a.kept ≤ length O.output)
   rest-room =
       let K = R.stands.lists in
-      (omega (arith, R.value, kept-few R.stands), omega (arith, R.value, output-fits K))
+      (omega (arith, R.value, numbers_fit K), omega (arith, R.value, ends-fit K), omega (arith, R.value, output-fits K))
 
   pub rest_over : {m' q' o' : List ℕ} → m' ≡ zeroed (h * w) m → q' ≡ zeroed (h * w) q → o' ≡ overwrite (flat_rows (rows_at n b a.kept)) O.output
       → RestRanOver (lends w h cells O.spans O.boundaries anchors O.labels O.masks O.queue O.tallies O.pairs s O.output) (rest_answer_of (Ok a)) (leaves l m' q' t p rs o')

@@ -199,9 +199,9 @@ module _ {w h : ℕ} {cells anchors : List ℕ} {O : Origin} {s : List Region} {
 
 module _ {w h : ℕ} {cells anchors : List ℕ} {O : Origin} {places : List ℕ} {first : Standing} {room : ℕ} {l m q t p l₂ t₂ p₂ : List ℕ} (el : l₂ ≡ l) (et : t₂ ≡ t) (ep : p₂ ≡ p) where
   -- they are divided as they were before it
-  pub divides-still : {s : List record-region.Region} {spans : List ℕ} {kept : ℕ} → Divides w h cells anchors O s places spans kept first room l m q t p
-      → Divides w h cells anchors O s places spans kept first room l₂ m q t₂ p₂
-  divides-still D = rw el (rw et (rw ep D))
+  pub divides-still : {s : List record-region.Region} {spans ends : List ℕ} {kept : ℕ} → ends ≡ spans → Divides w h cells anchors O s places spans kept first room l m q t p
+      → Divides w h cells anchors O s places ends kept first room l₂ m q t₂ p₂
+  divides-still es D = rw es (rw el (rw et (rw ep D)))
 
   pub redivided-still : {r : Standing} {l' m' q' t' p' : List ℕ} → Redivided w h cells anchors O places first room l₂ m q t₂ p₂ r l' m' q' t' p'
       → Redivided w h cells anchors O places first room l m q t p r l' m' q' t' p'

@@ -1,6 +1,6 @@
 // The call that runs the passes to rest, over the lent slice of region records.
 ghost use Rattle.std.specs.Prelude.{◌≡◌, ◌≤◌, ◌*◌, List, ℕ, false, length, replicate, take};
-ghost use Rattle.definitions.specs.Limits.{max_entries, numbers_per_boundary};
+ghost use Rattle.definitions.specs.Limits.{max_entries, numbers_per_span, numbers_per_boundary};
 ghost use Rattle.definitions.specs.Grid.{Map};
 ghost use Rattle.context.specs.Records.{max_cells};
 ghost use Rattle.topology.specs.Marks.{Lent, MarkedFor, SameFilled};
@@ -9,6 +9,7 @@ ghost use Rattle.rest_definitions.specs.RowOrder.{start_map};
 ghost use Rattle.rest_definitions.specs.Rest.{passed};
 ghost use Rattle.context.specs.declared.Region.{Region};
 ghost use Rattle.rest_lists.specs.Kept.{Origin, map_lent, all_places};
+ghost use Rattle.rest_lists.specs.Together.{SameKept};
 ghost use Rattle.areas.specs.Lists.{of_lists, SameLists};
 ghost use Rattle.call_partition.specs.Asking.{of_asked};
 ghost use Rattle.topology.specs.Lent.{lends, leaves};
@@ -41,14 +42,15 @@ fn mark_kept<'x>(
     lists: &mut PartitionLists,
 ) -> [bool; MAX_ENTRIES]
     requires few { (standing.kept ≤ max_entries) × (grid.height * grid.width ≤ max_cells) }
+    requires room { (numbers_per_span * standing.kept ≤ length kept.now.spans.now) × (numbers_per_boundary * standing.kept ≤ length kept.now.boundaries.now) }
     requires map_shown { (M : Map) × Lent M records.now grid.width (grid.height * grid.width) lists.old.labels.now anchors.now
-        standing.regions standing.rows standing.kept (take (numbers_per_boundary * standing.kept) kept.now.boundaries)
+        standing.regions standing.rows standing.kept (take (numbers_per_boundary * standing.kept) kept.now.boundaries.now)
         lists.old.tallies.now lists.old.pairs.now (length lists.old.masks.now) (length lists.old.queue.now) }
     ensures marked { (M : Map) → Lent M records.now grid.entry.width (grid.entry.height * grid.entry.width) lists.old.labels.now anchors.now
-        standing.regions standing.rows standing.kept (take (numbers_per_boundary * standing.kept) kept.now.boundaries)
+        standing.regions standing.rows standing.kept (take (numbers_per_boundary * standing.kept) kept.now.boundaries.now)
         lists.old.tallies.now lists.old.pairs.now (length lists.old.masks.now) (length lists.old.queue.now)
         → MarkedFor (pass_number pass) M (grid.entry.height * grid.entry.width) standing.kept
-        (take (numbers_per_boundary * standing.kept) kept.now.boundaries)
+        (take (numbers_per_boundary * standing.kept) kept.now.boundaries.now)
         lists.old.masks.now lists.old.queue.now lists.new.masks.now lists.new.queue.now (replicate max_entries false) result }
     ensures read { SameFilled lists.old lists.new }
     ensures same { SameLists lists.old lists.new }
@@ -59,7 +61,7 @@ fn mark_kept<'x>(
         width: grid.width as u64,
         height: grid.height as u64,
         cells: grid.cells,
-        spans: &kept.spans[..NUMBERS_PER_SPAN * standing.kept],
+        spans: &kept.ends()[..NUMBERS_PER_SPAN * standing.kept],
         boundaries: kept.front(standing.kept),
         anchors,
     };
@@ -88,21 +90,22 @@ pub fn turn_once(
 ) -> Standing
     requires { (O : Origin) × (s : List Region) × (places : List ℕ)
         × Stands grid.width grid.height grid.cells.now anchors.now O s places first standing
-        (of_lists run-lists lists.old records.old kept.old.numbers kept.old.spans kept.old.boundaries) }
+        (of_lists run-lists lists.old records.old kept.old.numbers.now kept.old.spans.now kept.old.boundaries.now) }
     ensures stands { (O : Origin) (s : List Region) (places : List ℕ)
         → Stands grid.entry.width grid.entry.height grid.entry.cells.now anchors.now O s places first standing
-        (of_lists run-lists lists.old records.old kept.old.numbers kept.old.spans kept.old.boundaries)
+        (of_lists run-lists lists.old records.old kept.old.numbers.now kept.old.spans.now kept.old.boundaries.now)
         → Stands grid.entry.width grid.entry.height grid.entry.cells.now anchors.now O s
         (passed (pass_number pass) (start_map (map_lent grid.entry.width grid.entry.height grid.entry.cells.now anchors.now O)) places) first result
-        (of_lists run-lists lists.new records.new kept.new.numbers kept.new.spans kept.new.boundaries) }
+        (of_lists run-lists lists.new records.new kept.new.numbers.now kept.new.spans.now kept.new.boundaries.now) }
     ensures same { SameLists lists.old lists.new }
+    ensures same_kept { SameKept kept.old kept.new }
 {
     let removed = mark_kept(pass, records, grid, anchors, standing, kept, lists);
     let left = kept.keep_left(&removed, standing.kept);
     if left == standing.kept {
         return standing;
     }
-    let next = divide_again(grid, &kept.spans, left, first, records.len(), lists);
+    let next = divide_again(grid, kept.ends(), left, first, records.len(), lists);
     renew_from_lists(records, first.regions, next.regions, grid, &*lists);
     next
 }
@@ -118,14 +121,15 @@ pub fn run_turns(
 ) -> RestKept
     requires { (O : Origin) × (s : List Region) × Stands grid.width grid.height grid.cells.now anchors.now O s
         (all_places (map_lent grid.width grid.height grid.cells.now anchors.now O)) first first
-        (of_lists run-lists lists.old records.old kept.old.numbers kept.old.spans kept.old.boundaries) }
+        (of_lists run-lists lists.old records.old kept.old.numbers.now kept.old.spans.now kept.old.boundaries.now) }
     ensures rests { (O : Origin) (s : List Region)
         → Stands grid.entry.width grid.entry.height grid.entry.cells.now anchors.now O s
         (all_places (map_lent grid.entry.width grid.entry.height grid.entry.cells.now anchors.now O)) first first
-        (of_lists run-lists lists.old records.old kept.old.numbers kept.old.spans kept.old.boundaries)
+        (of_lists run-lists lists.old records.old kept.old.numbers.now kept.old.spans.now kept.old.boundaries.now)
         → RanToRest grid.entry.width grid.entry.height grid.entry.cells.now anchors.now O s first result
-        (of_lists run-lists lists.new records.new kept.new.numbers kept.new.spans kept.new.boundaries) }
+        (of_lists run-lists lists.new records.new kept.new.numbers.now kept.new.spans.now kept.new.boundaries.now) }
     ensures same { SameLists lists.old lists.new }
+    ensures same_kept { SameKept kept.old kept.new }
 {
     let mut standing = first;
     let mut turn = first_turn();
@@ -154,10 +158,13 @@ pub fn topology_run_to_rest(
         (of_lists leaves lists.new records.new output.new) }
     ensures same { SameLists lists.old lists.new }
 {
+    let mut numbers = [0u64; MAX_ENTRIES];
+    let mut spans = [0u64; NUMBERS_PER_SPAN * MAX_ENTRIES];
+    let mut boundaries = [0u64; NUMBERS_PER_BOUNDARY * MAX_ENTRIES];
     let mut kept = KeptLists {
-        numbers: [0u64; MAX_ENTRIES],
-        spans: [0u64; NUMBERS_PER_SPAN * MAX_ENTRIES],
-        boundaries: [0u64; NUMBERS_PER_BOUNDARY * MAX_ENTRIES],
+        numbers: &mut numbers,
+        spans: &mut spans,
+        boundaries: &mut boundaries,
     };
     let ready = begin_rest(asked, records.len(), output.len(), lists, &mut kept)?;
     let grid = asked.grid();

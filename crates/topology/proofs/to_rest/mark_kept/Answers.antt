@@ -1,5 +1,5 @@
 -- The kept spans are as many as the kept boundaries, so that what is lent is what a call with these lists is asked.
-use Rattle.std.proofs.Common.{◌≡◌, ◌≤◌, ◌*◌, ◌/◌, ℕ, List, length, arith}
+use Rattle.std.proofs.Common.{◌≡◌, ◌≤◌, ◌*◌, ◌/◌, ℕ, List, ap, length, arith}
 use lib.ListN.{take}
 use lib.Seq.{length-take-le}
 use Rattle.topology.proofs.Resting.{counted-lent, counted-marks}
@@ -12,9 +12,9 @@ pub mark_asked-requires-clause-few : goal.mark_asked-requires-clause-few
 mark_asked-requires-clause-few c = c.requires.few.1
 
 pub mark_asked-requires-clause-map_shown : goal.mark_asked-requires-clause-map_shown
-mark_asked-requires-clause-map_shown c = (_, counted-lent (spans-many c.args.kept.now.spans c.args.standing.kept (omega (arith, c.requires.few.0))) c.front.ensures c.requires.map_shown.1)
+mark_asked-requires-clause-map_shown c = (_, counted-lent (spans-many c.ends.result.now c.args.standing.kept (omega (arith, c.requires.room.0, ap length c.ends.ensures))) c.front.ensures c.requires.map_shown.1)
 
 pub returns-clause-marked : goal.returns-clause-marked
 returns-clause-marked c = λ M L.
-    let many = spans-many c.args.kept.now.spans c.args.standing.kept (omega (arith, c.requires.few.0)) in
+    let many = spans-many c.ends.result.now c.args.standing.kept (omega (arith, c.requires.room.0, ap length c.ends.ensures)) in
     counted-marks many c.front.ensures (c.mark_asked.ensures.marked M (counted-lent many c.front.ensures L))

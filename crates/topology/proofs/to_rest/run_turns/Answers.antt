@@ -1,12 +1,12 @@
 -- A turn keeps what is known of the run (`run-turn`), and the measure falls (`run-lower`); where three passes in a row were quiet the run has come to rest
 -- (`run_ends`).
 use Rattle.std.proofs.Common.{refl}
-use Rattle.topology.proofs.Lending.{same_at_entry, still_same}
+use Rattle.topology.proofs.Lending.{same_at_entry, still_same, kept_at_entry, still_kept}
 use Rattle.topology.proofs.Running.{start-few, run-starts, run_next, run-turn, run-lower, run_ends}
 use Rattle.topology.proofs.to_rest.run_turns.Goals as goal
 
 pub loop-turn-init : goal.loop-turn-init
-loop-turn-init c = (λ O s E. run-starts E c.first_turn-turn.ensures, same_at_entry _)
+loop-turn-init c = (λ O s E. run-starts E c.first_turn-turn.ensures, same_at_entry _, kept_at_entry _)
 
 pub turn_once-next-requires : goal.turn_once-next-requires
 turn_once-next-requires c = (_, _, _, (c.loop-turn.invariant.0 _ _ c.requires.2).stands)
@@ -26,6 +26,7 @@ loop-turn-preserved c = (
       let R = c.loop-turn.invariant.0 O s E in
       run-turn R (start-few E) c.loop-turn-test.true c.next-turn.result (c.turn_once-next.ensures.stands _ _ _ R.stands) refl c.next-turn.ensures,
   still_same c.loop-turn.invariant.1 c.turn_once-next.ensures.same,
+  still_kept c.loop-turn.invariant.2 c.turn_once-next.ensures.same_kept,
 )
 
 pub rounds_run-requires : goal.rounds_run-requires
@@ -36,3 +37,6 @@ returns-clause-rests c = λ O s E. run_ends (c.loop-turn.invariant.0 O s E) c.lo
 
 pub returns-clause-same : goal.returns-clause-same
 returns-clause-same c = c.loop-turn.invariant.1
+
+pub returns-clause-same_kept : goal.returns-clause-same_kept
+returns-clause-same_kept c = c.loop-turn.invariant.2
