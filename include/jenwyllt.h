@@ -580,7 +580,7 @@ struct jenwyllt_answer jenwyllt_write_sheet(
              endpoints than its boundary, or the same in the other order
      10      the list is shorter than the new sheet                             0
 
-   A call needs 25 KiB of stack. */
+   A call needs 31 KiB of stack. */
 struct jenwyllt_answer jenwyllt_convert_sheet(
     const uint8_t *bytes, size_t bytes_length,
     uint8_t *out, size_t out_length);

@@ -1,5 +1,5 @@
 -- `mouth_pass::best_of_ramp` meets its contract: a boundary without a ramp, and one that is no full cut, has no candidates. Assumes nothing.
-use Rattle.std.proofs.Common.{ap, sym, subst, refl, ◌∙◌, ◌<◌, ℕ, []}
+use Rattle.std.proofs.Common.{ap, sym, subst, refl, ◌∙◌, ◌<◌, []}
 use borrow.Author.Tests.{not-false}
 use Rattle.mouth_proposals.specs.Candidates.{mouth_candidate}
 use lib.Dec.{eqb}
