@@ -165,7 +165,7 @@ struct jenwyllt_region {
    5 and 6 are tested span by span, 5 first. With 1 to 10 every list stays as it was. With 11 labels are filled, and masks, queue and tallies are zero; with
    12 labels and tallies are filled, masks and queue are zero, and pairs are zero over the whole list; the other lists stay as they were.
 
-   A call needs 24 KiB of stack. */
+   A call needs 23 KiB of stack. */
 struct jenwyllt_answer jenwyllt_kept_boundaries(
     uint64_t pass, uint64_t width, uint64_t height,
     const uint8_t *cells, size_t cells_length,
@@ -309,7 +309,7 @@ struct jenwyllt_desks_answer {
    With a refusal of the shared lists these are as `jenwyllt_kept_boundaries` leaves them, and both outputs stay as they were. With one of a desk's own the
    shared lists are as on success, and its output stays as it was.
 
-   A call needs 25 KiB of stack. */
+   A call needs 24 KiB of stack. */
 struct jenwyllt_desks_answer jenwyllt_two_desks(
     uint64_t order, uint64_t width, uint64_t height,
     const uint8_t *cells, size_t cells_length,
@@ -688,7 +688,7 @@ struct jenwyllt_reported jenwyllt_report_sheet(
     const uint8_t *bytes, size_t bytes_length);
 
 /* Makes the call `jenwyllt_kept_boundaries` over the lists that are lent, and adds what it answered to the report: what is refused for its lists, with 10, 11
-   or 12, too. A report of 10,000 runs or more: number 3, value 0, no call is made, and report and lists stay as they were. A call needs 26 KiB of stack. */
+   or 12, too. A report of 10,000 runs or more: number 3, value 0, no call is made, and report and lists stay as they were. A call needs 25 KiB of stack. */
 struct jenwyllt_reported jenwyllt_report_run(
     struct jenwyllt_report report,
     uint64_t pass, uint64_t width, uint64_t height,
@@ -750,7 +750,7 @@ struct jenwyllt_answer jenwyllt_report_line(
      18      the day asked for is no day from 2000 to 2099           the count of terms
      10      the output is too short for the entries                 0
 
-   18 and 19 are tested term by term, 18 first. With any of these the output stays as it was. A call needs 673 KiB of stack,
+   18 and 19 are tested term by term, 18 first. With any of these the output stays as it was. A call needs 675 KiB of stack,
    and for the records as much time as `jenwyllt_report_line`. Terms that come in the order of their days take one walk where the maps' numbers leave
    different remainders by 4096, and in any other order n log n steps, up to 40,960 terms; more are taken in parts, with a walk over all terms for each 20,480 or
    so. A refusal 19 of terms in no order takes up to 2 log n times as long. All else grows as n log n with the counts of terms and records. */
