@@ -270,6 +270,7 @@ pub struct Plan {
 }
 
 // Judges the whole of the bytes.
+#[tactic(auto, using(crate::proofs::Chains::result_no_back))]
 fn judge_result(bytes: &[u8]) -> Result<Plan, Refusal>
     ensures { ResultTold bytes.now result }
 {

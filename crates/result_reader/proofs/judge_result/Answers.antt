@@ -2,7 +2,7 @@
 use Rattle.std.proofs.Common.{◌∙◌}
 use Rattle.sheet.proofs.Passed.{passed}
 use Rattle.result_reader.proofs.Answering.{first_of}
-use Rattle.result_reader.proofs.Chains.{result_unopened, result_no_front, result_no_back, result-kept, result-broken}
+use Rattle.result_reader.proofs.Chains.{result_unopened, result_no_front, result-kept, result-broken}
 use Rattle.result_reader.proofs.judge_result.Goals as goal
 
 pub returns-in_err-opening : goal.returns-in_err-opening
@@ -10,9 +10,6 @@ returns-in_err-opening c = rw (passed _ c.from_residual.ensures.1) (result_unope
 
 pub returns-in_err-front : goal.returns-in_err-front
 returns-in_err-front c = rw (passed _ c.from_residual-in_err-front.ensures.1) (result_no_front _ c.in_ok-opening.ensures.same c.in_err-front.ensures)
-
-pub returns-in_err-back : goal.returns-in_err-back
-returns-in_err-back c = rw (passed _ c.from_residual-in_err-back.ensures.1) (result_no_back _ c.in_ok-opening.ensures.same c.in_ok-front.ensures.same c.in_err-back.ensures)
 
 pub returns-in_err-no_fault : goal.returns-in_err-no_fault
 returns-in_err-no_fault c =
