@@ -13,16 +13,15 @@ use Rattle.junction_proposals.specs.Unions.{shape_at}
 use Rattle.junction_proposals.specs.Bridges.{is_bridge_at}
 use Rattle.junction_proposals.specs.declared.lists.JunctionLists.{JunctionLists}
 use Rattle.junction_proposals.specs.declared.proposals.Kind.{Kind}
-use Rattle.junction_proposals.specs.declared.proposals.Kind.TheVariants.{Union, Bridge}
 use Rattle.junction_proposals.specs.declared.proposals.Candidate.{Candidate}
 
 -- at most 256 unions, and 170 bridges: a pocket has three full pairs, and a full pair names two regions
 abbrev pub max_proposals : ℕ
 max_proposals = 426
 
+-- the number of a kind: 0 is a union, every other a bridge
 abbrev pub kind_of : Kind → ℕ
-kind_of Union = 0
-kind_of Bridge = 1
+kind_of k = k.0
 
 abbrev pub form : Candidate → Proposal
 form c = record { index = c.index; kind = kind_of c.kind; first = c.first; second = c.second }
@@ -34,7 +33,7 @@ found_form (Some c) = Some (form c)
 
 -- what is said of a place beyond the last
 abbrev pub nothing : Candidate
-nothing = record { index = 0; kind = Union; first = 0; second = 0 }
+nothing = record { index = 0; kind = record { 0 = 0 }; first = 0; second = 0 }
 
 abbrev pub row_at : List Candidate → ℕ → Proposal
 row_at rows k = form (get_or rows k nothing)

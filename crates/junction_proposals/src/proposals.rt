@@ -14,32 +14,33 @@ use definitions::limits::MAX_ENTRIES;
 // A union for each boundary, and 170 bridges: a pocket has three full pairs, and a full pair names two regions.
 pub const MAX_PROPOSALS: usize = MAX_ENTRIES + MAX_ENTRIES * 2 / 3;
 
-// Whether the boundary between two regions would go, or one of two that lead from a pocket to one region; with its number in the ranked list.
-// Unions go before bridges.
+// Whether the boundary between two regions would go, or one of two that lead from a pocket to one region; by its number in the ranked list: 0 is a union, every
+// other a bridge. Unions go before bridges.
 #[derive(Clone, Copy, PartialEq, Eq, PartialOrd, Ord)]
-pub enum Kind {
-    Union = 0,
-    Bridge = 1,
-}
+pub struct Kind(pub u32);
 
 impl Kind {
+    pub const UNION: Kind = Kind(0);
+
+    pub const BRIDGE: Kind = Kind(1);
+
     pub fn is_union(self) -> bool
         ensures { result ≡ eqb (kind_of self) 0 }
     {
-        self == Kind::Union
+        self == Kind::UNION
     }
 
     pub fn number(self) -> u32
         ensures { result ≡ kind_of self }
     {
-        self as u32
+        self.0
     }
 }
 
 // What is proposed: the boundary that would go, and the two regions of a union, or the pocket and the region beyond.
 #[derive(Clone, Copy)]
 pub struct Candidate {
-    pub index: u8,
+    pub index: u32,
     pub kind: Kind,
     pub first: u32,
     pub second: u32,
@@ -53,8 +54,8 @@ fn union_row(lists: &JunctionLists, i: usize) -> Option<Candidate>
 {
     let union = lists.full[i]?;
     is_union(lists, i).then_some(Candidate {
-        index: i as u8,
-        kind: Kind::Union,
+        index: i as u32,
+        kind: Kind::UNION,
         first: union.lo,
         second: union.hi,
     })
@@ -68,8 +69,8 @@ fn bridge_row(lists: &JunctionLists, r: u32) -> Option<Candidate>
 {
     let bridge = bridge_of(lists, r)?;
     Some(Candidate {
-        index: bridge.index as u8,
-        kind: Kind::Bridge,
+        index: bridge.index as u32,
+        kind: Kind::BRIDGE,
         first: r,
         second: bridge.exterior,
     })

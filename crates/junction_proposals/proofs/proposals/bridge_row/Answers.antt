@@ -1,4 +1,4 @@
--- `junction_proposals::proposals::bridge_row` meets its contract: the boundary of a bridge is one of `count`, so that a byte holds it. Assumes nothing.
+-- `junction_proposals::proposals::bridge_row` meets its contract: the boundary of a bridge is one of `count`, so that its number fits. Assumes nothing.
 use Rattle.std.proofs.Common.{arith, ℕ, ◌∙◌, sym, ap, subst}
 use Rattle.std.specs.Prelude.{Some}
 use Rattle.definitions.specs.Junctions.{Proposal}
