@@ -11,14 +11,11 @@ use Rattle.std.proofs.lemmas.List.{length-map}
 use Rattle.definitions.specs.Scan.{concat_map}
 use Rattle.definitions.specs.Rows.{rows_of}
 use Rattle.definitions.specs.Sheet.{Reading, well_formed, refused, read_sheet, keptlist_cell_limit}
-use Rattle.definitions.specs.Verdict.{Lent, Answer, map_in}
+use Rattle.definitions.specs.Verdict.{Lent, map_in, verdict}
 use Rattle.definitions.specs.Printed.{max_sheet_bytes, refused_line, kept_line, row_line, lent_for, printed_answer, printed_reading, keptlist}
 use Rattle.laws.specs.ListLaws.FlatRows.{row_at, rows_in_lem, rows-length, rows_held, held_are}
 use Rattle.laws.specs.TableLaws.KeptRows.{boundary_count_lem}
 use Rattle.printed.specs.Contract.{row_lines}
-use Rattle.refusals.specs.Refusals.{number_of}
-use Rattle.refusals.specs.declared.Refusal.{Refusal}
-use Rattle.refusals.proofs.Steps.{positive}
 use Rattle.report_figures.specs.Forms.{RowsOnMap}
 use Rattle.report_figures.proofs.Called.{call-left, rows_are}
 use Rattle.sheet_answer.specs.Contract.{keptlist_reading, reading_answer, RunOf}
@@ -39,16 +36,15 @@ unfolding printed_answer
 answer_refused zero L value h = absurd (h refl)
 answer_refused (suc number) L value h = refl
 
-reading_refused : (r : Reading) (a : Answer) → a ≡ reading_answer r → (a.number ≡ 0 → ⊥) → printed_reading r ≡ refused_line a.number a.value
+reading_refused : (r : Reading) → ((reading_answer r).number ≡ 0 → ⊥) → printed_reading r ≡ refused_line (reading_answer r).number (reading_answer r).value
 unfolding printed_reading reading_answer
-reading_refused (well_formed s) a e h =
-    ap (λ x. printed_answer x.number (lent_for s) x.value) (sym e) ∙ answer_refused a.number (lent_for s) a.value h
-reading_refused (refused number place) a e h = ap (λ x. refused_line x.number x.value) (sym e)
+reading_refused (well_formed s) h = answer_refused (verdict (lent_for s)).number (lent_for s) (verdict (lent_for s)).value h
+reading_refused (refused number place) h = refl
 
-pub refused-printed : (bytes : List ℕ) (refusal : Refusal) → record { number = number_of refusal.cause; value = refusal.place } ≡ reading_answer (keptlist_reading bytes)
-    → keptlist bytes ≡ refused_line (number_of refusal.cause) refusal.place
-refused-printed bytes refusal e =
-    keptlist_reading_lem bytes ∙ reading_refused (keptlist_reading bytes) (record { number = number_of refusal.cause; value = refusal.place }) e (λ z. omega (arith, positive refusal.cause, z))
+-- where the answer's number is not 0, its refusal is what is printed
+pub refusal_line : (bytes : List ℕ) → ((reading_answer (keptlist_reading bytes)).number ≡ 0 → ⊥)
+    → keptlist bytes ≡ refused_line (reading_answer (keptlist_reading bytes)).number (reading_answer (keptlist_reading bytes)).value
+refusal_line bytes h = keptlist_reading_lem bytes ∙ reading_refused (keptlist_reading bytes) h
 
 -- ---- a kept list
 

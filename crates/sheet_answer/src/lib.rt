@@ -21,6 +21,7 @@ pub const INPUT_ROOM: usize = SHEET_BYTES_MOST + 1;
 pub const OUTPUT_ROOM: usize = 26_944;
 
 // What `keptlist` prints for these bytes, and how many they are. The type of `out` gives room for the longest list.
+#[tactic(auto, using(crate::proofs::Printing::refusal_line, refusals::proofs::Steps::positive))]
 pub fn keptlist(bytes: &[u8], out: &mut [u8; OUTPUT_ROOM]) -> usize
     ensures prints { Printed (printing.keptlist bytes.now) out.old out.new result }
     ensures inside { Inside result out.new }

@@ -1,10 +1,8 @@
--- `sheet_answer::keptlist` meets its contract: the rows of a sheet that was run are printed, or the refusal. Assumes nothing.
-use Rattle.std.proofs.Common.{ap, sym, subst, arith, ◌∙◌, List, ℕ}
+-- `sheet_answer::keptlist` meets its contract where a sheet was run: its rows are printed. Assumes nothing.
+use Rattle.std.proofs.Common.{sym, subst, arith, List, ℕ}
 use Rattle.std.proofs.Math.Seq.{length-take-le}
-use Rattle.refusals.specs.Answers.{answer_of}
 use Rattle.printed.specs.Contract.{Printed}
-use Rattle.sheet_answer.specs.Contract.{kept_of}
-use Rattle.sheet_answer.proofs.Printing.{rows_left, kept-printed, refused-printed}
+use Rattle.sheet_answer.proofs.Printing.{rows_left, kept-printed}
 use Rattle.sheet_answer.proofs.keptlist.Goals as goal
 
 pub slice_bounds-print_kept-end-in-Ok : goal.slice_bounds-print_kept-end-in-Ok
@@ -16,8 +14,3 @@ pub returns-in-Ok-clause-prints : goal.returns-in-Ok-clause-prints
 returns-in-Ok-clause-prints c =
     let run = c.run_sheet.ensures.run_of c.in-Ok.run' c.in-Ok.is in
     subst (λ (l : List ℕ). Printed l c.args.out.now c.print_kept.new.out c.print_kept.result) (sym (kept-printed c.args.bytes.now run c.as_chunks.ensures.front)) c.print_kept.ensures.printed
-
-pub returns-in-Err-clause-prints : goal.returns-in-Err-clause-prints
-returns-in-Err-clause-prints c =
-    let answer = sym (ap (λ r. answer_of (kept_of r)) c.in-Err.is) ∙ c.run_sheet.ensures.answer in
-    subst (λ (l : List ℕ). Printed l c.args.out.now c.print_refused.new.out c.print_refused.result) (sym (refused-printed c.args.bytes.now c.in-Err.refusal answer)) c.print_refused.ensures.printed
