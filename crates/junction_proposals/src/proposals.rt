@@ -15,7 +15,7 @@ use definitions::limits::MAX_ENTRIES;
 pub const MAX_PROPOSALS: usize = MAX_ENTRIES + MAX_ENTRIES * 2 / 3;
 
 // Whether the boundary between two regions would go, or one of two that lead from a pocket to one region; by its number in the ranked list: 0 is a union, every
-// other a bridge. Unions go before bridges.
+// other a bridge. Unions go before bridges. A number, and no enum of the two that are proposed: the choice among rows is promised for rows of any numbers.
 #[derive(Clone, Copy, PartialEq, Eq, PartialOrd, Ord)]
 pub struct Kind(pub u32);
 
