@@ -24,8 +24,6 @@ use Rattle.context.specs.Records.{record_of, max_cells}
 use Rattle.areas.proofs.Labelling.{zeroed_rest, zeroed-again}
 use Rattle.refusals.specs.declared.Refusal as code
 use Rattle.refusals.specs.Refusals.{number_of, refusal_of}
-use Rattle.areas.specs.Lists.{of_lists}
-use Rattle.areas.specs.declared.lists.PartitionLists.{PartitionLists}
 use Rattle.call_partition.specs.declared.Ready.{Ready}
 use Rattle.call_partition.specs.Prepared.{ReadyAs}
 use Rattle.call_partition.proofs.Exits.{verdict-kept, ran_complete}
@@ -40,7 +38,7 @@ use Rattle.desk_checks.specs.AloneCalls.{terrain-left}
 use Rattle.desk_checks.specs.Shared.{lent_both, RefusedBoth, SharedAs}
 use Rattle.desk_checks.proofs.DeskReady.{desk-ready}
 use Rattle.topology.specs.Filled.{Filled}
-use Rattle.topology.specs.Marks.{Lent, MarkedFor, SameFilled}
+use Rattle.topology.specs.Marks.{Lent, MarkedFor}
 use Rattle.rest_lists.proofs.Inner.{zeroed-length}
 use Rattle.topology.specs.Contract.{written}
 use Rattle.topology.specs.Desks.{desk_of, Ground, shared_of, Partitioned, Terrain, DeskRan, DesksRan, lends_both, leaves-both, RanBothOver}
@@ -103,12 +101,6 @@ module _ {G : Ground} {w h : ℕ} {spans : List ℕ} {regions rows : ℕ} {l m q
   pub terrain-again : {m' q' : List ℕ} → m' ≡ m → q' ≡ q → Terrain G w h spans regions rows l m' q' t p s
   terrain-again e f =
       record { masks = T.masks; queue = T.queue; partitioned = P; filled = T.filled; cleared = e ∙ T.cleared; emptied = f ∙ T.emptied }
-
-  -- the same of lists that hold what these held
-  pub terrain-still : {x y : PartitionLists} → x.labels.now ≡ l → x.tallies.now ≡ t → x.pairs.now ≡ p → SameFilled x y → y.masks.now ≡ m → y.queue.now ≡ q
-      → of_lists (Terrain G w h spans regions rows) y s
-  terrain-still el et ep same e f =
-      rw (same.labels ∙ el) (rw (same.tallies ∙ et) (rw (same.pairs ∙ ep) (terrain-again e f)))
 
   -- ---- one desk over it
 

@@ -115,7 +115,7 @@ pub fn mark_removed(
 // Marks the boundaries that the pass removes of what a call is asked: labels, tallies and pairs are those of its partition.
 // Kept: the lists one by one. With `PartitionLists` this function would lend three of them to `SpanPartition`, and behind a loan by a struct a proof does not
 // know that a list is as it was.
-fn mark_lent(
+pub(crate) fn mark_lent(
     pass: Pass,
     asked: Asked,
     ready: Ready,

@@ -3,11 +3,10 @@
 ghost use Rattle.std.specs.Prelude.{◌≡◌};
 ghost use Rattle.refusals.specs.Answers.{answer_of};
 ghost use Rattle.areas.specs.Lists.{of_lists, SameLists};
-ghost use Rattle.topology.specs.Marks.{SameFilled};
 ghost use Rattle.call_answers.specs.Desks.{desks_answer};
 ghost use Rattle.topology.specs.Desks.{desk_in, Ground, TerrainIn, DeskRan, DesksRan, lends_both, leaves-both, RanBothOver};
 
-use crate::marks::mark_asked;
+use crate::marks::mark_lent;
 use crate::records::fill_from_lists;
 use areas::lists::PartitionLists;
 use areas::scratch::clear_scratch;
@@ -34,16 +33,18 @@ pub fn run_desk(
     desk: Desk,
     terrain: SharedTerrain,
     records: &[Region],
-    lists: &mut PartitionLists,
+    labels: &[u32],
+    tallies: &[u32],
+    pairs: &[u32],
+    masks: &mut [u16],
+    queue: &mut [u32],
     output: &mut [u64],
 ) -> Result<usize, Refusal>
-    requires { (G : Ground) × of_lists (TerrainIn G terrain records.now) lists.old }
-    ensures ran { (G : Ground) → of_lists (TerrainIn G terrain.entry records.now) lists.old
+    requires { (G : Ground) × TerrainIn G terrain records.now labels.now masks.old queue.old tallies.now pairs.now }
+    ensures { (G : Ground) → TerrainIn G terrain.entry records.now labels.now masks.old queue.old tallies.now pairs.now
         → DeskRan G terrain.entry.asked.width terrain.entry.asked.height terrain.entry.asked.spans.now
         (desk_in desk.entry output.old)
-        lists.old.masks.now lists.old.queue.now (answer_of result) lists.new.masks.now lists.new.queue.now output.new }
-    ensures read { SameFilled lists.old lists.new }
-    ensures same { SameLists lists.old lists.new }
+        masks.old queue.old (answer_of result) masks.new queue.new output.new }
 {
     let shared = terrain.asked;
     let pass = check_desk(
@@ -60,14 +61,25 @@ pub fn run_desk(
     };
     let grid = asked.grid();
     let mut removed = [false; MAX_ENTRIES];
-    mark_asked(pass, asked, terrain.ready, records, lists, &mut removed);
+    mark_lent(
+        pass,
+        asked,
+        terrain.ready,
+        records,
+        labels,
+        tallies,
+        pairs,
+        masks,
+        queue,
+        &mut removed,
+    );
     let kept = finish(
         grid.height * grid.width,
         desk.boundaries.len() / NUMBERS_PER_BOUNDARY,
         desk.boundaries,
         &removed,
-        lists.masks,
-        lists.queue,
+        masks,
+        queue,
         output,
     );
     Ok(kept)
@@ -80,29 +92,70 @@ pub fn run_desks(
     records: &[Region],
     route_desk: Desk,
     coaching_desk: Desk,
-    lists: &mut PartitionLists,
+    labels: &[u32],
+    tallies: &[u32],
+    pairs: &[u32],
+    masks: &mut [u16],
+    queue: &mut [u32],
     route_output: &mut [u64],
     coaching_output: &mut [u64],
 ) -> DesksKept
-    requires { (G : Ground) × of_lists (TerrainIn G terrain records.now) lists.old }
-    ensures ran { (G : Ground) → of_lists (TerrainIn G terrain.entry records.now) lists.old
+    requires { (G : Ground) × TerrainIn G terrain records.now labels.now masks.old queue.old tallies.now pairs.now }
+    ensures { (G : Ground) → TerrainIn G terrain.entry records.now labels.now masks.old queue.old tallies.now pairs.now
         → DesksRan G terrain.entry.asked.width terrain.entry.asked.height terrain.entry.asked.spans.now
         (desk_in route_desk.entry route_output.old)
         (desk_in coaching_desk.entry coaching_output.old)
-        lists.old.masks.now lists.old.queue.now (desks_answer result)
-        lists.new.masks.now lists.new.queue.now route_output.new coaching_output.new }
-    ensures read { SameFilled lists.old lists.new }
-    ensures same { SameLists lists.old lists.new }
+        masks.old queue.old (desks_answer result) masks.new queue.new route_output.new coaching_output.new }
 {
     match order {
         DeskOrder::RouteFirst => {
-            let route = run_desk(route_desk, terrain, records, lists, route_output);
-            let coaching = run_desk(coaching_desk, terrain, records, lists, coaching_output);
+            let route = run_desk(
+                route_desk,
+                terrain,
+                records,
+                labels,
+                tallies,
+                pairs,
+                masks,
+                queue,
+                route_output,
+            );
+            let coaching = run_desk(
+                coaching_desk,
+                terrain,
+                records,
+                labels,
+                tallies,
+                pairs,
+                masks,
+                queue,
+                coaching_output,
+            );
             DesksKept { route, coaching }
         }
         DeskOrder::CoachingFirst => {
-            let coaching = run_desk(coaching_desk, terrain, records, lists, coaching_output);
-            let route = run_desk(route_desk, terrain, records, lists, route_output);
+            let coaching = run_desk(
+                coaching_desk,
+                terrain,
+                records,
+                labels,
+                tallies,
+                pairs,
+                masks,
+                queue,
+                coaching_output,
+            );
+            let route = run_desk(
+                route_desk,
+                terrain,
+                records,
+                labels,
+                tallies,
+                pairs,
+                masks,
+                queue,
+                route_output,
+            );
             DesksKept { route, coaching }
         }
     }
@@ -149,13 +202,21 @@ pub fn topology_two_desks(
             fill_from_lists(records, ready.regions, grid, &*lists);
             clear_scratch(lists.masks, lists.queue, grid.height * grid.width);
             let terrain = SharedTerrain { asked, ready };
+            // Kept: as in `mark_asked` of `marks`.
+            let labels = &mut *lists.labels;
+            let tallies = &mut *lists.tallies;
+            let pairs = &mut *lists.pairs;
             run_desks(
                 DeskOrder::from(order),
                 terrain,
                 records,
                 route_desk,
                 coaching_desk,
-                lists,
+                &*labels,
+                &*tallies,
+                &*pairs,
+                lists.masks,
+                lists.queue,
                 route_output,
                 coaching_output,
             )

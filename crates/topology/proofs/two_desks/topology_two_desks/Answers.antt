@@ -42,5 +42,4 @@ returns-in-Ok-clause-ran c =
     let F = c.fill_from_lists.ensures _ (fills-on _ c.grid-grid.ensures (ready_fills R c.prepare_shared.ensures.same.queue_long_lem)) in
     let T = terrain-filled R c.prepare_shared.ensures.same.masks_long c.prepare_shared.ensures.same.queue_long_lem F
     (zeroed-on _ _ c.grid-grid.ensures c.clear_scratch.ensures.0) (zeroed-on _ _ c.grid-grid.ensures c.clear_scratch.ensures.1) in
-    let read = c.run_desks.ensures.read in
-    rw read.labels (rw read.tallies (rw read.pairs (both-served T (c.run_desks.ensures.ran _ T))))
+    both-served T (c.run_desks.ensures _ T)
