@@ -1,5 +1,6 @@
 -- What a turn stands for, and what comes behind a pass. Definitions only; assumes nothing.
-use Rattle.std.specs.Prelude.{ℕ, ◌+◌, Bool, true, false, cond, eqb}
+use Rattle.std.specs.Prelude.{ℕ, ◌+◌, Bool, true, false, cond, eqb, Option, None, Some}
+use Rattle.checks.specs.declared.passes.Pass.{Pass}
 use Rattle.checks.specs.Passes.{pass_number}
 use Rattle.rest_lists.specs.declared.turns.Turn.{Turn}
 
@@ -11,6 +12,11 @@ pub record TurnIs : Type 0 where
 
 abbrev pub turn_of : Turn → TurnIs
 turn_of t = record { pass = pass_number t.pass; quiet = t.quiet; rounds = t.rounds }
+
+-- of the pass that ran last: 0 where none has yet
+abbrev pub last_number : Option Pass → ℕ
+last_number None = 0
+last_number (Some pass) = pass_number pass
 
 abbrev pub quiet_after : ℕ → Bool → ℕ
 quiet_after quiet true = 0

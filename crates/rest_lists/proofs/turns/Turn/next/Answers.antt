@@ -2,11 +2,5 @@
 use Rattle.std.proofs.Common.{rules}
 use Rattle.rest_lists.proofs.turns.Turn.next.Goals as goal
 
-pub returns-in-ReplaceRampMouths : goal.returns-in-ReplaceRampMouths
-returns-in-ReplaceRampMouths c = search rules
-
-pub returns-in-CollapseRampInteriors : goal.returns-in-CollapseRampInteriors
-returns-in-CollapseRampInteriors c = search rules
-
-pub returns-in-RemoveJunctionBoundaries : goal.returns-in-RemoveJunctionBoundaries
-returns-in-RemoveJunctionBoundaries c = search rules
+pub returns : goal.returns
+returns c = search rules
