@@ -72,18 +72,25 @@ pub fn check_entries(asked: Asked) -> Result<(), Refusal>
 }
 
 // Check 10, of lists of these lengths and an output of this one.
-fn check_room(asked: Asked, lists: &PartitionLists, output: usize) -> Result<(), Refusal>
+fn check_room(
+    asked: Asked,
+    labels: usize,
+    masks: usize,
+    queue: usize,
+    tallies: usize,
+    output: usize,
+) -> Result<(), Refusal>
     ensures { refusal_in result ≡ refusal 10 (unless (
-        of_lengths (partition_room (length asked.entry.cells.now) (length asked.entry.spans.now / numbers_per_span)) lists.now
+        partition_room (length asked.entry.cells.now) (length asked.entry.spans.now / numbers_per_span) labels masks queue tallies
         && output_room (length asked.entry.boundaries.now / numbers_per_boundary) output)) }
 {
     let partition = partition_has_room(
         asked.cells.len(),
         asked.spans.len() / NUMBERS_PER_SPAN,
-        lists.labels.len(),
-        lists.masks.len(),
-        lists.queue.len(),
-        lists.tallies.len(),
+        labels,
+        masks,
+        queue,
+        tallies,
     );
     let boundaries = asked.boundaries.len() / NUMBERS_PER_BOUNDARY;
     ensure(
@@ -93,13 +100,36 @@ fn check_room(asked: Asked, lists: &PartitionLists, output: usize) -> Result<(),
 }
 
 // Checks 5 to 10, of cells as many as the sides say. Of the lists that are filled, only the lengths matter.
+pub fn check_entries_and_room(
+    asked: Asked,
+    labels: usize,
+    masks: usize,
+    queue: usize,
+    tallies: usize,
+    output: usize,
+) -> Result<(), Refusal>
+    requires sides { (asked.width ≤ max_side) × (asked.height ≤ max_side) }
+    requires counted { length asked.cells.now ≡ asked.width * asked.height }
+    ensures { refusal_in result ≡ of_asked lists_refusal asked.entry labels masks queue tallies output }
+{
+    check_entries(asked)?;
+    check_room(asked, labels, masks, queue, tallies, output)
+}
+
+// The same of lists that are lent together.
 pub fn check_lists(asked: Asked, lists: &PartitionLists, output: usize) -> Result<(), Refusal>
     requires sides { (asked.width ≤ max_side) × (asked.height ≤ max_side) }
     requires counted { length asked.cells.now ≡ asked.width * asked.height }
     ensures { refusal_in result ≡ of_lengths (of_asked lists_refusal asked.entry) lists.now output }
 {
-    check_entries(asked)?;
-    check_room(asked, lists, output)
+    check_entries_and_room(
+        asked,
+        lists.labels.len(),
+        lists.masks.len(),
+        lists.queue.len(),
+        lists.tallies.len(),
+        output,
+    )
 }
 
 // All of them, and the pass of the number that is asked for.

@@ -2,14 +2,14 @@
 ghost use Rattle.std.specs.Prelude.{◌≡◌, IfOk};
 ghost use Rattle.checks.specs.Passes.{pass_number};
 ghost use Rattle.refusals.specs.Refusals.{refusal_in};
-ghost use Rattle.areas.specs.Lists.{of_lists, of_lengths, SameLists};
+ghost use Rattle.areas.specs.Lists.{of_lists, SameLists};
 ghost use Rattle.call_partition.specs.Asking.{of_asked};
 ghost use Rattle.game_lists.specs.Early.{game_early};
 ghost use Rattle.game_lists.specs.Prepared.{GamePreparedAs};
 
 use areas::lists::PartitionLists;
 use call_partition::asked::Asked;
-use call_partition::checked::{check_lists, check_sizes};
+use call_partition::checked::{check_entries_and_room, check_sizes};
 use call_partition::{Ready, divide};
 use checks::passes::Pass;
 use game_solver::VERDICTS_ROOM;
@@ -20,16 +20,19 @@ use rest_lists::lists::lists_fault;
 pub fn game_checks(
     pass: u64,
     asked: Asked,
-    lists: &PartitionLists,
+    labels: usize,
+    masks: usize,
+    queue: usize,
+    tallies: usize,
     output: usize,
     verdicts: usize,
 ) -> Result<Pass, Refusal>
     ensures named { IfOk result (λ p. pass_number p ≡ pass) }
-    ensures refused { refusal_in result ≡ of_lengths (of_asked (game_early pass) asked.entry) lists.now output verdicts }
+    ensures refused { refusal_in result ≡ of_asked (game_early pass) asked.entry labels masks queue tallies output verdicts }
 {
     let pass = check_sizes(pass, asked)?;
     no_fault(lists_fault(asked.spans, asked.boundaries), Cause::Lists)?;
-    check_lists(asked, lists, output)?;
+    check_entries_and_room(asked, labels, masks, queue, tallies, output)?;
     ensure(VERDICTS_ROOM <= verdicts, Cause::Room)?;
     Ok(pass)
 }
@@ -46,7 +49,16 @@ pub fn prepare_game(
     ensures prepared { of_lists (of_lists (of_asked (GamePreparedAs pass) asked.entry room output verdicts) lists.old result) lists.new }
     ensures same { SameLists lists.old lists.new }
 {
-    let pass = game_checks(pass, asked, &*lists, output, verdicts)?;
+    let pass = game_checks(
+        pass,
+        asked,
+        lists.labels.len(),
+        lists.masks.len(),
+        lists.queue.len(),
+        lists.tallies.len(),
+        output,
+        verdicts,
+    )?;
     let ready = divide(asked.grid(), asked.spans, room, lists)?;
     Ok((pass, ready))
 }

@@ -32,7 +32,14 @@ pub fn begin_rest(
     ensures same { SameLists lists.old lists.new }
     ensures same_kept { SameKept kept.old kept.new }
 {
-    rest_checks(asked, &*lists, output)?;
+    rest_checks(
+        asked,
+        lists.labels.len(),
+        lists.masks.len(),
+        lists.queue.len(),
+        lists.tallies.len(),
+        output,
+    )?;
     let count = asked.boundaries.len() / NUMBERS_PER_BOUNDARY;
     start_lists(
         asked.boundaries,

@@ -19,13 +19,13 @@ returns-in_err-no_fault c =
     let r : refusal_in c.from_residual-in_err-no_fault.result ≡ Some (refusal_of c.in_err-no_fault.field-0.0) = search rules in
     r ∙ next (sym (c.in_ok-check_whole.ensures ∙ sizes-of-pass 1 _ _ _ _ _ _ (search rules))) (here _ (searched 16 c.lists_fault.ensures c.in_err-no_fault.ensures))
 
-pub check_lists-requires-clause-sides : goal.check_lists-requires-clause-sides
-check_lists-requires-clause-sides c = let s = whole-fit (sym c.in_ok-check_whole.ensures) in (s.narrow, s.short)
+pub check_entries_and_room-requires-clause-sides : goal.check_entries_and_room-requires-clause-sides
+check_entries_and_room-requires-clause-sides c = let s = whole-fit (sym c.in_ok-check_whole.ensures) in (s.narrow, s.short)
 
-pub check_lists-requires-clause-counted : goal.check_lists-requires-clause-counted
-check_lists-requires-clause-counted c = (whole-fit (sym c.in_ok-check_whole.ensures)).counted
+pub check_entries_and_room-requires-clause-counted : goal.check_entries_and_room-requires-clause-counted
+check_entries_and_room-requires-clause-counted c = (whole-fit (sym c.in_ok-check_whole.ensures)).counted
 
 pub returns : goal.returns
 unfolding rest_early
 returns c =
-    next (sym (c.in_ok-check_whole.ensures ∙ sizes-of-pass 1 _ _ _ _ _ _ (search rules))) (next (searched 16 c.lists_fault.ensures c.in_ok-no_fault.ensures) c.check_lists.ensures)
+    next (sym (c.in_ok-check_whole.ensures ∙ sizes-of-pass 1 _ _ _ _ _ _ (search rules))) (next (searched 16 c.lists_fault.ensures c.in_ok-no_fault.ensures) c.check_entries_and_room.ensures)
