@@ -1,9 +1,8 @@
 -- The words of the contracts of the end of the call that gives the ranked junction list: 21, and the rows kept with the list. Definitions only; assumes nothing.
-use Rattle.std.specs.Prelude.{ℕ, ◌/◌, ◌≤◌, ◌<◌, ◌≡◌, Bool, List, length, Result, Ok, Err}
+use Rattle.std.specs.Prelude.{ℕ, ◌*◌, ◌/◌, ◌≤◌, ◌<◌, ◌≡◌, Bool, List, length, take, Result, Ok, Err}
 use Rattle.definitions.specs.Lists.{overwrite, zeroed}
-use Rattle.definitions.specs.Junctions.{Proposal}
 use Rattle.pass_lists.specs.Finished.{Finished}
-use Rattle.ranked_list.specs.RankedList.{Listed, numbers_per_ranked, flat_ranked}
+use Rattle.ranked_list.specs.RankedList.{numbers_per_ranked}
 use Rattle.ranked_list.specs.RankedAnswers as def
 use Rattle.refusals.specs.declared.Refusal.{Refusal}
 use Rattle.refusals.specs.Refusals.{number_of}
@@ -25,16 +24,16 @@ pub record RankedRefused (needed : ℕ) (m q k : List ℕ) (a : def.RankedAnswer
   pub queue : q' ≡ zeroed needed q
   pub list : k' ≡ zeroed (length k) k
 
--- the rows of the proposals are written, and the rows kept
-pub record RankedWritten (needed count : ℕ) (boundaries : List ℕ) (removed : List Bool) (listed : List (Listed Proposal)) (m q o k : List ℕ) (a : def.RankedAnswer)
+-- the rows of n proposals are written, and the rows kept
+pub record RankedWritten (needed count : ℕ) (boundaries : List ℕ) (removed : List Bool) (listed : List ℕ) (n : ℕ) (m q o k : List ℕ) (a : def.RankedAnswer)
     (m' q' o' k' : List ℕ) : Type 0 where
   pub kept : ℕ
-  pub answer : a ≡ record { number = 0; value = kept; proposals = length listed }
+  pub answer : a ≡ record { number = 0; value = kept; proposals = n }
   pub finished : Finished needed count boundaries removed m q o m' q' o' kept
-  pub list : k' ≡ overwrite (flat_ranked listed) k
+  pub list : k' ≡ overwrite (take (numbers_per_ranked * n) listed) k
 
 -- By the room of the lent list. At 21 the output is as it was.
-pub record RankedFinished (needed count : ℕ) (boundaries : List ℕ) (removed : List Bool) (listed : List (Listed Proposal)) (m q o k : List ℕ) (a : def.RankedAnswer)
+pub record RankedFinished (needed count : ℕ) (boundaries : List ℕ) (removed : List Bool) (listed : List ℕ) (n : ℕ) (m q o k : List ℕ) (a : def.RankedAnswer)
     (m' q' o' k' : List ℕ) : Type 0 where
-  pub short : length k / numbers_per_ranked < length listed → RankedRefused needed m q k a m' q' k' × (o' ≡ o)
-  pub enough : length listed ≤ length k / numbers_per_ranked → RankedWritten needed count boundaries removed listed m q o k a m' q' o' k'
+  pub short : length k / numbers_per_ranked < n → RankedRefused needed m q k a m' q' k' × (o' ≡ o)
+  pub enough : n ≤ length k / numbers_per_ranked → RankedWritten needed count boundaries removed listed n m q o k a m' q' o' k'

@@ -3,10 +3,10 @@
 
 #![tactic(auto)]
 
-ghost use Rattle.std.specs.Prelude.{◌≡◌, ◌*◌, ◌≤◌, length, map, [], ◌∷◌};
+ghost use Rattle.std.specs.Prelude.{◌≡◌, ◌*◌, ◌≤◌, length, [], ◌∷◌};
 ghost use Rattle.definitions.specs.Lists.{overwrite};
-ghost use Rattle.ranked_list.specs.RankedList.{numbers_per_ranked, flat_ranked};
-ghost use Rattle.ranked_rows.specs.Contract.{listed_form};
+ghost use Rattle.ranked_list.specs.RankedList.{numbers_per_ranked};
+ghost use Rattle.ranked_rows.specs.Contract.{row_numbers};
 ghost use Rattle.pass_lists.specs.Finished.{Finishes};
 ghost use Rattle.ranked_finish.specs.Ends.{ranked_form, ranked_of, RankedFinished};
 
@@ -56,26 +56,22 @@ impl From<Result<RankedKept, Refusal>> for RankedAnswer {
 
 // A row as the lent list has it: kind, boundary, two regions, whether it was taken, and by what rank it was refused.
 fn numbers_of(row: RankedRow) -> [u32; NUMBERS_PER_RANKED]
-    ensures { result ≡ flat_ranked (listed_form row ∷ []) }
+    ensures { result ≡ row_numbers (row ∷ []) }
 {
-    let RankedRow {
-        candidate,
-        refused_by,
-    } = row;
     [
-        candidate.kind.number(),
-        u32::from(candidate.index),
-        candidate.first,
-        candidate.second,
-        u32::from(refused_by.is_none()),
-        u32::from(refused_by.unwrap_or(0)),
+        row.candidate.kind.number(),
+        u32::from(row.candidate.index),
+        row.candidate.first,
+        row.candidate.second,
+        row.taken,
+        row.refused_by,
     ]
 }
 
 // Writes rows in front of the list that was lent.
 fn put_listed(listed: &[RankedRow], lent: &mut [u32])
     requires { numbers_per_ranked * length listed.now ≤ length lent.old }
-    ensures { lent.new ≡ overwrite (flat_ranked (map listed_form listed.now)) lent.old }
+    ensures { lent.new ≡ overwrite (row_numbers listed.now) lent.old }
 {
     // Kept: with `zip` over `lent.chunks_exact_mut(NUMBERS_PER_RANKED)` no place would be counted, but of what `chunks_exact_mut` lends a proof knows nothing
     // behind the loop.
@@ -101,7 +97,7 @@ pub fn finish_ranked(
     lent: &mut [u32],
 ) -> Result<RankedKept, Refusal>
     requires { Finishes needed count boundaries.now (length masks.old) (length queue.old) (length output.old) }
-    ensures { RankedFinished needed count boundaries.now removed.now (map listed_form listed.now)
+    ensures { RankedFinished needed count boundaries.now removed.now (row_numbers listed.now) (length listed.now)
         masks.old queue.old output.old lent.old
         (ranked_of result) masks.new queue.new output.new lent.new }
 {

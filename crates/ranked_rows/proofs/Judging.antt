@@ -11,11 +11,12 @@ use Rattle.std.specs.Prelude.{Option, None, Some}
 use Rattle.std.specs.Option.{is_some, unwrap_or, option_map}
 use Rattle.definitions.specs.Scan.{any}
 use Rattle.definitions.specs.Junctions.{Proposal}
+use Rattle.laws.specs.ListLaws.Flags.{bit-is_one}
 use Rattle.junction_proposals.specs.declared.proposals.Candidate.{Candidate}
 use Rattle.junction_proposals.specs.Bridges.{FirstIn}
 use Rattle.junction_proposals.specs.Rows.{form}
 use Rattle.ranked_list.specs.RankedList.{Listed, first_place, blocks, judged, judged_after}
-use Rattle.ranked_rows.specs.Contract.{listed_form}
+use Rattle.ranked_rows.specs.Contract.{listed_form, judged_row}
 
 -- a row in the place of as many numbers
 pub row_copied : (old row : List ℕ) (at : ℕ) {part : List ℕ} → at + length row ≤ length old → part ≡ row → put_mid at (at + length row - at) old part ≡ sets old at row
@@ -73,8 +74,9 @@ module _ {A : Type 0} (f : Listed A → Bool) (d : Listed A) where
 
 -- so the row that is listed is that of what was found
 pub row_listed : (clash : Proposal → Proposal → Bool) (l : List (Listed Proposal)) (p : Candidate) (found : Option ℕ) (d : Listed Proposal)
-    → FirstIn (λ i. blocks clash (form p) (get_or l i d)) 0 (length l) found → listed_form (record { candidate = p; refused_by = found }) ≡ judged clash l (form p)
+    → FirstIn (λ i. blocks clash (form p) (get_or l i d)) 0 (length l) found → listed_form (judged_row p found) ≡ judged clash l (form p)
 unfolding judged
 row_listed clash l p found d s =
     let t = found_as (blocks clash (form p)) d l found s in
-    λ i. record { item = form p; taken = not (sym t.some i); by = sym t.place i }
+    let taken = bit-is_one (not (is_some found)) ∙ ap not (sym t.some) in
+    λ i. record { item = form p; taken = taken i; by = sym t.place i }

@@ -1,3 +1,4 @@
 pub mod Judging
+pub mod Numbers
 pub mod Following
 pub mod Listed

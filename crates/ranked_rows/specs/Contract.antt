@@ -1,9 +1,10 @@
 -- The words of the contracts of the ranked junction list over rows of proposals: a row of the list as it is declared, what is asked of the lists, and the list that comes
 -- of an order. Definitions only; assumes nothing.
-use Rattle.std.specs.Prelude.{ℕ, ◌*◌, ◌≤◌, ◌<◌, Bool, not, length, get_or, Option, None}
+use Rattle.std.specs.Prelude.{ℕ, ◌*◌, ◌≤◌, ◌<◌, Bool, not, length, get_or, eqb, Option}
 use Rattle.std.specs.Option.{is_some, unwrap_or}
-use mathlib.Core.List.{List, []}
+use mathlib.Core.List.{List, [], ◌∷◌}
 use Rattle.definitions.specs.Limits.{numbers_per_boundary}
+use Rattle.definitions.specs.Scan.{bit}
 use Rattle.definitions.specs.Sort.{sort}
 use Rattle.definitions.specs.Junctions.{Proposal}
 use Rattle.junction_proposals.specs.declared.proposals.Candidate.{Candidate}
@@ -13,13 +14,22 @@ use Rattle.ranked_list.specs.RankedList.{Listed, blocks, judged_after}
 use Rattle.ranked_rows.specs.declared.RankedRow.{RankedRow}
 use Rattle.region_pairs.specs.declared.Pair as declared
 
--- what a row stands for: it was taken where it was not refused, and the rank that it was refused by is 0 then
+-- what a row stands for: it was taken where its number is 1
 abbrev pub listed_form : RankedRow → Listed Proposal
-listed_form r = record { item = form r.candidate; taken = not (is_some r.refused_by); by = unwrap_or r.refused_by 0 }
+listed_form r = record { item = form r.candidate; taken = eqb r.taken 1; by = r.refused_by }
+
+-- the row of a proposal, and of the rank of what it was refused by: it was taken where there is none, and the rank is 0 then
+abbrev pub judged_row : Candidate → Option ℕ → RankedRow
+judged_row p found = record { candidate = p; taken = bit (not (is_some found)); refused_by = unwrap_or found 0 }
+
+-- rows as the lent list holds them, whatever their numbers are: six numbers a row, in the order of `flat_ranked`
+unfoldable pub row_numbers : List RankedRow → List ℕ
+row_numbers [] = []
+row_numbers (r ∷ l) = (form r.candidate).kind ∷ (form r.candidate).index ∷ r.candidate.first ∷ r.candidate.second ∷ r.taken ∷ r.refused_by ∷ row_numbers l
 
 -- row k of a list; what is said beyond the last
 abbrev pub no_row : RankedRow
-no_row = record { candidate = nothing; refused_by = None }
+no_row = record { candidate = nothing; taken = 0; refused_by = 0 }
 
 abbrev pub row_of : List RankedRow → ℕ → RankedRow
 row_of listed k = get_or listed k no_row

@@ -8,7 +8,8 @@ ghost use Rattle.definitions.specs.Scan.{any_below_lem};
 ghost use Rattle.junction_proposals.specs.Bridges.{FirstIn};
 ghost use Rattle.junction_proposals.specs.Rows.{max_proposals, form};
 ghost use Rattle.junction_selection.specs.Ranks.{reserves_at, conflict_at, order_of, Rows};
-ghost use Rattle.ranked_rows.specs.Contract.{listed_form, blocks_at, row_of, Listing, Allowed, listed_from, allowed_list};
+ghost use Rattle.ranked_list.specs.RankedList.{flat_ranked};
+ghost use Rattle.ranked_rows.specs.Contract.{listed_form, judged_row, row_numbers, blocks_at, row_of, Listing, Allowed, listed_from, allowed_list};
 
 use junction_proposals::lists::JunctionLists;
 use junction_proposals::proposals::{Candidate, MAX_PROPOSALS};
@@ -16,11 +17,25 @@ use junction_selection::found::FoundRows;
 use junction_selection::ranks::rank_proposals;
 use junction_selection::selection::{region_conflict, reserves};
 
-// A row of the list: what is proposed, and the rank of the row that it was refused by; it was taken where there is none.
+// A row of the list, by the numbers that the lent list holds of it: what is proposed, 1 where it was taken, and the rank of the row that it was refused by.
 #[derive(Clone, Copy)]
 pub struct RankedRow {
     pub candidate: Candidate,
-    pub refused_by: Option<u16>,
+    pub taken: u32,
+    pub refused_by: u32,
+}
+
+impl RankedRow {
+    // That of a proposal: it was taken where no row refused it, and the rank is 0 then.
+    fn of(candidate: Candidate, refused_by: Option<u16>) -> Self
+        ensures { result ≡ judged_row candidate refused_by }
+    {
+        Self {
+            candidate,
+            taken: u32::from(refused_by.is_none()),
+            refused_by: u32::from(refused_by.unwrap_or(0)),
+        }
+    }
 }
 
 // Whether some boundary is a port of both proposals.
@@ -48,7 +63,7 @@ fn blocks(lists: &JunctionLists, row: RankedRow, candidate: Candidate) -> bool
     requires { lists.now.count ≤ max_entries }
     ensures { result ≡ blocks_at lists.now.full.now lists.now.count candidate row }
 {
-    row.refused_by.is_none() && conflicts(lists, row.candidate, candidate)
+    row.taken == 1 && conflicts(lists, row.candidate, candidate)
 }
 
 // The rank of the first of the listed rows that was taken and conflicts with a proposal.
@@ -69,15 +84,14 @@ fn list_in_order(found: &FoundRows, order: &[u32], listed: &mut [RankedRow])
     requires rows { Rows order.now (length order.now) (length found.now.rows.now) }
     ensures list { map listed_form (take (length order.now) listed.new) ≡ listed_from found.now.lists.now.full.now found.now.lists.now.count
         (order_of found.now.rows.now order.now (length order.now)) }
+    ensures numbers { row_numbers (take (length order.now) listed.new) ≡ flat_ranked (listed_from found.now.lists.now.full.now found.now.lists.now.count
+        (order_of found.now.rows.now order.now (length order.now))) }
     ensures rest { drop (length order.now) listed.new ≡ drop (length order.now) listed.old }
 {
     for (k, &p) in order.iter().enumerate() {
         let candidate = found.rows[p as usize];
         let refused_by = refused_by(found.lists, &listed[..k], candidate);
-        listed[k] = RankedRow {
-            candidate,
-            refused_by,
-        };
+        listed[k] = RankedRow::of(candidate, refused_by);
     }
 }
 
@@ -87,6 +101,8 @@ pub fn list_ranked(found: &FoundRows, verdicts: &[bool], listed: &mut [RankedRow
     ensures within { result ≤ length listed.new }
     ensures list { map listed_form (take result listed.new) ≡ allowed_list found.now.lists.now.full.now found.now.lists.now.count
         found.now.lists.now.boundaries.now found.now.rows.now verdicts.now (length found.now.rows.now) }
+    ensures numbers { row_numbers (take result listed.new) ≡ flat_ranked (allowed_list found.now.lists.now.full.now found.now.lists.now.count
+        found.now.lists.now.boundaries.now found.now.rows.now verdicts.now (length found.now.rows.now)) }
     ensures rest { drop result listed.new ≡ drop result listed.old }
 {
     let mut order = [0u32; MAX_PROPOSALS];

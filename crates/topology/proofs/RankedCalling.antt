@@ -6,6 +6,7 @@ use mathlib.Core.Path.{◌≡◌, refl, sym, ap, ◌∙◌, subst}
 use mathlib.Core.Bool.{Bool, true, false, cond}
 use mathlib.Core.Logic.{⊎_elim}
 use mathlib.Core.List.{List, [], map}
+use Rattle.std.proofs.lemmas.List.{take_all}
 use lib.ListN.{length, take, replicate, length-map}
 use lib.Dec.{leb}
 use borrow.Author.Tests.{leb-true, leb-false, eq-eqb, ne_eqb}
@@ -13,7 +14,6 @@ use Rattle.definitions.specs.Limits.{max_entries, numbers_per_span, numbers_per_
 use Rattle.definitions.specs.Lists.{overwrite}
 use Rattle.definitions.specs.Grid.{Map, map_of, span_count}
 use Rattle.definitions.specs.Context.{context_of}
-use Rattle.definitions.specs.Junctions.{Proposal}
 use Rattle.definitions.specs.Verdict.{map_in}
 use Rattle.context.specs.declared.Region.{Region}
 use Rattle.context.specs.Records.{record_of}
@@ -26,11 +26,12 @@ use Rattle.call_partition.specs.Prepared.{ReadyAs, PreparedAs}
 use Rattle.pass_lists.specs.Finished.{Finished}
 use Rattle.pass_lists.proofs.AfterPartition.{spans-lent, boundaries-lent}
 use Rattle.pass_lists.proofs.Closing.{ran-kept}
-use Rattle.ranked_list.specs.RankedList.{Listed, numbers_per_ranked, ranked_rows, ranked_of, flat_ranked}
+use Rattle.ranked_list.specs.RankedList.{numbers_per_ranked, ranked_rows, ranked_of, flat_ranked}
 use Rattle.ranked_rows.specs.declared.RankedRow.{RankedRow}
-use Rattle.ranked_rows.specs.Contract.{listed_form}
+use Rattle.ranked_rows.specs.Contract.{listed_form, row_numbers}
 use Rattle.ranked_list.specs.RankedAnswers.{RankedAnswer}
 use Rattle.ranked_finish.specs.Ends.{RankedFinished}
+use Rattle.ranked_finish.proofs.Flat.{flat-length}
 use Rattle.ranked_finish.proofs.Exits.{ranked-done, ranked-short, refused-ran}
 use Rattle.topology.specs.Filled.{Filled}
 use Rattle.topology.specs.Ranked.{Lists, RankedFor, RankedOver}
@@ -87,11 +88,21 @@ module _ {w h : ℕ} {cells spans boundaries anchors : List ℕ} {room output : 
     pub listed-within : n ≤ length listed
     listed-within = lists.within
 
-    abbrev proposed : List (Listed Proposal)
-    proposed = map listed_form (take n listed)
+    -- the rows of the list
+    abbrev proposed : List RankedRow
+    proposed = take n listed
+
+    many : length proposed ≡ length (ranked_of M)
+    many = sym (length-map proposed listed_form) ∙ ap length lists.list
+
+    -- their numbers are those of the map's rows, and all of these
+    proposed_numbers : take (numbers_per_ranked * length proposed) (row_numbers proposed) ≡ flat_ranked (ranked_of M)
+    proposed_numbers =
+        ap (take (numbers_per_ranked * length proposed)) lists.numbers
+        ∙ take_all (numbers_per_ranked * length proposed) (flat_ranked (ranked_of M)) (omega (arith, flat-length (ranked_of M), many))
 
     module _ {o k m₃ q₃ o₃ k₃ : List ℕ} {a : RankedAnswer} (long : length s ≡ room) (wide : length o ≡ output)
-        (E : RankedFinished (h * w) (length boundaries / numbers_per_boundary) boundaries removed proposed m₂ q₂ o k a m₃ q₃ o₃ k₃) where
+        (E : RankedFinished (h * w) (length boundaries / numbers_per_boundary) boundaries removed (row_numbers proposed) (length proposed) m₂ q₂ o k a m₃ q₃ o₃ k₃) where
       by_room : (b : Bool) → leb (length proposed) (length k / numbers_per_ranked) ≡ b
           → RankedOver (lends w h cells spans boundaries anchors l m q t p s o) k a (leaves l' m₃ q₃ t' p' s' o₃) k₃
       unfolding map_in
@@ -100,7 +111,7 @@ module _ {w h : ℕ} {cells spans boundaries anchors : List ℕ} {room output : 
           let W = E.enough enough in
           let ran = ran-kept R (map record_of s) o (length-map s record_of ∙ long) wide F.records K.marked.masks.rest K.marked.queue.rest (marked R F K.marked) W.finished in
           subst (λ a. RankedOver (lends w h cells spans boundaries anchors l m q t p s o) k a (leaves l' m₃ q₃ t' p' s' o₃) k₃) (sym W.answer)
-          (record { ran = ranked-done k ran (ap length lists.list) enough (W.list ∙ ap (λ l. overwrite (flat_ranked l) k) lists.list); beyond = F.beyond })
+          (record { ran = ranked-done k ran many enough (W.list ∙ ap (λ l. overwrite l k) proposed_numbers); beyond = F.beyond })
       by_room false e =
           let lack = leb-false (length proposed) (length k / numbers_per_ranked) e in
           let S = E.short lack in
@@ -108,7 +119,7 @@ module _ {w h : ℕ} {cells spans boundaries anchors : List ℕ} {room output : 
           let ran = ran-kept R (map record_of s) o (length-map s record_of ∙ long) wide F.records K.marked.masks.rest K.marked.queue.rest (marked R F K.marked) fin in
           subst (λ x. RankedOver (lends w h cells spans boundaries anchors l m q t p s o) k a (leaves l' m₃ q₃ t' p' s' x) k₃) (sym S.1)
           (subst (λ a. RankedOver (lends w h cells spans boundaries anchors l m q t p s o) k a (leaves l' m₃ q₃ t' p' s' o) k₃) (sym S.0.answer)
-          (record { ran = ranked-short k ran (omega (arith, lack, ap length lists.list)) S.0.list; beyond = F.beyond }))
+          (record { ran = ranked-short k ran (omega (arith, lack, many)) S.0.list; beyond = F.beyond }))
 
       pub ranked-over : RankedOver (lends w h cells spans boundaries anchors l m q t p s o) k a (leaves l' m₃ q₃ t' p' s' o₃) k₃
       ranked-over = by_room (leb (length proposed) (length k / numbers_per_ranked)) refl

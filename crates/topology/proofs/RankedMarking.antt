@@ -13,7 +13,9 @@ use Rattle.std.specs.Prelude.{Option}
 use Rattle.context.specs.declared.Region.{Region}
 use Rattle.region_pairs.specs.declared.Pair.{Pair}
 use Rattle.pass_lists.specs.Contract.{Viewed}
+use Rattle.ranked_list.specs.RankedList.{flat_ranked}
 use Rattle.ranked_rows.specs.declared.RankedRow.{RankedRow}
+use Rattle.ranked_rows.specs.Contract.{row_numbers}
 use Rattle.topology.specs.Mouths.{NoMarks}
 use Rattle.topology.specs.Proposals.{Passes, Unmarked}
 use Rattle.topology.specs.Marks.{Lent}
@@ -27,7 +29,8 @@ module _ (M : Map) {records : List Region} {w needed : ℕ} {labels anchors : Li
 
   -- pass 3 does not run
   pub unranked-lent : {m q : List ℕ} {was : List Bool} {old : List RankedRow} → (length boundaries / numbers_per_boundary ≡ count → ⊥) → RankedFor M needed count boundaries m q m q was was old old 0
-  unranked-lent d = record { marked = unmarked_lent M L d; equal = λ e. absurd (d e); differ = λ _. record { within = zero-le; list = refl; rest = refl } }
+  unfolding row_numbers flat_ranked
+  unranked-lent d = record { marked = unmarked_lent M L d; equal = λ e. absurd (d e); differ = λ _. record { within = zero-le; list = refl; numbers = refl; rest = refl } }
 
   counted : C.count ≡ count
   counted = L.partitioned.paired.counted

@@ -7,19 +7,20 @@ use Rattle.definitions.specs.Partition.{region_count}
 use Rattle.definitions.specs.Context.{Context, context_of}
 use Rattle.definitions.specs.Junctions.{Proposal}
 use Rattle.context.specs.Records.{record_of}
-use Rattle.ranked_list.specs.RankedList.{Listed, ranked_rows}
+use Rattle.ranked_list.specs.RankedList.{Listed, ranked_rows, flat_ranked}
 use Rattle.ranked_list.specs.RankedAnswers.{RankedAnswer, RankedRan}
 use Rattle.ranked_rows.specs.declared.RankedRow.{RankedRow}
-use Rattle.ranked_rows.specs.Contract.{listed_form}
+use Rattle.ranked_rows.specs.Contract.{listed_form, row_numbers}
 use Rattle.topology.specs.Proposals.{Removes}
 use Rattle.topology.specs.Marks.{MarkedFor}
 use Rattle.topology.specs.Lent.{LentLists, LeftLists, lent_map, lent_call}
 use Rattle.topology.specs.Contract.{written}
 
--- the list, which was `was`, has the n rows in front
+-- the list, which was `was`, has the n rows in front, and their numbers there
 pub record Lists (rows : List (Listed Proposal)) (was listed : List RankedRow) (n : ℕ) : Type 0 where
   pub within : n ≤ length listed
   pub list : map listed_form (take n listed) ≡ rows
+  pub numbers : row_numbers (take n listed) ≡ flat_ranked rows
   pub rest : drop n listed ≡ drop n was
 
 -- the marked boundaries are those that pass 3 removes, and the list has the proposals of C

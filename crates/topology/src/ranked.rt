@@ -32,7 +32,8 @@ use refusals::Refusal;
 // What stands in the list where no row was put.
 const NO_RANKED: RankedRow = RankedRow {
     candidate: NO_ROW,
-    refused_by: None,
+    taken: 0,
+    refused_by: 0,
 };
 
 // Pass 3 with its list: marks the boundaries that it removes, lists the proposals that reach the ranking, and gives how many there are. No boundary is marked

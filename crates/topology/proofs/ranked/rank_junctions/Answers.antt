@@ -17,4 +17,4 @@ list_ranked-requires c =
 pub returns : goal.returns
 returns c = λ C h.
     let p = proposed-front (omega (arith, (c.allowed_proposals-n.ensures C h).few, c.allowed_proposals-n.auto.rows)) (c.allowed_proposals-n.ensures C h) in
-    pass-ranked h p (pass-removes h p c.select_proposals.ensures) c.list_ranked.ensures.within c.list_ranked.ensures.list c.list_ranked.ensures.rest
+    pass-ranked h p (pass-removes h p c.select_proposals.ensures) c.list_ranked.ensures.within c.list_ranked.ensures.list c.list_ranked.ensures.numbers c.list_ranked.ensures.rest
