@@ -60,7 +60,7 @@ fn numbers_of(row: RankedRow) -> [u32; NUMBERS_PER_RANKED]
 {
     [
         row.candidate.kind.number(),
-        u32::from(row.candidate.index),
+        row.candidate.index,
         row.candidate.first,
         row.candidate.second,
         row.taken,

@@ -3,7 +3,7 @@
 use Rattle.std.specs.Prelude.{ℕ, ◌*◌, ◌≤◌, ◌<◌, Bool, not, length, get_or, eqb, Option}
 use Rattle.std.specs.Option.{is_some, unwrap_or}
 use mathlib.Core.List.{List, [], ◌∷◌}
-use Rattle.definitions.specs.Limits.{numbers_per_boundary}
+use Rattle.definitions.specs.Limits.{max_entries, numbers_per_boundary}
 use Rattle.definitions.specs.Scan.{bit}
 use Rattle.definitions.specs.Sort.{sort}
 use Rattle.definitions.specs.Junctions.{Proposal}
@@ -33,6 +33,10 @@ no_row = record { candidate = nothing; taken = 0; refused_by = 0 }
 
 abbrev pub row_of : List RankedRow → ℕ → RankedRow
 row_of listed k = get_or listed k no_row
+
+-- the boundary of each row is below `max_entries`
+abbrev pub BelowEntries : List RankedRow → Type 0
+BelowEntries listed = (r : ℕ) → r < length listed → (row_of listed r).candidate.index < max_entries
 
 -- few boundaries, no more ranks than proposals, and a row for each rank
 pub record Listing (count ranks listed : ℕ) : Type 0 where

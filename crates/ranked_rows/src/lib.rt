@@ -2,14 +2,14 @@
 
 #![tactic(auto)]
 
-ghost use Rattle.std.specs.Prelude.{◌≡◌, ◌&&◌, ◌≤◌, length, map, take, drop};
+ghost use Rattle.std.specs.Prelude.{◌≡◌, ◌&&◌, ℕ, ◌≤◌, ◌<◌, length, map, take, drop};
 ghost use Rattle.definitions.specs.Limits.{max_entries};
 ghost use Rattle.definitions.specs.Scan.{any_below_lem};
 ghost use Rattle.junction_proposals.specs.Bridges.{FirstIn};
-ghost use Rattle.junction_proposals.specs.Rows.{max_proposals, form};
+ghost use Rattle.junction_proposals.specs.Rows.{max_proposals, form, row_at};
 ghost use Rattle.junction_selection.specs.Ranks.{reserves_at, conflict_at, order_of, Rows};
 ghost use Rattle.ranked_list.specs.RankedList.{flat_ranked};
-ghost use Rattle.ranked_rows.specs.Contract.{listed_form, judged_row, row_numbers, blocks_at, row_of, Listing, Allowed, listed_from, allowed_list};
+ghost use Rattle.ranked_rows.specs.Contract.{listed_form, judged_row, row_numbers, blocks_at, row_of, BelowEntries, Listing, Allowed, listed_from, allowed_list};
 
 use junction_proposals::lists::JunctionLists;
 use junction_proposals::proposals::{Candidate, MAX_PROPOSALS};
@@ -49,7 +49,8 @@ fn share_port(lists: &JunctionLists, taken: Candidate, other: Candidate) -> bool
 
 // Whether a proposal that was taken keeps another from being taken.
 fn conflicts(lists: &JunctionLists, taken: Candidate, other: Candidate) -> bool
-    requires { lists.now.count ≤ max_entries }
+    requires small { lists.now.count ≤ max_entries }
+    requires boundaries { (taken.index < max_entries) × (other.index < max_entries) }
     ensures { result ≡ conflict_at lists.now.full.now lists.now.count (form taken) (form other) }
 {
     let own = reserves(lists.full, other, taken.index as usize);
@@ -60,7 +61,8 @@ fn conflicts(lists: &JunctionLists, taken: Candidate, other: Candidate) -> bool
 
 // Whether a row of the list was taken and conflicts with a proposal.
 fn blocks(lists: &JunctionLists, row: RankedRow, candidate: Candidate) -> bool
-    requires { lists.now.count ≤ max_entries }
+    requires small { lists.now.count ≤ max_entries }
+    requires boundaries { (row.candidate.index < max_entries) × (candidate.index < max_entries) }
     ensures { result ≡ blocks_at lists.now.full.now lists.now.count candidate row }
 {
     row.taken == 1 && conflicts(lists, row.candidate, candidate)
@@ -70,6 +72,7 @@ fn blocks(lists: &JunctionLists, row: RankedRow, candidate: Candidate) -> bool
 fn refused_by(lists: &JunctionLists, listed: &[RankedRow], candidate: Candidate) -> Option<u16>
     requires small { lists.now.count ≤ max_entries }
     requires few { length listed.now ≤ max_proposals }
+    requires boundaries { BelowEntries listed.now × (candidate.index < max_entries) }
     ensures first { FirstIn (λ r. blocks_at lists.now.full.now lists.now.count candidate (row_of listed.now r)) 0 (length listed.now) result }
 {
     listed
@@ -82,6 +85,7 @@ fn refused_by(lists: &JunctionLists, listed: &[RankedRow], candidate: Candidate)
 fn list_in_order(found: &FoundRows, order: &[u32], listed: &mut [RankedRow])
     requires listing { Listing found.now.lists.now.count (length order.now) (length listed.old) }
     requires rows { Rows order.now (length order.now) (length found.now.rows.now) }
+    requires below { (k : ℕ) → k < length found.now.rows.now → (row_at found.now.rows.now k).index < found.now.lists.now.count }
     ensures list { map listed_form (take (length order.now) listed.new) ≡ listed_from found.now.lists.now.full.now found.now.lists.now.count
         (order_of found.now.rows.now order.now (length order.now)) }
     ensures numbers { row_numbers (take (length order.now) listed.new) ≡ flat_ranked (listed_from found.now.lists.now.full.now found.now.lists.now.count

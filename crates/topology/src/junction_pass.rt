@@ -15,7 +15,7 @@ use junction_selection::selection::select_proposals;
 // What stands where no row was put.
 pub(crate) const NO_ROW: Candidate = Candidate {
     index: 0,
-    kind: Kind::Union,
+    kind: Kind::UNION,
     first: 0,
     second: 0,
 };
