@@ -2,9 +2,7 @@
 ghost use Rattle.std.specs.Prelude.{◌≡◌};
 ghost use Rattle.refusals.specs.Refusals.{refusal_in};
 ghost use Rattle.areas.specs.Contract.{early_refusal};
-ghost use Rattle.areas.specs.Lists.{of_lengths};
 
-use crate::lists::PartitionLists;
 use checks::sizes::{cells_fit, is_whole, partition_has_room, sides_fit};
 use checks::spans::spans_fault;
 use definitions::limits::NUMBERS_PER_SPAN;
@@ -16,22 +14,18 @@ pub fn checks_before(
     height: u64,
     cells: &[u8],
     spans: &[u64],
-    lists: &PartitionLists,
+    labels: usize,
+    masks: usize,
+    queue: usize,
+    tallies: usize,
 ) -> Result<(), Refusal>
-    ensures { refusal_in result ≡ of_lengths (early_refusal width height cells.now spans.now) lists.now }
+    ensures { refusal_in result ≡ early_refusal width height cells.now spans.now labels masks queue tallies }
 {
     ensure(sides_fit(width, height), Cause::Sides)?;
     ensure(cells_fit(width, height, cells), Cause::Cells)?;
     ensure(is_whole(NUMBERS_PER_SPAN, spans.len()), Cause::Entries)?;
     spans_fault(width, height, spans)?;
     let count = spans.len() / NUMBERS_PER_SPAN;
-    let room = partition_has_room(
-        cells.len(),
-        count,
-        lists.labels.len(),
-        lists.masks.len(),
-        lists.queue.len(),
-        lists.tallies.len(),
-    );
+    let room = partition_has_room(cells.len(), count, labels, masks, queue, tallies);
     ensure(room, Cause::Room)
 }

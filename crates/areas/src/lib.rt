@@ -55,7 +55,16 @@ pub fn partition(
     ensures ran { of_lists (Ran (of_lists (given width height cells.now spans.now) lists.old) result) lists.new }
     ensures same { SameLists lists.old lists.new }
 {
-    checks_before(width, height, cells, spans, &*lists)?;
+    checks_before(
+        width,
+        height,
+        cells,
+        spans,
+        lists.labels.len(),
+        lists.masks.len(),
+        lists.queue.len(),
+        lists.tallies.len(),
+    )?;
     let grid = TerrainGrid {
         width: width as usize,
         height: height as usize,

@@ -136,13 +136,16 @@ pub fn check_lists(asked: Asked, lists: &PartitionLists, output: usize) -> Resul
 pub fn checks_before(
     pass: u64,
     asked: Asked,
-    lists: &PartitionLists,
+    labels: usize,
+    masks: usize,
+    queue: usize,
+    tallies: usize,
     output: usize,
 ) -> Result<Pass, Refusal>
-    ensures refused { refusal_in result ≡ of_lengths (of_asked (early_refusal pass) asked.entry) lists.now output }
+    ensures refused { refusal_in result ≡ of_asked (early_refusal pass) asked.entry labels masks queue tallies output }
     ensures named { IfOk result (λ p. pass_number p ≡ pass) }
 {
     let pass = check_sizes(pass, asked)?;
-    check_lists(asked, lists, output)?;
+    check_entries_and_room(asked, labels, masks, queue, tallies, output)?;
     Ok(pass)
 }

@@ -104,7 +104,15 @@ pub fn prepare(
     ensures prepared { of_lists (of_lists (of_asked (PassPreparedAs pass) asked.entry room output) lists.old result) lists.new }
     ensures same { SameLists lists.old lists.new }
 {
-    let pass = checks_before(pass, asked, &*lists, output)?;
+    let pass = checks_before(
+        pass,
+        asked,
+        lists.labels.len(),
+        lists.masks.len(),
+        lists.queue.len(),
+        lists.tallies.len(),
+        output,
+    )?;
     let ready = divide(asked.grid(), asked.spans, room, lists)?;
     Ok((pass, ready))
 }

@@ -42,9 +42,9 @@ pub returns : goal.returns
 unfolding early_refusal
 returns c =
     let a = c.args in
-    let e : refusal_in c.ensure-4.result ≡ refusal 10 (unless (partition_room (length a.cells.now) (length a.spans.now / numbers_per_span) (length a.lists.now.labels.now) (length a.lists.now.masks.now) (length a.lists.now.queue.now) (length a.lists.now.tallies.now))) = sym (ensured 10 c.partition_has_room-room.ensures c.ensure-4.ensures) in
+    let e : refusal_in c.ensure-4.result ≡ refusal 10 (unless (partition_room (length a.cells.now) (length a.spans.now / numbers_per_span) a.labels a.masks a.queue a.tallies)) = sym (ensured 10 c.partition_has_room-room.ensures c.ensure-4.ensures) in
     next (ensured 1 c.sides_fit.ensures c.in_ok-ensure.ensures)
     (next (ensured 2 c.cells_fit.ensures c.in_ok-ensure-2.ensures)
     (next (ensured 3 c.is_whole.ensures c.in_ok-ensure-3.ensures)
     (next (sym c.in_ok-spans_fault.ensures)
-    (room-counted (length a.cells.now) (a.width * a.height) (length a.spans.now / numbers_per_span) (length a.lists.now.labels.now) (length a.lists.now.masks.now) (length a.lists.now.queue.now) (length a.lists.now.tallies.now) c.cells_fit.ensures c.in_ok-ensure-2.ensures e))))
+    (room-counted (length a.cells.now) (a.width * a.height) (length a.spans.now / numbers_per_span) a.labels a.masks a.queue a.tallies c.cells_fit.ensures c.in_ok-ensure-2.ensures e))))

@@ -13,18 +13,18 @@ returns-in_err-pass-clause-refused c =
     let r : refusal_in c.from_residual.result ≡ Some (refusal_of c.in_err-pass.field-0.0) = search rules in
     r ∙ here _ (sym c.in_err-pass.ensures.refused)
 
-pub check_lists-requires-clause-sides : goal.check_lists-requires-clause-sides
-check_lists-requires-clause-sides c = let s = sizes-fit c.args.pass (sym c.in_ok-pass.ensures.refused) in (s.narrow, s.short)
+pub check_entries_and_room-requires-clause-sides : goal.check_entries_and_room-requires-clause-sides
+check_entries_and_room-requires-clause-sides c = let s = sizes-fit c.args.pass (sym c.in_ok-pass.ensures.refused) in (s.narrow, s.short)
 
-pub check_lists-requires-clause-counted : goal.check_lists-requires-clause-counted
-check_lists-requires-clause-counted c = (sizes-fit c.args.pass (sym c.in_ok-pass.ensures.refused)).counted
+pub check_entries_and_room-requires-clause-counted : goal.check_entries_and_room-requires-clause-counted
+check_entries_and_room-requires-clause-counted c = (sizes-fit c.args.pass (sym c.in_ok-pass.ensures.refused)).counted
 
-pub returns-in_err-check_lists-clause-refused : goal.returns-in_err-check_lists-clause-refused
+pub returns-in_err-check_entries_and_room-clause-refused : goal.returns-in_err-check_entries_and_room-clause-refused
 unfolding early_refusal
-returns-in_err-check_lists-clause-refused c =
-    let r : refusal_in c.from_residual-in_err-check_lists.result ≡ Some (refusal_of c.in_err-check_lists.field-0.0) = search rules in
-    r ∙ next (sym c.in_ok-pass.ensures.refused) c.in_err-check_lists.ensures
+returns-in_err-check_entries_and_room-clause-refused c =
+    let r : refusal_in c.from_residual-in_err-check_entries_and_room.result ≡ Some (refusal_of c.in_err-check_entries_and_room.field-0.0) = search rules in
+    r ∙ next (sym c.in_ok-pass.ensures.refused) c.in_err-check_entries_and_room.ensures
 
 pub returns-clause-refused : goal.returns-clause-refused
 unfolding early_refusal
-returns-clause-refused c = next (sym c.in_ok-pass.ensures.refused) c.in_ok-check_lists.ensures
+returns-clause-refused c = next (sym c.in_ok-pass.ensures.refused) c.in_ok-check_entries_and_room.ensures
