@@ -1,9 +1,10 @@
 // The call that gives the ranked junction list, over the lent slice of region records.
-ghost use Rattle.std.specs.Prelude.{◌*◌, ◌/◌, ◌≤◌, length};
-ghost use Rattle.definitions.specs.Limits.{numbers_per_span};
+ghost use Rattle.std.specs.Prelude.{◌≡◌, ◌*◌, ◌/◌, ◌≤◌, ℕ, List, length};
+ghost use Rattle.definitions.specs.Limits.{max_entries, numbers_per_span};
 ghost use Rattle.definitions.specs.Grid.{Map};
 ghost use Rattle.definitions.specs.Context.{Context};
 ghost use Rattle.junction_proposals.specs.Rows.{max_proposals};
+ghost use Rattle.pass_lists.specs.Contract.{ShowsMap, Viewed};
 ghost use Rattle.ranked_finish.specs.Ends.{ranked_of};
 ghost use Rattle.topology.specs.Proposals.{PassesIn, Unmarked};
 ghost use Rattle.topology.specs.Mouths.{NoMarks};
@@ -19,6 +20,7 @@ use areas::lists::PartitionLists;
 use call_partition::asked::Asked;
 use call_partition::{Ready, prepare_lists};
 use context::Region;
+use context::pairs::Pair;
 use definitions::limits::{MAX_ENTRIES, NUMBERS_PER_BOUNDARY, NUMBERS_PER_SPAN};
 use junction_proposals::lists::JunctionLists;
 use junction_proposals::proposals::MAX_PROPOSALS;
@@ -57,6 +59,24 @@ pub fn rank_junctions(
     };
     select_proposals(&found, &allowed, removed);
     list_ranked(&found, &allowed, listed)
+}
+
+// Views the partitioned map; where the rows of each boundary stand in the pairs, no pass 3 reads.
+// Never put into its caller: these places, 2 KiB, would stand on the stack beside the rows of the list.
+#[inline(never)]
+fn view_full(
+    partition: SpanPartition,
+    masks: &mut [u16],
+    queue: &mut [u32],
+    full: &mut [Option<Pair>; MAX_ENTRIES],
+)
+    requires partitioned { (M : Map) × ShowsMap M partition (length masks.old) (length queue.old) }
+    requires room { length full.old ≡ max_entries }
+    ensures { (M : Map) → ShowsMap M partition.entry (length masks.old) (length queue.old)
+        → (starts : List ℕ) × Viewed M partition.entry.needed partition.entry.pairs.now masks.old queue.old masks.new queue.new starts full.new }
+{
+    let mut starts = [0; MAX_ENTRIES + 1];
+    view(partition, masks, queue, &mut starts, full);
 }
 
 // Views the partitioned map, marks what pass 3 removes and lists its proposals, where there are as many boundaries as spans; gives how many proposals there
@@ -102,9 +122,8 @@ pub fn mark_ranked(
         tallies,
         pairs,
     };
-    let mut starts = [0usize; MAX_ENTRIES + 1];
     let mut full = [None; MAX_ENTRIES];
-    view(partition, masks, queue, &mut starts, &mut full);
+    view_full(partition, masks, queue, &mut full);
     let lists = JunctionLists {
         boundaries,
         full: &full,

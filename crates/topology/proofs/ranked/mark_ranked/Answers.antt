@@ -1,4 +1,4 @@
--- Where the boundaries are not as many as the count says, nothing is marked or listed, and nothing is asked to be. Else `view` leaves the anchored regions and
+-- Where the boundaries are not as many as the count says, nothing is marked or listed, and nothing is asked to be. Else `view_full` leaves the anchored regions and
 -- the incidents in masks and queue, which pass 3 reads, as `RankedMarking` has it.
 use Rattle.std.proofs.Common.{arith}
 use Rattle.topology.proofs.RankedMarking.{unranked-lent, unmarked_here, lent-passes, ranked-lent}
@@ -12,12 +12,12 @@ overflow_mul-partition c =
     let p = c.requires.map_shown.1.partitioned in
     record { fits = omega (arith, p.cells, p.labels_long) }
 
-pub view-requires-clause-partitioned : goal.view-requires-clause-partitioned
-view-requires-clause-partitioned c = (_, c.requires.map_shown.1.partitioned)
+pub view_full-requires-clause-partitioned : goal.view_full-requires-clause-partitioned
+view_full-requires-clause-partitioned c = (_, c.requires.map_shown.1.partitioned)
 
 pub rank_junctions-requires-clause-lists_show : goal.rank_junctions-requires-clause-lists_show
 rank_junctions-requires-clause-lists_show c =
-    let L = c.requires.map_shown.1 in (_, lent-passes _ L c.if-boundaries-count.false (c.view.ensures _ L.partitioned))
+    let L = c.requires.map_shown.1 in (_, lent-passes _ L c.if-boundaries-count.false (c.view_full.ensures _ L.partitioned).1)
 
 pub rank_junctions-requires-clause-before_ranking : goal.rank_junctions-requires-clause-before_ranking
 rank_junctions-requires-clause-before_ranking c =
@@ -26,5 +26,5 @@ rank_junctions-requires-clause-before_ranking c =
 pub returns : goal.returns
 returns c = λ M L.
     let same = c.if-boundaries-count.false in
-    let shown = c.view.ensures M L.partitioned in
+    let shown = (c.view_full.ensures M L.partitioned).1 in
     ranked-lent M L same shown (c.rank_junctions.ensures _ (lent-passes M L same shown))
