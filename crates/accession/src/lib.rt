@@ -4,7 +4,7 @@
 
 mod held;
 pub mod line;
-mod records;
+pub mod records;
 pub mod rules;
 
 ghost use Rattle.std.specs.Prelude.{◌≡◌, length};

@@ -2,7 +2,7 @@
 
 #![tactic(auto)]
 
-mod ascending_rows;
+pub mod ascending_rows;
 
 ghost use Rattle.std.specs.Prelude.{◌≡◌, [], ◌∷◌, ◌+◌, ◌-◌, ◌*◌, ◌≤◌, ◌<◌, length};
 ghost use Rattle.definitions.specs.Grid.{at};

@@ -71,28 +71,20 @@ pub fn check_entries(asked: Asked) -> Result<(), Refusal>
     no_fault(elevations_fault(asked.cells), Cause::Elevation)
 }
 
-// Check 10, of lists of these lengths and an output of this one.
-fn check_room(
-    asked: Asked,
+// Check 10, of so many cells, spans and boundaries, and of lists and an output of these lengths.
+pub fn check_room(
+    cells: usize,
+    spans: usize,
+    boundaries: usize,
     labels: usize,
     masks: usize,
     queue: usize,
     tallies: usize,
     output: usize,
 ) -> Result<(), Refusal>
-    ensures { refusal_in result ≡ refusal 10 (unless (
-        partition_room (length asked.entry.cells.now) (length asked.entry.spans.now / numbers_per_span) labels masks queue tallies
-        && output_room (length asked.entry.boundaries.now / numbers_per_boundary) output)) }
+    ensures { refusal_in result ≡ refusal 10 (unless (partition_room cells spans labels masks queue tallies && output_room boundaries output)) }
 {
-    let partition = partition_has_room(
-        asked.cells.len(),
-        asked.spans.len() / NUMBERS_PER_SPAN,
-        labels,
-        masks,
-        queue,
-        tallies,
-    );
-    let boundaries = asked.boundaries.len() / NUMBERS_PER_BOUNDARY;
+    let partition = partition_has_room(cells, spans, labels, masks, queue, tallies);
     ensure(
         partition && output_has_room(boundaries, output),
         Cause::Room,
@@ -113,7 +105,16 @@ pub fn check_entries_and_room(
     ensures { refusal_in result ≡ of_asked lists_refusal asked.entry labels masks queue tallies output }
 {
     check_entries(asked)?;
-    check_room(asked, labels, masks, queue, tallies, output)
+    check_room(
+        asked.cells.len(),
+        asked.spans.len() / NUMBERS_PER_SPAN,
+        asked.boundaries.len() / NUMBERS_PER_BOUNDARY,
+        labels,
+        masks,
+        queue,
+        tallies,
+        output,
+    )
 }
 
 // The same of lists that are lent together.
@@ -132,7 +133,7 @@ pub fn check_lists(asked: Asked, lists: &PartitionLists, output: usize) -> Resul
     )
 }
 
-// All of them, and the pass of the number that is asked for.
+// Checks 1 to 10, and the pass of the number that is asked for.
 pub fn checks_before(
     pass: u64,
     asked: Asked,

@@ -8,7 +8,7 @@ pub mod incidents;
 pub mod pairs;
 pub mod records;
 pub mod region_marks;
-mod runs;
+pub mod runs;
 
 use definitions::limits::MAX_ENTRIES;
 

@@ -3,7 +3,7 @@
 #![tactic(auto)]
 
 pub mod cell;
-mod extents;
+pub mod extents;
 pub mod walk;
 
 ghost use Rattle.std.specs.Prelude.{◌≡◌, ℕ, ◌*◌, ◌≤◌, ◌<◌, length, get_or};

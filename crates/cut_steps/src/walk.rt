@@ -217,15 +217,15 @@ fn walk_between<V: StepVisitor, const COLUMNS: bool>(
 
 // The columns, or rows, near a span: from `first` on before `end`. Those from `from` on before `to` are between its ends, with those beside them.
 #[derive(Clone, Copy)]
-struct Parts {
-    first: usize,
-    from: usize,
-    to: usize,
-    end: usize,
+pub struct Parts {
+    pub first: usize,
+    pub from: usize,
+    pub to: usize,
+    pub end: usize,
 }
 
 // The parts of a map with as many columns, or rows, as limit says.
-fn parts_of(strip: Strip, limit: usize) -> Parts
+pub fn parts_of(strip: Strip, limit: usize) -> Parts
     requires { Usable strip × (0 < limit) × (limit ≤ max_side) }
     ensures { Parted strip limit result.first result.from result.to result.end }
 {
@@ -245,7 +245,7 @@ fn parts_of(strip: Strip, limit: usize) -> Parts
 }
 
 // The end of the part that begins at k: that of the columns, or rows, between the ends, and elsewhere the next one.
-fn part_end(parts: Parts, k: usize) -> usize
+pub fn part_end(parts: Parts, k: usize) -> usize
     requires { k < max_side }
     ensures { EndsPart parts.from parts.to k result }
 {

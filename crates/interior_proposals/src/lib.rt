@@ -2,10 +2,10 @@
 
 #![tactic(auto)]
 
-mod candidates;
+pub mod candidates;
 pub mod components;
 pub mod fits;
-mod leaves;
+pub mod leaves;
 pub mod owners;
 pub mod ports;
 pub mod proposals;

@@ -2,8 +2,8 @@
 
 #![tactic(auto)]
 
-mod bridges;
-mod distances;
+pub mod bridges;
+pub mod distances;
 pub mod lists;
 pub mod ports;
 pub mod proposals;

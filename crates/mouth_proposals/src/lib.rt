@@ -2,10 +2,10 @@
 
 #![tactic(auto)]
 
-mod approaches;
+pub mod approaches;
 pub mod candidates;
-mod ends;
-mod measures;
+pub mod ends;
+pub mod measures;
 pub mod mouths;
 pub mod regions;
-mod shapes;
+pub mod shapes;

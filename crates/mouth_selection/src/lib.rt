@@ -3,6 +3,6 @@
 #![tactic(auto)]
 
 pub mod bests;
-mod held;
+pub mod held;
 pub mod keys;
 pub mod taken;

@@ -9,7 +9,8 @@ ghost use Rattle.junction_proposals.specs.Bridges.{FirstIn};
 ghost use Rattle.junction_proposals.specs.Rows.{max_proposals, form, row_at};
 ghost use Rattle.junction_selection.specs.Ranks.{reserves_at, conflict_at, order_of, Rows};
 ghost use Rattle.ranked_list.specs.RankedList.{flat_ranked};
-ghost use Rattle.ranked_rows.specs.Contract.{listed_form, judged_row, row_numbers, blocks_at, row_of, BelowEntries, Listing, Allowed, listed_from, allowed_list};
+ghost use Rattle.ranked_rows.specs.Contract.{listed_form, judged_row, row_numbers, blocks_at, row_of, BelowEntries, Listing, Allowed};
+ghost use Rattle.ranked_rows.specs.Contract.{listed_from, allowed_list};
 
 use junction_proposals::lists::JunctionLists;
 use junction_proposals::proposals::{Candidate, MAX_PROPOSALS};

@@ -14,7 +14,7 @@ pub struct Turn {
     pub rounds: u64,
 }
 
-// Behind the pass that ran last, which removed some, or none; `last` is none where no pass has run yet.
+// Behind the pass that ran last, which removed some, or not; `last` is `None` where no pass has run yet.
 pub fn next_turn(last: Option<Pass>, quiet: u64, rounds: u64, removed: bool) -> Turn
     requires { (quiet ≤ 3) × (rounds ≤ 257) }
     ensures { turn_of result ≡ turn_after (record { pass = last_number last; quiet = quiet; rounds = rounds }) removed }

@@ -3,14 +3,14 @@
 
 #![tactic(auto)]
 
-mod cells;
-mod corners;
-mod grid;
-mod numbering;
-mod row;
-mod run;
-mod south;
-mod words;
+pub mod cells;
+pub mod corners;
+pub mod grid;
+pub mod numbering;
+pub mod row;
+pub mod run;
+pub mod south;
+pub mod words;
 
 ghost use Rattle.definitions.specs.Grid.{Map};
 ghost use Rattle.row_runs.specs.Contract.{Room, OnwardCut, Labelled};

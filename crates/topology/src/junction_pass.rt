@@ -44,7 +44,7 @@ pub fn allow_proposals(
 }
 
 // The proposals of pass 3, as rows, and which of them the records of their regions allow; gives how many rows there are.
-pub(crate) fn allowed_proposals(
+pub fn allowed_proposals(
     records: &[Region],
     lists: &JunctionLists,
     rows: &mut [Candidate],

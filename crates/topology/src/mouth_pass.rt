@@ -82,7 +82,7 @@ fn better_near(
 }
 
 // The least of the entries that conflict with none taken and have their inner regions near, the first of level ones.
-fn best_near(
+pub fn best_near(
     records: &[Region],
     context: PartitionContext,
     taken: &Taken,
