@@ -32,7 +32,7 @@ use rest_lists::kept::{KeptLists, Standing, divide_again, finish_rest};
 use rest_lists::turns::first_turn;
 
 // Marks which of the kept boundaries the pass removes. The lists are the partition of what is kept.
-fn mark_kept<'x>(
+pub fn mark_kept<'x>(
     pass: Pass,
     records: &[Region],
     grid: TerrainGrid<'x>,

@@ -1,5 +1,5 @@
--- `ranked_finish::finish_ranked` meets its contract: the test says which of the two ends it is, and the rows that are written are all that were listed. Written so
--- that a wrong body is refused sooner. Assumes nothing.
+-- `ranked_finish::finish_ranked` meets its contract: the test says which of the two ends it is, and the rows that are written are all that were listed.
+-- Written so that a wrong body is refused sooner. Assumes nothing.
 use Rattle.std.proofs.Common.{arith, refl, sym, ap, ◌∙◌}
 use Rattle.std.proofs.lemmas.Grind.{common_steps}
 use Rattle.definitions.specs.Lists.{overwrite}
