@@ -1,8 +1,9 @@
 // The order in which proposals are taken.
-ghost use Rattle.std.specs.Prelude.{◌≡◌};
+ghost use Rattle.std.specs.Prelude.{◌≡◌, ◌*◌, ◌+◌, ◌<◌, length};
 ghost use Rattle.laws.specs.ListLaws.Options.{OnO};
+ghost use Rattle.definitions.specs.Limits.{numbers_per_boundary};
 ghost use Rattle.definitions.specs.Sort.{list_lt};
-ghost use Rattle.mouth_selection.specs.Keys.{SafeKey, numbers_of, key_of, is_better, better_of};
+ghost use Rattle.mouth_selection.specs.Keys.{SafeKey, numbers_of, key_at, is_better, better_of};
 
 use geometry::Segment;
 use geometry::boundaries::segment_of;
@@ -18,28 +19,37 @@ struct RankKey {
 }
 
 impl RankKey {
-    fn of(boundaries: &[u64], entry: Candidate) -> Self
-        requires { SafeKey boundaries.now entry }
-        ensures { numbers_of result ≡ key_of boundaries.now entry }
+    fn of(boundaries: &[u64], separation: u64, m: usize, a: usize) -> Self
+        requires { (numbers_per_boundary * m + 8 < length boundaries.now) × (numbers_per_boundary * a + 8 < length boundaries.now) }
+        ensures { numbers_of result ≡ key_at boundaries.now separation m a }
     {
         Self {
-            separation: entry.separation,
-            mouth: canonical(segment_of(boundaries, entry.mouth as usize)),
-            ramp: canonical(segment_of(boundaries, entry.ramp as usize)),
+            separation,
+            mouth: canonical(segment_of(boundaries, m)),
+            ramp: canonical(segment_of(boundaries, a)),
         }
     }
 }
 
-// Whether an entry ranks before another.
-fn ranks_before(boundaries: &[u64], entry: Candidate, other: Candidate) -> bool
-    requires { SafeKey boundaries.now entry × SafeKey boundaries.now other }
-    ensures { result ≡ list_lt (key_of boundaries.now entry) (key_of boundaries.now other) }
+// Whether the proposal of separation `left`, mouth m and ramp a ranks before that of `right`, k and b.
+pub fn ranks_before(
+    boundaries: &[u64],
+    left: u64,
+    m: usize,
+    a: usize,
+    right: u64,
+    k: usize,
+    b: usize,
+) -> bool
+    requires first_boundaries { (numbers_per_boundary * m + 8 < length boundaries.now) × (numbers_per_boundary * a + 8 < length boundaries.now) }
+    requires second_boundaries { (numbers_per_boundary * k + 8 < length boundaries.now) × (numbers_per_boundary * b + 8 < length boundaries.now) }
+    ensures { result ≡ list_lt (key_at boundaries.now left m a) (key_at boundaries.now right k b) }
 {
     // Most separations differ, and then no endpoint is read.
-    if entry.separation != other.separation {
-        return entry.separation < other.separation;
+    if left != right {
+        return left < right;
     }
-    RankKey::of(boundaries, entry) < RankKey::of(boundaries, other)
+    RankKey::of(boundaries, left, m, a) < RankKey::of(boundaries, right, k, b)
 }
 
 // Whether an entry ranks before the best so far, or there is none.
@@ -47,7 +57,11 @@ pub fn is_better(boundaries: &[u64], entry: Candidate, best: Option<Candidate>) 
     requires { SafeKey boundaries.now entry × OnO (SafeKey boundaries.now) best }
     ensures { result ≡ is_better boundaries.now entry best }
 {
-    best.is_none_or(|other| ranks_before(boundaries, entry, other))
+    best.is_none_or(|other| {
+        let (m, a) = (entry.mouth as usize, entry.ramp as usize);
+        let (k, b) = (other.mouth as usize, other.ramp as usize);
+        ranks_before(boundaries, entry.separation, m, a, other.separation, k, b)
+    })
 }
 
 // The better of two, of level ones the earlier.

@@ -4,7 +4,7 @@ use Rattle.std.proofs.lemmas.Grind.{common_steps}
 use borrow.Author.Tests.{ne_eqb}
 use lib.Dec.{ltb}
 use Rattle.definitions.specs.Sort.{list_lt}
-use Rattle.mouth_selection.specs.Keys.{key_at}
+use Rattle.mouth_selection.specs.Keys.{numbers_of, key_at}
 use Rattle.mouth_selection.proofs.keys.ranks_before.Goals as goal
 
 -- lists whose first numbers differ compare by these
@@ -16,10 +16,13 @@ first_differ x y l m h = sym (ap (λ b. ltb x y || (b && list_lt l m)) (ne_eqb x
     go true = refl
     go false = refl
 
-pub returns-then-entry-other : goal.returns-then-entry-other
+pub returns-then-left-right : goal.returns-then-left-right
 unfolding key_at
-returns-then-entry-other c = first_differ c.args.entry.separation c.args.other.separation _ _ c.if-entry-other.true
+returns-then-left-right c = first_differ c.args.left c.args.right _ _ c.if-left-right.true
 
 pub returns : goal.returns
 unfolding list_lt
-returns c = rw (← c.of.ensures, ← c.of-2.ensures) (grind (arith, common_steps))
+returns c =
+    let s = c.args in
+    let left : numbers_of c.of.result ≡ key_at s.boundaries.now s.left s.m s.a = c.of.ensures ∙ ap (λ m. key_at s.boundaries.now s.left m s.a) (omega arith) in
+    rw (← left, ← c.of-2.ensures) (grind (arith, common_steps))
