@@ -49,12 +49,12 @@ impl<'a> KeptLists<'a> {
         self.spans
     }
 
-    // The first `count` boundaries.
+    // The first `count` boundaries; all that is held, where that is less.
     pub fn front(&self, count: usize) -> &[u64]
-        requires { numbers_per_boundary * count ≤ length self.now.boundaries.now }
         ensures { result.now ≡ take (numbers_per_boundary * count) self.now.boundaries.now }
     {
-        &self.boundaries[..NUMBERS_PER_BOUNDARY * count]
+        let end = NUMBERS_PER_BOUNDARY.saturating_mul(count);
+        &self.boundaries[..end.min(self.boundaries.len())]
     }
 
     // Moves what is not marked to the front of the three lists, and gives how many are left.
@@ -121,4 +121,27 @@ pub fn finish_rest(
 {
     clear_scratch(masks, queue, needed);
     put_rows(kept.numbers, kept.spans, count, output);
+}
+
+#[cfg(test)]
+mod tests {
+    use super::*;
+
+    // As many as are asked for, and all that are held where these are fewer.
+    #[test]
+    fn fronts(rt: HostRuntime) {
+        let mut numbers = [0, 1];
+        let mut spans = [1, 2, 3, 4, 5, 6, 7, 8];
+        let mut boundaries = [1, 2, 3, 4, 0, 0, 0, 0, 0, 5, 6, 7, 8, 0, 0, 0, 0, 0];
+        let kept = KeptLists {
+            numbers: &mut numbers,
+            spans: &mut spans,
+            boundaries: &mut boundaries,
+        };
+        assert_eq!(rt; kept.front(0).len(), 0);
+        assert_eq!(rt; kept.front(1), [1, 2, 3, 4, 0, 0, 0, 0, 0].as_slice());
+        assert_eq!(rt; kept.front(2).len(), 18);
+        assert_eq!(rt; kept.front(256).len(), 18);
+        assert_eq!(rt; kept.front(usize::MAX).len(), 18);
+    }
 }

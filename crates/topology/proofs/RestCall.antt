@@ -39,7 +39,9 @@ use Rattle.topology.specs.Filled.{Fills, Filled}
 use Rattle.call_answers.specs.Rest.{rest_answer_of}
 use Rattle.topology.specs.Rest.{RestRanOver, Stands, RanToRest, RunLists, run-lists}
 use Rattle.topology.specs.Lent.{lends, leaves}
+use Rattle.definitions.specs.Limits.{max_entries}
 use Rattle.topology.proofs.Calling.{ready_fills}
+use Rattle.topology.proofs.Resting.{kept-few}
 
 -- ---- before the first pass
 
@@ -116,10 +118,10 @@ module _ {w h : ℕ} {cells anchors : List ℕ} {O : Origin} {s : List Region} {
   pub rest-scratch : (h * w ≤ length m) × (h * w ≤ length q)
   rest-scratch = (masks-fit R.stands.lists, queue-fit R.stands.lists)
 
-  pub rest-room : (a.kept ≤ length n) × (4 * a.kept ≤ length b) × (5 * a.kept ≤ length O.output)
+  pub rest-room : (a.kept ≤ max_entries) × (a.kept ≤ length n) × (4 * a.kept ≤ length b) × (5 * a.kept ≤ length O.output)
   rest-room =
       let K = R.stands.lists in
-      (omega (arith, R.value, numbers_fit K), omega (arith, R.value, ends-fit K), omega (arith, R.value, output-fits K))
+      (omega (arith, R.value, kept-few R.stands), omega (arith, R.value, numbers_fit K), omega (arith, R.value, ends-fit K), omega (arith, R.value, output-fits K))
 
   pub rest_over : {m' q' o' : List ℕ} → m' ≡ zeroed (h * w) m → q' ≡ zeroed (h * w) q → o' ≡ overwrite (flat_rows (rows_at n b a.kept)) O.output
       → RestRanOver (lends w h cells O.spans O.boundaries anchors O.labels O.masks O.queue O.tallies O.pairs s O.output) (rest_answer_of (Ok a)) (leaves l m' q' t p rs o')

@@ -50,7 +50,8 @@ finish_rest-requires-clause-room c =
     let x = grid_in c.args.asked in
     let fills = fills-on x c.grid-grid.ensures (begun_fills begun size.queue_long_lem) in
     let T = stands_first begun c.args.output.now refl refl (c.fill_from_lists.ensures _ fills) c.fill_from_lists.auto.records size.labels_long size.masks_long size.queue_long_lem size.tallies_long size.pairs_long in
-    rest-room (rests-on x c.grid-grid.ensures (c.run_turns-rest.ensures.rests _ _ (stands-on x c.grid-grid.ensures T)))
+    let room = rest-room (rests-on x c.grid-grid.ensures (c.run_turns-rest.ensures.rests _ _ (stands-on x c.grid-grid.ensures T))) in
+    (room.1, room.2, room.3)
 
 pub returns-clause-rests : goal.returns-clause-rests
 returns-clause-rests c =
